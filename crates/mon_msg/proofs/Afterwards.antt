@@ -10,7 +10,7 @@ use Rattle.mon_tx.specs.Decision.{Cell, Decision, decision, or_before}
 use Rattle.mon_tx.proofs.After.{get-apply}
 use Rattle.mon_msg.specs.Protocol.Readings.{number_after}
 
--- the value of the cell that changes leave
+-- the value of the cell after changes
 pub told : {A : Type 0} (tell : Cell → A) (d : Decision) (c : Cell) → tell (or_before d c) ≡ option_map_or tell d (tell c)
 told tell None c = refl
 told tell (Some x) c = refl

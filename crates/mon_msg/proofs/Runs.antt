@@ -1,4 +1,4 @@
--- A list that is taken item by item as far as a message has room is the longest beginning that the message takes.
+-- Taking items of a list one by one while a message has room gives the longest prefix that the message takes.
 use Rattle.std.proofs.Common.{◌≡◌, ◌≢◌, ℕ, zero, suc, ◌+◌, ◌-◌, ◌≤◌, ◌<◌, Bool, true, false, ◌&&◌, cond, leb, List, [], ◌∷◌, ◌++◌, length, take, Option, Some, None, refl, sym, ap, ◌∙◌, ◌⊎◌, inl, inr, arith, append_assoc, length-append}
 use Rattle.std.specs.Prelude.{sum_by}
 use Rattle.std.proofs.lemmas.Bool.{le-leb, lt-leb, leb-true, leb-false}
@@ -8,7 +8,7 @@ use Rattle.mon_tx.specs.Decision.{Cell}
 use Rattle.mon_tx.specs.declared.op.Op.{Op}
 use Rattle.mon_msg.specs.Protocol.Records.{record_at, run_of, run_from, longest_onto, longest, IsLongest}
 
--- ---- the longest beginning
+-- ---- the longest prefix
 
 pass_on : {A : Type 0} (test : List A → Bool) (done : List A) (x : A) → ((k : ℕ) → k < length done → test (take (suc k) done) ≡ true)
     → test (done ++ x ∷ []) ≡ true → (k : ℕ) → k < length (done ++ x ∷ []) → test (take (suc k) (done ++ x ∷ [])) ≡ true

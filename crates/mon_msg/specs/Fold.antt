@@ -27,7 +27,7 @@ abbrev pub entry : List (List ℕ) → ℕ → List ℕ
 entry log zero = []
 entry log (suc v) = get_or log v []
 
--- the map that the first versions of a log leave: each puts its record, and then makes the changes that its entry encodes
+-- the map after the first versions of a log: each puts its record, and then makes the changes that its entry encodes
 unfoldable pub fold : List (List ℕ) → ℕ → Store
 fold log zero = empty
 fold log (suc c) = apply (put area.Paxos (key.Version (suc c)) (entry log (suc c)) ∷ ops_in (entry log (suc c))) (fold log c)
@@ -45,7 +45,7 @@ unfoldable pub incrementals : Service → List (List ℕ) → ℕ → List (List
 incrementals s log zero = []
 incrementals s log (suc c) = incrementals s log c ++ put_in s (ops_in (entry log (suc c)))
 
--- the map after incrementals; bytes that are none leave it
+-- the map after incrementals; bytes that encode none change nothing
 abbrev pub stepped : Kv → Option KvInc → Kv
 stepped map None = map
 stepped map (Some inc) = with_inc map inc
@@ -54,7 +54,7 @@ abbrev pub after_all : Kv → List (List ℕ) → Kv
 after_all map [] = map
 after_all map (bytes ∷ others) = after_all (stepped map (if_ok (kv_decode.inc_of bytes))) others
 
--- the entries after incrementals; bytes that are none leave them
+-- the entries after incrementals; bytes that encode none change nothing
 abbrev pub stepped_log : List LogInc → Option LogInc → List LogInc
 stepped_log entries None = entries
 stepped_log entries (Some inc) = log.with_inc entries inc

@@ -1,5 +1,5 @@
--- A transaction names each key once. A put replaces the latest earlier put of its key after which nothing removes the key,
--- and gives it the later value; if there is none, it is added at the end.
+-- Joins the changes of a transaction. A put takes the position of the latest earlier put of its key, unless a later
+-- change removes the key. Any other change is added at the end.
 use Rattle.std.specs.Prelude.{Bool, false, not, ◌&&◌, List, [], ◌∷◌, ◌++◌, Option, Some, None, is_some, if◌then◌else◌}
 use Rattle.std.specs.List.{list_any}
 use Rattle.std.specs.Ordering.{eq_by_cmp}
@@ -20,12 +20,13 @@ takes_away at (Erase prefix key) = is_some (decided (Erase prefix key) at)
 takes_away at (ErasePrefix prefix) = is_some (decided (ErasePrefix prefix) at)
 takes_away at (EraseRange prefix from to) = is_some (decided (EraseRange prefix from to) at)
 
--- `op` before what was found further on; if nothing was found, in its place if it may be there
+-- `op` before the list found further on; if there is none, `new` in place of `op`, if it may be `here`
 abbrev pub or_here : Op → Op → List Op → Bool → Option (List Op) → Option (List Op)
 or_here new op ops here (Some found) = Some (op ∷ found)
 or_here new op ops here None = if here then Some (new ∷ ops) else None
 
--- the list with a new put of the place in the place of the latest that may be replaced
+-- the list in which a new put takes the position of the latest put of its key that may be replaced; none if there is no
+-- such put
 abbrev pub replaced : Place → Op → List Op → Option (List Op)
 replaced at new [] = None
 replaced at new (op ∷ ops) = or_here new op ops (puts at op && not (list_any (takes_away at) ops)) (replaced at new ops)

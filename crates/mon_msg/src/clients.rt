@@ -30,7 +30,7 @@ impl TryCopy for Waiting {
     }
 }
 
-/// A client of a peon that waits for the leader's answer to the command with that number.
+/// A session that waits at a peon, and the number under which the peon forwarded its command.
 #[derive(Clone, Copy, PartialEq, Eq)]
 pub struct Asked {
     pub seq: u64,
@@ -57,7 +57,7 @@ pub struct Clients {
 }
 
 impl Clients {
-    /// An equal memory.
+    /// An equal state.
     pub fn copy(&self, alloc: Global) -> Result<Clients, OutOfMemory>
         ensures { IfOk result (λ clients. clients ≡ self.now) }
     {

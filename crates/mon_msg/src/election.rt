@@ -12,7 +12,7 @@ pub struct Elector {
     pub deferred: Option<Rank>,
     /// What it knows of the connections among the monitors.
     pub scores: Scores,
-    /// From whom it heard since it last pinged.
+    /// The monitors from which it heard since it last pinged.
     pub heard: RankSet,
     /// When it last pinged, or started.
     pub pinged: Moment,
@@ -21,6 +21,6 @@ pub struct Elector {
 /// What a monitor remembers while it probes.
 #[derive(Clone, Copy, PartialEq, Eq)]
 pub struct Prober {
-    /// Itself, and who answered that it is in no quorum.
+    /// Itself, and the monitors that answered that they are in no quorum.
     pub outside: RankSet,
 }

@@ -13,8 +13,8 @@ ghost use Rattle.mon_msg.specs.Protocol.Readings.{readings_of, after};
 ghost use Rattle.mon_msg.specs.Protocol.Records.{longest, IsLongest};
 ghost use Rattle.mon_msg.specs.Protocol.Timers.{due, IsNext};
 
-/// A transaction in which each key is put once does to every map what the changes do in their order. A key that no change
-/// takes away is put at most once in it.
+/// The joined transaction has the same effect on every map as the changes in their order. It puts a key that no change
+/// takes away at most once.
 pub fn law_joined()
     ensures same { (ops : List Op) (m : Store) → apply (joined ops) m ≡ apply ops m }
     ensures once { (ops : List Op) (at : Place) → list_any (takes_away at) ops ≡ false → count_by (puts at) (joined ops) ≤ 1 }
@@ -33,14 +33,14 @@ pub fn law_changes()
         → readings_of (apply (joined (spelled cs)) m) ≡ played cs (readings_of m) }
 {}
 
-/// The timer that comes next is set, none is set for an earlier time, and no earlier kind for the same; there is none
-/// only if no timer is armed.
+/// The timer that fires next is armed. No timer is armed for an earlier time, and none of an earlier kind for the same
+/// time. Nothing fires next only if no timer is armed.
 pub fn law_due()
     ensures { (timers : List (Option ℕ)) → IsNext timers (due timers) }
 {}
 
-/// What a message takes of a log's values, of shared entries or of a service's incrementals is the longest beginning that
-/// passes its test: it passes, and the next longer one doesn't.
+/// What a message takes of a log's values, of shared entries or of a service's incrementals is a prefix. Each prefix of
+/// it but the empty one passes the message's test, and the next longer one doesn't.
 pub fn law_longest()
     ensures values { (test : List (List Op) → Bool) (all : List (List Op)) → IsLongest test all (longest test all) }
     ensures entries { (test : List Entry → Bool) (all : List Entry) → IsLongest test all (longest test all) }

@@ -14,7 +14,7 @@ pub struct Peon {
     pub lease: Lease,
 }
 
-/// What a leader is about.
+/// What a leader is doing.
 #[derive(Clone, Copy, PartialEq, Eq)]
 pub enum LeaderStage {
     /// It gathers what its quorum accepted.
@@ -23,7 +23,7 @@ pub enum LeaderStage {
     Previous,
     /// It waits for commands.
     Active,
-    /// Its own value waits for its quorum.
+    /// It waits until its quorum accepts its own value.
     Updating,
 }
 
@@ -63,9 +63,9 @@ pub struct Leader {
     pub found: Option<Found>,
     /// Who accepted its value, itself among them.
     pub accepted: RankSet,
-    /// The value that waits for its quorum.
+    /// The value that the quorum is asked to accept.
     pub value: Option<Transaction>,
-    /// Who waits for that value's answer.
+    /// Who gets an answer once that value is committed.
     pub origin: Option<Origin>,
     pub lease: Lease,
     /// Who took the lease, itself among them.
@@ -91,7 +91,7 @@ fn copied_value(value: &Option<Transaction>) -> Result<Option<Transaction>, OutO
 }
 
 impl Leader {
-    /// An equal memory.
+    /// An equal state.
     pub fn copy(&self) -> Result<Leader, OutOfMemory>
         ensures { IfOk result (λ leader. leader ≡ self.now) }
     {

@@ -16,8 +16,8 @@ pub enum Sent {
 /// What is done with a timer.
 #[derive(Clone, Copy, PartialEq, Eq)]
 pub enum Arming {
-    /// It is set for the time `end`, whenever it was to fire before. `Propose` isn't set if no command waits, and
-    /// `LeaseAck` keeps the time that it has.
+    /// It is set for the time `end`, in place of an earlier setting. There are two exceptions: `Propose` isn't set if
+    /// no command waits, and a `LeaseAck` that is armed keeps its time.
     Arm { kind: Timer, end: Moment },
     /// It is disarmed.
     Disarm { kind: Timer },
@@ -75,7 +75,7 @@ pub struct Plan<S: Drop> {
 pub enum RoleStop {
     #[error("out of memory")]
     OutOfMemory,
-    /// That number would pass 2^62.
+    /// A number of this kind would be above 2^62.
     #[error("a number is spent")]
     Spent { which: Which },
 }

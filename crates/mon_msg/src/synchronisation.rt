@@ -5,16 +5,16 @@ use mon_types::{Rank, Version};
 use mon_wire::{Cookie, Place};
 use std::alloc::Global;
 
-/// What a monitor remembers of those that synchronize from it.
+/// What a provider remembers of the monitors that synchronize from it.
 #[derive(Clone, Copy, PartialEq, Eq)]
 pub struct Provider {
-    /// The cookie of each of them.
+    /// The last cookie that each rank got, if it got one.
     pub cookies: [Option<Cookie>; 15],
     /// The number of the next cookie, from 1.
     pub next_cookie: u64,
 }
 
-/// How far a monitor is that synchronizes.
+/// The stage of a synchronization, at the monitor that asked for it.
 #[derive(Clone, Copy, PartialEq, Eq)]
 pub enum SyncStage {
     /// It waits for its cookie.
@@ -25,10 +25,10 @@ pub enum SyncStage {
     Replay { next: Version, end: Version },
 }
 
-/// What a monitor remembers that synchronizes.
+/// What a monitor remembers while it synchronizes.
 #[derive(Drop)]
 pub struct Requester {
-    /// From whom it takes.
+    /// The monitor from which it takes chunks.
     pub provider: Rank,
     /// Whether it takes a whole copy, or the versions that it lacks.
     pub full: bool,
@@ -36,12 +36,12 @@ pub struct Requester {
     pub cookie: Option<Cookie>,
     /// The provider's last version when a whole copy began.
     pub start: Version,
-    /// How far it has come.
+    /// The place after which the next chunk begins.
     pub place: Place,
 }
 
 impl Requester {
-    /// An equal memory.
+    /// An equal state.
     pub fn copy(&self, alloc: Global) -> Result<Requester, OutOfMemory>
         ensures { IfOk result (λ requester. requester ≡ self.now) }
     {

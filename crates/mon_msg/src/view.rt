@@ -9,7 +9,7 @@ pub struct Me {
     pub rule: Rule,
 }
 
-/// What the other roles of a monitor know.
+/// What a role reads of the monitor's other roles.
 #[derive(Clone, Copy, PartialEq, Eq)]
 pub struct View {
     /// The phase of the monitor.
@@ -18,7 +18,7 @@ pub struct View {
     pub leader: Rank,
     /// Its quorum; the empty set if it is in none.
     pub quorum: RankSet,
-    /// Whether its lease is valid, or it is alone in its quorum map.
+    /// Whether its lease is valid, or its map has no other monitor.
     pub standing: bool,
     /// Whether its last version may be read.
     pub readable: bool,

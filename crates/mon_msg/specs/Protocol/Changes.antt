@@ -13,7 +13,7 @@ use Rattle.mon_tx.specs.declared.op.Op.TheVariants.{Put, Erase, ErasePrefix}
 use Rattle.mon_tx.specs.declared.op.Op.{Op}
 
 pub data Change : Type 0 where
-  -- the monitor was started so often
+  -- how often the monitor was started
   Boot : (n : ℕ) → Change
   -- its epoch
   Epoch : (e : ℕ) → Change
@@ -23,16 +23,17 @@ pub data Change : Type 0 where
   Promise : (pn : ℕ) → Change
   -- the value that it accepted for a version under a number
   Vote : (v : ℕ) → (pn : ℕ) → (value : List Op) → Change
-  -- a version's value: its record alone, and with the changes of the value
+  -- the record of a version's value, and that record with the changes of the value
   Record : (v : ℕ) → (value : List Op) → Change
   Learn : (v : ℕ) → (value : List Op) → Change
   -- the last committed version
   Last : (v : ℕ) → Change
   -- an entry of a copy
   Copy : (entry : Entry) → Change
-  -- a full synchronization begins, which must reach the floor: all that is shared goes, and the own numbers stay that were there
+  -- a full synchronization begins, which must reach the floor: the log and the services are erased, and of the own
+  -- numbers of Paxos only the two proposal numbers are put back, if they were there
   Mark : (floor : ℕ) → (last_pn : Option ℕ) → (promise : Option ℕ) → Change
-  -- it is over
+  -- the full synchronization is over
   Unmark : Change
 
 abbrev pub erase_all : Area → Op

@@ -78,7 +78,7 @@ module _ (me : Me) (now : ℕ) where
   hear_chunk f c p values entries done x =
       if is_ours f c p x then take_and_ask c p values entries done x else dropped x
 
-  -- a whole copy is followed by the versions that were committed meanwhile
+  -- a whole copy goes on with the versions that were committed since it began; a recent one is over
   abbrev pub replay_or_end : (last : ℕ) → Course → Result Course Which
   replay_or_end last x = if x.state.requester.full then begin_replay now last x else bootstrap me now x
 

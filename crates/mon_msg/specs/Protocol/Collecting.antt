@@ -25,7 +25,7 @@ use Rattle.mon_types.specs.declared.names.Which.{Which}
 
 -- ---- members that lack versions
 
--- the committed versions after one that a member reported, as many as one message among n monitors takes
+-- the values of the versions after one that a member reported, as many as one message among n monitors takes
 unfoldable pub missed : (n : ℕ) → (records : ℕ → Cell) → (last told : ℕ) → List (List Op)
 missed n records last told =
     longest (λ values. fits n (body.Commit (suc told) values)) (run_from records last (suc told))
@@ -35,7 +35,7 @@ module _ (me : Me) where
   commits_with epoch told [] to = []
   commits_with epoch told (value ∷ values) to = message_to me epoch (body.Commit (suc told) (value ∷ values)) to ∷ []
 
-  -- what follows goes to a member whose last version is lower
+  -- a member whose reported last version is lower gets the values after it
   abbrev pub commits_to : Readings → (lasts : List ℕ) → (to : ℕ) → List Sent
   commits_to w lasts to =
       let told = slice_index_or lasts to 0 in
@@ -64,13 +64,13 @@ module _ (me : Me) (now : ℕ) where
       ▸ leader_is (record x.state.leader { found = None })
       ▸ begin_found x.state.leader.found
 
--- a leader of this quorum that asks under a number, and has its own answer
+-- the state of a leader of this quorum that begins to collect under a number: it has its own answer alone
 abbrev pub collector : Me → List Bool → (pn : ℕ) → Readings → Leader
 collector me q pn w =
     record start_leader { quorum = q; pn = pn; answered = only me.member.rank; found = pending w }
 
 module _ (me : Me) (now : ℕ) where
-  -- a new number above all that are known, and the question to the quorum what was accepted
+  -- the leader makes this number its own, and asks the quorum what was accepted
   unfoldable pub collect_with : List Bool → (pn : ℕ) → Course → Course
   collect_with q pn x =
       x

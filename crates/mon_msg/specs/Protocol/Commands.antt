@@ -28,7 +28,7 @@ use Rattle.mon_types.specs.declared.names.Which.{Which}
 
 -- ---- what is too long
 
--- the longest value or text of a command, in bytes, and that of the command
+-- the most bytes that a command's value or text may have, and how many it has
 abbrev pub most_text : Command → ℕ
 most_text (command.Set key value) = MOST_KV_VALUE
 most_text (command.Remove key) = 0
@@ -73,7 +73,7 @@ module _ (me : Me) where
       if is_full then Ok (reply_to session (reply.Busy MOST_WAITING) x) else hand_on c session x)
 
 module _ (me : Me) (now : ℕ) where
-  -- it is proposed at once
+  -- whether a command may be proposed at once
   abbrev pub may_propose : Course → Bool
   may_propose x = same_phase x.state.phase phase.Active && is_standing me now x.state
 

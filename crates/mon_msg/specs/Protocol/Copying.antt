@@ -29,7 +29,8 @@ abbrev pub same_flag : Bool → Bool → Bool
 same_flag true b = b
 same_flag false b = not b
 
--- a whole one begins with the provider's last version and the first key; a recent one goes on from its own last version
+-- a whole copy begins after the provider's last version and before the first key; a recent one begins after the own
+-- last version and takes no keys
 abbrev pub first_place : Bool → (last own : ℕ) → Place
 first_place true last own = record { version = last; key = key_place.Start }
 first_place false last own = record { version = own; key = key_place.Done }

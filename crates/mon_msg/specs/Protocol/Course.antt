@@ -39,7 +39,7 @@ abbrev pub ◌>>=◌ : {A B : Type 0} → Result A Which → (A → Result B Whi
 (Ok x) >>= f = f x
 (Err e) >>= f = Err e
 
--- a number that runs out above 2 ^ 62
+-- the number, or an error if it is above 2 ^ 62
 abbrev pub checked : Which → ℕ → Result ℕ Which
 checked w n = if nat_le n (2 ^ 62) then Ok n else Err w
 
@@ -115,7 +115,7 @@ disarm t x = timers_are (disarmed t x.state.timers) x
 abbrev pub disarm_if : Bool → Timer → Course → Course
 disarm_if test t x = timers_are (if test then disarmed t x.state.timers else x.state.timers) x
 
--- the timers in a phase: if it is a new one, they are disarmed
+-- the timers after a phase is entered: a new phase disarms all but the one that pings
 abbrev pub timers_in : Phase → State → List (Option ℕ)
 timers_in p s = if same_phase s.phase p then s.timers else only_ping s.timers
 

@@ -57,7 +57,7 @@ module _ (me : Me) where
   is_whole acked = count_of acked == me.member.monitors
 
 module _ (me : Me) (now : ℕ) where
-  -- a candidate of this epoch
+  -- a candidate of this epoch: the monitor defers to it, stands itself, or does nothing
   abbrev pub weigh : Scores → (f : ℕ) → Course → Result Course Which
   weigh table f x =
       let elector = x.state.elector in
@@ -65,7 +65,8 @@ module _ (me : Me) (now : ℕ) where
       then (if may_defer me table f elector.deferred then Ok (defer_to me f x) else nothing_more x)
       else (if not (is_some elector.deferred) && not elector.candidate then elect me now x else nothing_more x)
 
-  -- a candidate of an earlier epoch: one that is outside of its quorum makes it vote again
+  -- a candidate of an earlier epoch: if the own epoch is even and the own quorum lacks the candidate, an election is
+  -- called
   abbrev pub hear_earlier : (f : ℕ) → Course → Result Course Which
   hear_earlier f x =
       if is_even (epoch_of x.readings) && not (has (quorum_of x.state) f) then elect me now x else dropped x
@@ -91,7 +92,7 @@ module _ (me : Me) (now : ℕ) where
       if nat_lt (epoch_of x.readings) e then elect me now (adopt now e x) else (
       if x.state.elector.candidate then count_ack f x else dropped x))
 
-  -- the election's time is over
+  -- the election's time is over: a candidate with a majority wins, and any other monitor calls an election again
   unfoldable pub election_ends : Course → Result Course Which
   election_ends x =
       let elector = x.state.elector in

@@ -40,7 +40,7 @@ in_next_epoch x = do
   e ← checked which.Epoch (suc (epoch_of x.readings))
   Ok (change (Epoch e) x)
 
--- an election is in an odd epoch
+-- the epoch of an election is odd: an even epoch is followed by the next one
 unfoldable pub in_odd_epoch : Course → Result Course Which
 in_odd_epoch x = if is_even (epoch_of x.readings) then in_next_epoch x else Ok x
 
@@ -50,7 +50,7 @@ module _ (me : Me) (now : ℕ) where
     e ← checked which.Epoch (next_even (epoch_of x.readings))
     x ▸ change (Epoch e) ▸ reign me now (only me.member.rank)
 
-  -- one that needs nobody's vote wins; the others are asked how far they are
+  -- it probes the others; if it is alone in its map, it wins, unless it may not lead or is marked
   unfoldable pub bootstrap : Course → Result Course Which
   bootstrap x =
       let y = x ▸ in_phase phase.Probing ▸ forget_clients ▸ prober_is (record { outside = only me.member.rank }) in

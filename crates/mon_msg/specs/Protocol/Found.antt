@@ -10,7 +10,7 @@ abbrev pub counts : Option Told → Option Told
 counts None = None
 counts (Some told) = if nat_le (length (text told.value)) most_value then Some told else None
 
--- whether a version and a number are greater than those of what was found
+-- whether nothing was found before, or a lower version, or the same one with a lower number
 abbrev pub is_newer : (v pn : ℕ) → Option Found → Bool
 is_newer v pn None = true
 is_newer v pn (Some found) = nat_lt found.version v || (v == found.version && nat_lt found.pn pn)

@@ -38,12 +38,12 @@ module _ (me : Me) where
   has_fitting_table (body.PingReply table) = fits_rule table
   has_fitting_table b = true
 
-  -- a message of another monitor of the same map
+  -- a message of another monitor, of a map of as many monitors, with a table if and only if scores count
   abbrev pub is_heard : Message → Bool
   is_heard m = not (m.from == me.member.rank) && m.monitors == me.member.monitors && has_fitting_table m.body
 
 module _ (me : Me) (shared : List Entry) (now : ℕ) where
-  -- what another monitor f says in its epoch e; what clients and monitors say to each other is nothing among monitors
+  -- what a monitor does at a body from another monitor f in its epoch e; requests and replies are dropped
   abbrev pub hear : (f e : ℕ) → Body → Course → Result Course Which
   hear f e body.Probe x = hear_probe me f x
   hear f e (body.ProbeReply quorum first last) x = hear_probe_reply me now f quorum first last x

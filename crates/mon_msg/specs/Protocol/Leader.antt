@@ -37,7 +37,7 @@ note_answer f last found x =
     let answered = with_rank leader.answered f in
     leader_is (record leader { answered = answered; lasts = slice_set leader.lasts f last; found = found }) x
 
--- a value that it gave is found for the version after its last one
+-- a pending value that f gave is one for the version after its last one
 abbrev pub note_told : (f last : ℕ) → Option Told → Course → Result Course Which
 note_told f last None x = Ok (note_answer f last x.state.leader.found x)
 note_told f last (Some told) x = do

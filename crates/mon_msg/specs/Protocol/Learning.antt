@@ -11,7 +11,7 @@ abbrev pub learn_changes : (v : ℕ) → List (List Op) → List Change
 learn_changes v [] = []
 learn_changes v (value ∷ values) = Learn v value ∷ learn_changes (suc v) values
 
--- and then the last version, unless there are none
+-- the values are learned, and the version of the last of them becomes the last version; without values nothing changes
 unfoldable pub learn : (v : ℕ) → List (List Op) → Course → Result Course Which
 learn v [] x = Ok x
 learn v (value ∷ values) x = do
@@ -20,7 +20,7 @@ learn v (value ∷ values) x = do
 
 -- ---- those that are new
 
--- those of the values of the versions from `from` on that are above the last one, and the version of the first of them
+-- of the values of the versions from `from` on, those of versions above `last`; and the version of the first of them
 abbrev pub news : (last from : ℕ) → List (List Op) → List (List Op)
 news last from values = drop (suc last - from) values
 

@@ -12,13 +12,14 @@ use Rattle.mon_msg.specs.declared.view.Me.{Me}
 use Rattle.mon_types.specs.Ranks.{no_ranks, has, with_rank}
 use Rattle.mon_types.specs.declared.names.Which.{Which}
 
--- the own scores of some ranks after this many seconds, in which some were heard of
+-- the table after this many seconds: the own score of each of these ranks is raised if the rank was heard, and
+-- otherwise lowered
 abbrev pub scores_after : (seconds : ℕ) → (heard : List Bool) → List ℕ → Scores → Scores
 scores_after seconds heard [] table = table
 scores_after seconds heard (k ∷ ks) table =
     scores_after seconds heard ks (scored (if has heard k then raised seconds else lowered seconds) k table)
 
--- f was heard of, and sent its table
+-- f was heard, and its table is merged
 abbrev pub with_heard : (f : ℕ) → Scores → Elector → Elector
 with_heard f table elector = record elector { scores = merged elector.scores table; heard = with_rank elector.heard f }
 
@@ -34,7 +35,7 @@ hear_ping_reply f None x = dropped x
 hear_ping_reply f (Some table) x = Ok (note_table f table x)
 
 module _ (me : Me) (now : ℕ) where
-  -- the time since the last pings counts
+  -- the scores after the time since the last pings; from now on nobody was heard
   abbrev pub measure : Elector → Elector
   measure elector = record elector {
     scores = scores_after ((now - elector.pinged) / 1000) elector.heard (others me) elector.scores;
@@ -42,7 +43,7 @@ module _ (me : Me) (now : ℕ) where
     pinged = now;
   }
 
-  -- and all are pinged again
+  -- the connections are measured, and all others are pinged again
   unfoldable pub ping : Course → Result Course Which
   ping x =
       let y = x ▸ elector_is (measure x.state.elector) in

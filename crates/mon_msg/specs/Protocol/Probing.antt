@@ -12,18 +12,18 @@ use Rattle.mon_msg.specs.declared.view.Me.{Me}
 use Rattle.mon_types.specs.Ranks.{with_rank, count_of, is_majority}
 use Rattle.mon_types.specs.declared.names.Which.{Which}
 
--- how far it is, and in which quorum
+-- the answer to a probe: the own quorum and the versions that are kept; a marked monitor doesn't answer
 unfoldable pub hear_probe : Me → (f : ℕ) → Course → Result Course Which
 hear_probe me f x =
     let w = x.readings in
     if w.marked then dropped x else Ok (send me f (body.ProbeReply (quorum_of x.state) w.first w.last) x)
 
--- how many versions a monitor may lack that joins an election
+-- the most versions that a monitor may lack if it is to join an election
 abbrev pub lag : ℕ
 lag = 10
 
 module _ (me : Me) (now : ℕ) where
-  -- f joins those outside of a quorum
+  -- f is outside of a quorum too; a majority of such monitors elects
   abbrev pub join_outside : (f : ℕ) → Course → Result Course Which
   join_outside f x =
       let outside = with_rank x.state.prober.outside f in

@@ -24,7 +24,7 @@ abbrev pub refusal : CommandRefused → Reply
 refusal refused.NoSuch = reply.NoSuch
 refusal (refused.TooLong len most) = reply.TooLong len most
 refusal (refused.MapFull would_be) = reply.MapFull would_be
--- no command is refused so
+-- the value of a command is never refused for this
 refusal refused.OutOfMemory = reply.Unavailable
 
 -- the monitor that was asked

@@ -23,7 +23,7 @@ use Rattle.mon_types.specs.declared.names.Which.{Which}
 abbrev pub reach : (last : ℕ) → Place → List (List Op) → Bool
 reach last p values = nat_le last (p.version + length values)
 
--- no shared entry is left after these, of which `left` are those after the place
+-- no shared entry is left after these entries; `left` are the shared entries after the place
 abbrev pub is_finished : Place → (left : List Entry) → List Entry → Bool
 is_finished p left entries = is_done p.key || nat_le (length left) (length entries)
 

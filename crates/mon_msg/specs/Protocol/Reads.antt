@@ -15,14 +15,14 @@ use Rattle.mon_wire.specs.declared.request.Session.{Session}
 use Rattle.mon_msg.specs.declared.view.Me.{Me}
 use Rattle.mon_types.specs.declared.names.Which.{Which}
 
--- what changed a service's map after version v, as much as one reply takes
+-- the incrementals after version v that are kept, as many as one reply takes, and whether there are more
 abbrev pub changes_after : Readings → Service → ℕ → List (List ℕ) → Reply
 changes_after w s v kept = let told = longest may_tell kept in reply.Since s v told (nat_lt (length told) (length kept))
 
 abbrev pub shown : Readings → Service → Reply
 shown w s = reply.Shown s w.last (service_last w s) (read_map w s)
 
--- if they aren't kept any more, the whole map
+-- the incrementals after version v; if the next one isn't kept any more, the whole map
 unfoldable pub since : Readings → Service → ℕ → Reply
 since w s v =
     if nat_le (service_first w s) (suc v)
@@ -30,7 +30,7 @@ since w s v =
     else shown w s
 
 module _ (me : Me) (now : ℕ) where
-  -- the lease is valid, or nobody else is there
+  -- the lease is valid, or the map has no other monitor
   abbrev pub is_standing : State → Bool
   is_standing s = me.member.monitors == 1 || stands (lease_of s) now
 

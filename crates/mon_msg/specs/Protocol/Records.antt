@@ -64,7 +64,7 @@ run_of records (suc count) v = elim (record_at records v) as (λ _. List (List O
 abbrev pub run_from : (records : ℕ → Cell) → (last v : ℕ) → List (List Op)
 run_from records last v = run_of records (suc last - v) v
 
--- the longest beginning of a list that passes a test, of which each beginning passes it
+-- the longest prefix of a list of which each prefix but the empty one passes a test
 abbrev pub longest_onto : {A : Type 0} → (List A → Bool) → List A → List A → List A
 longest_onto test done [] = done
 longest_onto test done (x ∷ xs) = if test (done ++ x ∷ []) then longest_onto test (done ++ x ∷ []) xs else done
@@ -72,7 +72,7 @@ longest_onto test done (x ∷ xs) = if test (done ++ x ∷ []) then longest_onto
 abbrev pub longest : {A : Type 0} → (List A → Bool) → List A → List A
 longest test xs = longest_onto test [] xs
 
--- it is a beginning, of which each beginning but the empty one passes the test, and the next longer one doesn't
+-- `found` is a prefix of `whole`; each prefix of it but the empty one passes the test, and the next longer one doesn't
 pub record IsLongest {A : Type 0} (test : List A → Bool) (whole found : List A) : Type 0 where
   pub rest : List A
   pub begins : found ++ rest ≡ whole

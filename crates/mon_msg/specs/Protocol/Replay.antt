@@ -37,7 +37,7 @@ more_of records (suc count) room v = elim (record_at records v) as (λ _. Option
       else Some []
 ]
 
--- the versions of the next step, of this many that are left from v on
+-- the values that the next step replays, if `left` versions from v on remain; none if one of their records is missing
 unfoldable pub step_of : (records : ℕ → Cell) → (left v : ℕ) → Option (List (List Op))
 step_of records zero v = Some []
 step_of records (suc left) v = elim (record_at records v) as (λ _. Option (List (List Op))) [
@@ -56,7 +56,7 @@ module _ (me : Me) (now : ℕ) where
       if nat_lt end after then y ▸ change (Last end) ▸ change Unmark ▸ bootstrap me now else
       Ok (y ▸ requester_is (record y.state.requester { stage = sync.Replay after end }) ▸ arm now timer.Step)
 
-  -- if a record is missing it begins again
+  -- if a record is missing, the monitor bootstraps
   abbrev pub replay_any : (next end : ℕ) → Option (List (List Op)) → Course → Result Course Which
   replay_any next end None x = bootstrap me now x
   replay_any next end (Some values) x = replay next end values x

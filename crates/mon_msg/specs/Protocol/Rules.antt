@@ -12,11 +12,11 @@ use Rattle.mon_tx.specs.declared.key.Key.TheVariants as key
 use Rattle.mon_tx.specs.declared.op.Op.TheVariants.{EraseRange}
 use Rattle.mon_tx.specs.declared.op.Op.{Op}
 
--- a number that is the first is put
+-- the first version of an area is put as 1
 abbrev pub begins : Area → List Op
 begins a = put_number a key.FirstCommitted 1 ∷ []
 
--- the first version of the log
+-- the first version of the log is put with its first value
 abbrev pub paxos_begins : ℕ → List Op
 paxos_begins last = if last == 0 then begins area.Paxos else []
 
@@ -34,11 +34,11 @@ full_version a n text =
 abbrev pub service_to : ℕ → ℕ → ℕ
 service_to n first = min (n - SERVICE_KEEPS) (first + SERVICE_GOES)
 
--- the multiples of `FULL_EVERY` from one version up to another
+-- the multiples of `FULL_EVERY` from one version up to but not including another
 abbrev pub full_between : ℕ → ℕ → List ℕ
 full_between from to = filter (λ v. v % FULL_EVERY == 0) (range_with_len from (to - from))
 
--- the versions of a service from `from` up to `to` go, and the full maps there
+-- the versions of a service from `from` up to but not including `to` are erased, and the full maps at them
 abbrev pub service_trimmed : Area → ℕ → ℕ → List Op
 service_trimmed a from to =
     EraseRange (area_text a) from to ∷ (map (λ v. erase a (key.Full v)) (full_between from to) ++ put_number a key.FirstCommitted to ∷ [])
@@ -56,8 +56,8 @@ paxos_trimmed from to = EraseRange (area_text area.Paxos) from to ∷ put_number
 abbrev pub paxos_trim : ℕ → ℕ → List Op
 paxos_trim first last = if nat_lt PAXOS_DUE (last - first) then paxos_trimmed first (paxos_to first last) else []
 
--- The value that makes version n of a service by an incremental. Of the log it takes the first and the last version, of the
--- service the first one and the text of the map at version n.
+-- The value that makes version n of a service by an incremental. `first` and `last` are the log's first and last
+-- version, `service_first` is the service's first one, and `text` encodes the map at version n.
 unfoldable pub value_ops : (first last : ℕ) → Area → (n service_first : ℕ) → (incremental text : List ℕ) → List Op
 value_ops first last a n service_first incremental text =
     paxos_begins last ++ (new_version a n incremental ++ (full_version a n text ++ (service_trim a n service_first ++ paxos_trim first last)))

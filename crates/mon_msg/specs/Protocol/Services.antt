@@ -28,7 +28,7 @@ read_on w s (suc count) v m = elim (option_and_then (next_map s m) (w.row s (key
   | Some next ↦ read_on w s count (suc v) next
 ]
 
--- the newest full map, unless it is newer than the last version
+-- the newest full map, if it is there, can be read and isn't newer than the last version
 abbrev pub full_map : Readings → Service → Option ShownMap
 full_map w s =
     if nat_le (full_latest w s) (service_last w s) then option_and_then (spelled_map s) (w.row s (key.Full (full_latest w s))) else None

@@ -17,7 +17,8 @@ abbrev pub pending_version : Option Found → ℕ
 pending_version None = 0
 pending_version (Some found) = found.version
 
--- what a full synchronization must reach
+-- the version that a full synchronization must reach: the greatest of the floor before, the last version and that of
+-- the pending value
 abbrev pub floor_of : Readings → ℕ
 floor_of w = max (max w.floor w.last) (pending_version (pending w))
 

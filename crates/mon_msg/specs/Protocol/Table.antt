@@ -69,13 +69,13 @@ module _ (me : Me) (now : ℕ) where
   timer_comes timer.Propose x = propose_due me now x
   timer_comes timer.Ping x = ping me now x
 
-  -- one that is set is disarmed, and takes effect whether or not its time has come
+  -- a timer that is set is disarmed and takes effect, even before its time; one that isn't set is dropped
   abbrev pub take_timer : Timer → Course → Result Course Which
   take_timer t x = if is_armed t x.state.timers then x ▸ disarm t ▸ timer_comes t else dropped x
 
 -- ---- the join
 
--- nothing is done yet
+-- an event before its first act
 abbrev pub at_rest : Readings → State → Course
 at_rest w s = record { readings = w; changes = []; state = s; out = [] }
 
