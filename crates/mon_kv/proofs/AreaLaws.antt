@@ -95,7 +95,7 @@ branches : (b : Bool) (x y : Option Records) → under (cond b x y) ≡ cond b (
 branches true x y = refl
 branches false x y = refl
 
--- what a prefix counts with
+-- the size of a prefix's entries
 counted_under : (prefix : List ℕ) (o : Option Records) → counted (λ area. area_size area.0 (entries area.1)) prefix o ≡ area_size prefix (under o)
 counted_under prefix None = refl
 counted_under prefix (Some records) = refl
@@ -212,7 +212,7 @@ pub some_empty : {A : Type 0} (l : List A) (x : A) (r : List A) → is_empty (l 
 some_empty [] x r = refl
 some_empty (y ∷ l) x r = refl
 
--- ---- what a change counts with
+-- ---- how the size changes
 counted_key : (prefix key : List ℕ) (o : Option (List ℕ)) → counted (λ (e : List ℕ × List ℕ). record_size prefix e.0 e.1) key o ≡ freed_size prefix key o
 counted_key prefix key None = refl
 counted_key prefix key (Some value) = refl

@@ -1,4 +1,4 @@
--- The entries of the map of a tree of trees: in order, and what they count with.
+-- The entries of the map of a tree of trees: their order and their size.
 use Rattle.std.proofs.Common.{◌≡◌, ℕ, ◌+◌, true, ◌&&◌, T, List, [], ◌∷◌, ◌++◌, length, refl, sym, ap, subst, ◌∙◌, arith}
 use Rattle.std.specs.declared.cmp.Ordering.TheVariants.{Less}
 use Rattle.std.specs.List.{list_all, sum_by}
@@ -58,7 +58,7 @@ entries-store trees w =
     ap finite.entries (finite.same_map places_total exact_places (finite.from_entries es) (finite.from_sorted es) (λ q. finite.get-from_entries places_total es q ∙ sym (finite.get-from_sorted place_cmp es q sorted)))
     ∙ finite.entries-from_sorted place_cmp es sorted
 
--- ---- what they count with
+-- ---- their size
 size_placed : (p : List ℕ) (es : List (List ℕ × List ℕ)) → sum_by entry_size (placed p es) ≡ area_size p es
 size_placed p [] = refl
 size_placed p (e ∷ es) =

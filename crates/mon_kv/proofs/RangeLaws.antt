@@ -90,7 +90,7 @@ decimal_back (c ∷ cs) h = by (cases_eq (digit_value c) 0)
         ∙ ap (map (λ k. 48 + k)) (made ∙ ap (λ t. t ++ map digit_value cs) one)
         ∙ rw (same, back.0) refl
 
--- what one key counts with
+-- the size of one key's entry
 module _ (n : ℕ) (key : List ℕ) (old new : List (List ℕ × List ℕ)) (sorted : is_sorted bytes_cmp old ≡ true) (is : new ≡ without key old) where
   pub frees_some : (value : List ℕ) → find bytes_cmp key old ≡ Some value → weight_of n new + (n + length key + length value + 16) ≡ weight_of n old
   frees_some value there =
@@ -186,7 +186,7 @@ module _ {V : Type 0} where
 fewer : (n : ℕ) (p : List ℕ → Bool) (es : List (List ℕ × List ℕ)) → weight_of n (where_key bytes_cmp p es) ≤ weight_of n es
 fewer n p es = let h = sum_by-filter_both (λ (e : List ℕ × List ℕ). p e.0) (λ e. not (p e.0)) (λ e. refl) (λ e. n + length e.0 + length e.1 + 16) es in omega (arith, h)
 
--- what all entries count with, without what those that are left count with
+-- the size of all entries less the size of those that stay
 pub frees_all : (n : ℕ) (p : List ℕ → Bool) (old new : List (List ℕ × List ℕ)) (before after : ℕ) → weight_of n old < 2 ^ 64 → new ≡ where_key bytes_cmp p old
     → before ≡ min (weight_of n old) (2 ^ 64 - 1) → after ≡ min (weight_of n new) (2 ^ 64 - 1) → weight_of n new + (before - after) ≡ weight_of n old
 frees_all n p old new before after fits is b a =

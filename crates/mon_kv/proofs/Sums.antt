@@ -15,7 +15,7 @@ same_key : (x y : List ℕ) → bytes_cmp x y ≡ Equal → x ≡ y
 same_key = slice_cmp-IsAntisymmetric nat_cmp-IsAntisymmetric
 
 module _ {V : Type 0} (f : List ℕ × V → ℕ) where
-  -- what a key counts with
+  -- what a key adds to the sum
   abbrev pub counted : List ℕ → Option V → ℕ
   counted k None = 0
   counted k (Some v) = f (k, v)

@@ -22,7 +22,7 @@ at_prefix prefix found = option_map (λ e. ((prefix, e.0), e.1)) found
 abbrev pub placed : List ℕ → List (List ℕ × List ℕ) → List (Place × List ℕ)
 placed prefix es = map (λ e. ((prefix, e.0), e.1)) es
 
--- those of all prefixes, in order
+-- the entries of all prefixes, in order
 abbrev pub places : List (List ℕ × Records) → List (Place × List ℕ)
 places [] = []
 places (area ∷ areas) = placed area.0 (entries area.1) ++ places areas
@@ -31,7 +31,7 @@ places (area ∷ areas) = placed area.0 (entries area.1) ++ places areas
 unfoldable pub store : Tree Records → Store
 store trees = from_entries (places (entries trees))
 
--- a prefix has its form, the keys under it rise, and there is one
+-- a prefix has the form of a prefix, the keys under it ascend, and there is at least one
 abbrev pub is_area : List ℕ × Records → Bool
 is_area area = is_prefix area.0 && is_sorted bytes_cmp (entries area.1) && not (is_empty (entries area.1))
 
@@ -49,7 +49,7 @@ abbrev pub with_area : List ℕ → Records → List (List ℕ × Records) → L
 with_area prefix records areas =
     if is_empty (entries records) then where_key bytes_cmp (λ x. not (eq_by_cmp bytes_cmp prefix x)) areas else put bytes_cmp prefix records areas
 
--- what a key with its value counts with, and what a value counted with that was there
+-- the size of an entry, and the size of the entry that was at a key, or 0
 abbrev pub record_size : List ℕ → List ℕ → List ℕ → ℕ
 record_size prefix key value = length prefix + length key + length value + 16
 
@@ -57,11 +57,11 @@ abbrev pub freed_size : List ℕ → List ℕ → Option (List ℕ) → ℕ
 freed_size prefix key None = 0
 freed_size prefix key (Some value) = record_size prefix key value
 
--- what entries count with under a prefix of this length
+-- the size of entries under a prefix of this length
 abbrev pub weight_of : ℕ → List (List ℕ × List ℕ) → ℕ
 weight_of prefix_len es = sum_by (λ e. prefix_len + length e.0 + length e.1 + 16) es
 
--- what the entries under a prefix count with, and those of all prefixes
+-- the size of the entries under a prefix, and of those of all prefixes
 abbrev pub area_size : List ℕ → List (List ℕ × List ℕ) → ℕ
 area_size prefix es = sum_by (λ e. record_size prefix e.0 e.1) es
 

@@ -20,7 +20,7 @@ own_of_paxos next at =
     list_any (λ own. eq_by_cmp place_cmp own at)
     (place Paxos LastCommitted ∷ place Paxos LastPn ∷ place Paxos AcceptedPn ∷ place Paxos PendingV ∷ place Paxos PendingPn ∷ (area_text Paxos, next) ∷ [])
 
--- those of the entries that aren't the monitor's own, given that `last` is its last version
+-- the entries that aren't the monitor's own, given that `last` is its last version
 abbrev pub shared_of : ℕ → List (Place × List ℕ) → List (Place × List ℕ)
 shared_of last es = filter (λ e. not (is_local last e.0)) es
 
@@ -30,11 +30,12 @@ shared_after m Start = shared_of (number m Paxos LastCommitted) (entries m)
 shared_after m (After prefix key) = shared_of (number m Paxos LastCommitted) (entries_after m (prefix, key))
 shared_after m Done = []
 
--- how long an entry is in a message: its parts, the lengths of prefix and key in a byte each, and that of the value in four
+-- how many bytes an entry takes in a message: its parts, one byte per length of prefix and key, and four for that of
+-- the value
 abbrev pub entry_len : Place × List ℕ → ℕ
 entry_len e = length e.0.0 + length e.0.1 + length e.1 + 6
 
--- the longest run from the front, of at most `most` entries that are together at most `room` long
+-- the longest prefix of the entries that has at most `most` of them and takes at most `room` bytes in a message
 abbrev pub run_of : ℕ → ℕ → List (Place × List ℕ) → List (Place × List ℕ)
 run_of room most [] = []
 run_of room zero (e ∷ es) = []
@@ -43,12 +44,13 @@ run_of room (suc most) (e ∷ es) = if nat_le (entry_len e) room then e ∷ run_
 abbrev pub plain : Entry → Place × List ℕ
 plain e = ((e.prefix, e.key), e.value)
 
--- the run that the entries begin with: the longest run of them, and whether it is all of them
+-- the longest run that the entries begin with, and whether it has all of them
 pub record IsLongestRun (all : List (Place × List ℕ)) (room most : ℕ) (run : KeyRun) : Type 0 where
   pub entries : map plain run.entries.items ≡ run_of room most all
   pub done : run.done ≡ (length run.entries.items == length all)
 
--- If `taken` was taken of `all` and `rest` is left, with this much room: the run goes on with the run of the rest.
+-- After `taken` of `all` were taken and `rest` remains, with `left` bytes of room: the longest run of `all` is `taken`
+-- and then the longest run of `rest`.
 pub record RunsOn (all : List (Place × List ℕ)) (room most : ℕ) (taken : List (Place × List ℕ)) (left : ℕ) (rest : List (Place × List ℕ)) : Type 0 where
   pub run : taken ++ run_of left (most - length taken) rest ≡ run_of room most all
   pub within : length taken ≤ most

@@ -15,7 +15,7 @@ use Rattle.mon_kv.specs.declared.entry_ref.EntryRef.{EntryRef}
 use Rattle.mon_kv.specs.declared.kv.TheConstants.{LEAST_LENGTH, MOST_SIZE}
 use Rattle.mon_kv.specs.declared.next.Found.{Found}
 
--- the number that a map holds at a named key: no number of a map is above 2^62
+-- n is the number that a map holds at a named key, and is at most 2^62
 abbrev pub IsNumber : Store → Area → Key → ℕ → Type 0
 IsNumber m area key n = (n ≡ number m area key) × (n ≤ 2 ^ 62)
 
@@ -27,19 +27,19 @@ epoch m = unwrap_or (option_map (λ bytes. number_in (Some bytes)) (cell m area.
 abbrev pub is_marked : Store → Bool
 is_marked m = number m area.Sync key.InSync == 1
 
--- an entry counts with the lengths of its prefix, its key and its value, and with 16 more
+-- the size of an entry: the lengths of its prefix, its key and its value, and 16
 abbrev pub entry_size : Place × List ℕ → ℕ
 entry_size e = length e.0.0 + length e.0.1 + length e.1 + 16
 
 unfoldable pub size_of : Store → ℕ
 size_of m = sum_by entry_size (entries m)
 
--- the most that the map of a store may count with
+-- the greatest size of the map of a store
 abbrev pub most_size : ℕ
 most_size = MOST_SIZE
 
--- whether a file outgrew its map: up to and with its first closed gate it is longer than the least length, and than four times
--- what the map counts with
+-- whether a file outgrew its map: the file has this many bytes up to and with its first closed gate, more than
+-- `LEAST_LENGTH` and more than four times the size of the map
 abbrev pub is_outgrown : ℕ → Store → Bool
 is_outgrown bytes m = nat_lt LEAST_LENGTH bytes && nat_lt (4 * size_of m) bytes
 
@@ -66,7 +66,8 @@ abbrev pub if_text : Option (List ℕ) → Option (List ℕ)
 if_text None = None
 if_text (Some bytes) = if is_text bytes then Some bytes else None
 
--- It is there if and only if its version is the one after the last and the record of that version is a transaction.
+-- The waiting value is there if and only if its version is the one after the last one, and the record of that version
+-- encodes a transaction.
 abbrev pub waiting : ℕ → ℕ → ℕ → Option (List ℕ) → Option Waiting
 waiting v pn last record_there = if v == last + 1 then option_map (λ bytes. (last + 1, pn, bytes)) (if_text record_there) else None
 

@@ -29,7 +29,7 @@ first (x ∷ xs) = Some x
 abbrev pub above : {V : Type 0} → List ℕ → List (List ℕ × V) → List (List ℕ × V)
 above key es = filter (λ e. is_lt (bytes_cmp key e.0)) es
 
--- the keys rise from left to right
+-- the keys ascend from left to right
 abbrev pub IsInOrder : {V : Type 0} → Tree V → Type 0
 IsInOrder tree = IsTrue (is_sorted bytes_cmp (entries tree))
 
@@ -37,7 +37,7 @@ IsInOrder tree = IsTrue (is_sorted bytes_cmp (entries tree))
 abbrev pub node_entries : {V : Type 0} → Node V → List (List ℕ × V)
 node_entries node = entries node.left ++ (node.key, node.value) ∷ entries node.right
 
--- The entry at the root was removed, and what was beside it is left.
+-- The entry at the root was removed, and the entries of its two sides are kept.
 abbrev pub TakesRoot : {V : Type 0} → Tree V → Tree V → Option V → Type 0
 TakesRoot Leaf new value = (new ≡ Leaf) × (value ≡ None)
 TakesRoot (Fork' p l k v h r) new value = (entries new ≡ entries l ++ entries r) × (value ≡ Some v)

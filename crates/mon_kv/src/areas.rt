@@ -18,7 +18,7 @@ use std::mem::replace;
 /// The trees of all prefixes, none of them empty.
 pub(crate) type Areas = Tree<Tree<Bytes>>;
 
-/// What a key with its value counts with.
+/// The size of an entry: the lengths of prefix, key and value, and 16.
 pub(crate) fn record_size(prefix: &[u8], key: &[u8], value: &[u8]) -> u64
     requires prefix { IsTrue (is_prefix prefix.now) }
     requires key { IsTrue (is_name key.now) }
@@ -27,7 +27,7 @@ pub(crate) fn record_size(prefix: &[u8], key: &[u8], value: &[u8]) -> u64
     prefix.len() as u64 + key.len() as u64 + value.len() as u64 + 16
 }
 
-/// What a key and its value counted, or 0 if the key wasn't there.
+/// The size of the entry that was at a key, or 0 if there was none.
 fn freed_size(prefix: &[u8], key: &[u8], value: &Option<Bytes>) -> u64
     requires prefix { IsTrue (is_prefix prefix.now) }
     requires key { IsTrue (is_name key.now) }
@@ -39,7 +39,7 @@ fn freed_size(prefix: &[u8], key: &[u8], value: &Option<Bytes>) -> u64
     }
 }
 
-/// What all keys count under a prefix of this length, or the greatest u64 if that is more.
+/// The size of all entries under a prefix of this length. It saturates at 2^64 - 1.
 fn weight(records: &Tree<Bytes>, prefix_len: u64) -> u64
     ensures { result ≡ min (weight_of prefix_len (entries records.now)) (2 ^ 64 - 1) }
 {
@@ -104,7 +104,8 @@ fn begin(
     Ok(())
 }
 
-/// Sets the value of a key, and returns what the old one counted. After an `Err` every key has its earlier value.
+/// Sets the value of a key, and returns the size of the entry that it replaces, or 0. After an `Err` every key has its
+/// earlier value.
 pub(crate) fn put(
     areas: &mut Areas,
     alloc: Global,
@@ -134,7 +135,7 @@ pub(crate) fn put(
     }
 }
 
-/// Removes a key, and returns what it counted.
+/// Removes a key, and returns the size of its entry, or 0 if there was none.
 pub(crate) fn erase(areas: &mut Areas, prefix: &[u8], key: &[u8]) -> u64
     requires whole { IsWhole areas.old }
     requires prefix { IsTrue (is_prefix prefix.now) }
@@ -154,7 +155,7 @@ pub(crate) fn erase(areas: &mut Areas, prefix: &[u8], key: &[u8]) -> u64
     }
 }
 
-/// Removes every key of a prefix, and returns what they counted.
+/// Removes every key of a prefix, and returns the size of their entries.
 pub(crate) fn erase_prefix(areas: &mut Areas, prefix: &[u8]) -> u64
     requires whole { IsWhole areas.old }
     requires fits { areas_size (entries areas.old) < 2 ^ 64 }
@@ -167,7 +168,7 @@ pub(crate) fn erase_prefix(areas: &mut Areas, prefix: &[u8]) -> u64
     }
 }
 
-/// Removes the decimal key of a version, and returns what it counted under a prefix of this length.
+/// Removes the decimal key of a version, and returns the size of its entry under a prefix of this length, or 0.
 #[tactic(auto, using(mon_tx::proofs::Decimals::decimal_is))]
 fn erase_version(records: &mut Tree<Bytes>, prefix_len: u64, version: u64) -> u64
     requires in_order { IsInOrder records.old }
@@ -187,8 +188,8 @@ fn erase_version(records: &mut Tree<Bytes>, prefix_len: u64, version: u64) -> u6
     }
 }
 
-/// Removes the decimal keys from `from` up to but not including `to`, one after the other, and returns what they
-/// counted under a prefix of this length.
+/// Removes the decimal keys from `from` up to but not including `to`, one after the other, and returns the size of
+/// their entries under a prefix of this length.
 fn erase_each(records: &mut Tree<Bytes>, prefix_len: u64, from: u64, to: u64) -> u64
     requires in_order { IsInOrder records.old }
     requires fits { weight_of prefix_len (entries records.old) < 2 ^ 64 }
@@ -202,8 +203,8 @@ fn erase_each(records: &mut Tree<Bytes>, prefix_len: u64, from: u64, to: u64) ->
     freed
 }
 
-/// Removes the decimal keys from `from` up to but not including `to` in one pass over all keys, and returns what they
-/// counted under a prefix of this length.
+/// Removes the decimal keys from `from` up to but not including `to` in one pass over all keys, and returns the size of
+/// their entries under a prefix of this length.
 fn erase_passing(records: &mut Tree<Bytes>, prefix_len: u64, from: u64, to: u64) -> u64
     requires fits { weight_of prefix_len (entries records.old) < 2 ^ 64 }
     ensures freed { weight_of prefix_len (entries records.new) + result ≡ weight_of prefix_len (entries records.old) }
@@ -216,8 +217,8 @@ fn erase_passing(records: &mut Tree<Bytes>, prefix_len: u64, from: u64, to: u64)
     before.saturating_sub(after)
 }
 
-/// Removes the decimal keys from `from` up to but not including `to`, and returns what they counted under a prefix of
-/// this length. It looks each number up, or passes over all keys if they are fewer than the numbers.
+/// Removes the decimal keys from `from` up to but not including `to`, and returns the size of their entries under a
+/// prefix of this length. It looks each number up, or passes over all keys if they are fewer than the numbers.
 fn erase_versions(records: &mut Tree<Bytes>, prefix_len: u64, from: u64, to: u64) -> u64
     requires in_order { IsInOrder records.old }
     requires fits { weight_of prefix_len (entries records.old) < 2 ^ 64 }
@@ -232,8 +233,8 @@ fn erase_versions(records: &mut Tree<Bytes>, prefix_len: u64, from: u64, to: u64
 }
 
 /// Removes every key of a prefix that is the decimal number of a version from `from` up to but not including `to`,
-/// and returns what they counted. It takes a look-up for each number of the range, or one pass over the keys of that
-/// prefix if they are fewer.
+/// and returns the size of their entries. It takes one look-up per number of the range, or one pass over the keys of
+/// that prefix if they are fewer.
 pub(crate) fn erase_range(areas: &mut Areas, prefix: &[u8], from: u64, to: u64) -> u64
     requires whole { IsWhole areas.old }
     requires prefix { IsTrue (is_prefix prefix.now) }

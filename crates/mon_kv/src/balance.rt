@@ -1,5 +1,5 @@
-//! Trees made of trees. Each call keeps the entries in their order. If the heights of the two sides of its parts were
-//! within one of each other, so are those of the result.
+//! Joins trees, and keeps them balanced. Each call keeps the entries in their order. A tree is balanced if the heights
+//! of the two sides of each node differ by at most one. What is joined of balanced trees is balanced.
 
 ghost use Rattle.std.specs.Prelude.{◌≡◌, [], ◌∷◌, ◌++◌};
 ghost use Rattle.mon_kv.specs.Tree.{entries, node_entries, TakesRoot};
@@ -7,12 +7,12 @@ ghost use Rattle.mon_kv.specs.Tree.{entries, node_entries, TakesRoot};
 use crate::tree::{Node, Tree};
 use std::mem::replace;
 
-/// The greater of the two heights and one more.
+/// The height of a node with these sides: the greater of their heights plus one.
 fn above<V>(left: &Tree<V>, right: &Tree<V>) -> u8 {
     left.height().max(right.height()).saturating_add(1)
 }
 
-/// The entry of `node` between two trees.
+/// Joins two trees with the entry of `node` as the root. Nothing is rotated.
 fn fork<V: Drop>(left: Tree<V>, mut node: Box<Node<V>>, right: Tree<V>) -> Tree<V>
     ensures { entries result ≡ entries left ++ (node.value.key, node.value.value) ∷ entries right }
 {
@@ -22,7 +22,7 @@ fn fork<V: Drop>(left: Tree<V>, mut node: Box<Node<V>>, right: Tree<V>) -> Tree<
     Tree::Fork(node)
 }
 
-/// The entry of `node` between two trees, of which the left one is higher by two.
+/// Joins two trees with the entry of `node` between them, by rotation. The left one is higher by two.
 fn lean_left<V: Drop>(left: Tree<V>, node: Box<Node<V>>, right: Tree<V>) -> Tree<V>
     ensures { entries result ≡ entries left ++ (node.value.key, node.value.value) ∷ entries right }
 {
@@ -42,7 +42,7 @@ fn lean_left<V: Drop>(left: Tree<V>, node: Box<Node<V>>, right: Tree<V>) -> Tree
     fork(fork(outer, top, low), mid, fork(high, node, right))
 }
 
-/// The entry of `node` between two trees, of which the right one is higher by two.
+/// Joins two trees with the entry of `node` between them, by rotation. The right one is higher by two.
 fn lean_right<V: Drop>(left: Tree<V>, node: Box<Node<V>>, right: Tree<V>) -> Tree<V>
     ensures { entries result ≡ entries left ++ (node.value.key, node.value.value) ∷ entries right }
 {
@@ -62,7 +62,7 @@ fn lean_right<V: Drop>(left: Tree<V>, node: Box<Node<V>>, right: Tree<V>) -> Tre
     fork(fork(left, node, low), mid, fork(high, top, outer))
 }
 
-/// The entry of `node` between two trees whose heights differ by at most two.
+/// Joins two trees with the entry of `node` between them. Their heights differ by at most two.
 fn balanced<V: Drop>(left: Tree<V>, node: Box<Node<V>>, right: Tree<V>) -> Tree<V>
     ensures { entries result ≡ entries left ++ (node.value.key, node.value.value) ∷ entries right }
 {
@@ -76,7 +76,7 @@ fn balanced<V: Drop>(left: Tree<V>, node: Box<Node<V>>, right: Tree<V>) -> Tree<
     }
 }
 
-/// The entry of `node` between two trees of any heights.
+/// Joins two trees of any heights with the entry of `node` between them.
 pub(crate) fn joined<V: Drop>(left: Tree<V>, node: Box<Node<V>>, right: Tree<V>) -> Tree<V>
     ensures { entries result ≡ entries left ++ (node.value.key, node.value.value) ∷ entries right }
 {
@@ -96,7 +96,7 @@ pub(crate) fn joined<V: Drop>(left: Tree<V>, node: Box<Node<V>>, right: Tree<V>)
     }
 }
 
-/// Sets the height of a tree's root from those of its sides. It returns whether the sides are in balance.
+/// Sets the height of a tree's root. Returns whether the heights of the root's two sides differ by at most one.
 fn set_height<V>(tree: &mut Tree<V>) -> bool
     ensures { entries tree.new ≡ entries tree.old }
 {
@@ -144,7 +144,7 @@ fn split_first<V: Drop>(mut node: Box<Node<V>>) -> (Box<Node<V>>, Tree<V>)
     }
 }
 
-/// One tree before another.
+/// Joins two trees: the entries of the left one come before those of the right one.
 pub(crate) fn beside<V: Drop>(left: Tree<V>, right: Tree<V>) -> Tree<V>
     ensures { entries result ≡ entries left ++ entries right }
 {
@@ -157,7 +157,7 @@ pub(crate) fn beside<V: Drop>(left: Tree<V>, right: Tree<V>) -> Tree<V>
     }
 }
 
-/// Takes the entry at a tree's root away, and gives its value.
+/// Removes the entry at a tree's root, and returns its value. `None` if the tree is empty.
 pub(crate) fn take_root<V: Drop>(tree: &mut Tree<V>) -> Option<V>
     ensures { TakesRoot tree.old tree.new result }
 {

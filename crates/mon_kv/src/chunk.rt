@@ -22,14 +22,14 @@ pub struct KeyRun {
     pub done: bool,
 }
 
-/// How long an entry is in a message.
+/// How many bytes an entry takes in a message.
 fn entry_len(found: &Found<'_>) -> usize
     ensures { result ≡ entry_len (found_of found.now) }
 {
     found.prefix.as_slice().len() + found.key.as_slice().len() + found.value.as_slice().len() + 6
 }
 
-/// An entry of its own.
+/// A copy of an entry.
 fn copied(alloc: Global, found: &Found<'_>) -> Result<Entry, OutOfMemory>
     requires { IsTrue (is_prefix found.now.prefix.now) }
     ensures { IfOk result (λ entry. plain entry ≡ found_of found.now) }
@@ -47,8 +47,8 @@ fn copied(alloc: Global, found: &Found<'_>) -> Result<Entry, OutOfMemory>
 impl Kv {
     ghost use Rattle.std.specs.FinMap.{entries};
 
-    /// The longest run of at most `most` shared entries after the place, in order, that are together at most `room`
-    /// long in a message. Nothing is after `Done`.
+    /// The longest run of at most `most` shared entries after the place, in order, that take at most `room` bytes
+    /// together in a message. Nothing is after `Done`.
     pub fn chunk_from<'a>(
         &'a self,
         after: &'a KeyPlace,

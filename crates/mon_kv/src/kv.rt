@@ -139,7 +139,7 @@ impl Kv {
         next(&self.areas, prefix, key)
     }
 
-    /// The allocator. No entry comes before the pair of two empty texts.
+    /// The allocator. The contract also states, for callers, that all entries are above the pair of two empty texts.
     pub(crate) fn allocator(&self) -> Global
         ensures start { entries_after self.now ([], []) ≡ entries self.now }
     {

@@ -9,14 +9,14 @@ ghost use Rattle.mon_kv.specs.Chunks.{own_of_paxos};
 use itoa::Buffer;
 use mon_tx::{Area, Key, is_at};
 
-/// Whether an entry is in this area, at this key of it.
+/// Whether a prefix and a key are this area and this key of it.
 fn is_in(prefix: &[u8], key: &[u8], area: Area, own_key: &[u8]) -> bool
     ensures { result ≡ eq_by_cmp place_cmp (area_text area, own_key.now) (prefix.now, key.now) }
 {
     is_at(area.as_bytes(), own_key, prefix, key)
 }
 
-/// Whether an entry is at a key with a fixed text.
+/// Whether a prefix and a key are this area and this key of it, given that the key's text is fixed.
 fn is_named(prefix: &[u8], key: &[u8], area: Area, own: Key) -> bool
     requires { IsTrue (is_fixed own) }
     ensures { result ≡ eq_by_cmp place_cmp (place area own) (prefix.now, key.now) }
@@ -37,7 +37,7 @@ fn is_own_of_paxos(prefix: &[u8], key: &[u8], next: &[u8]) -> bool
         | is_in(prefix, key, Area::Paxos, next)
 }
 
-/// Whether a key is the monitor's own.
+/// Whether a key is the monitor's own, given that `last` is its last version.
 pub fn is_local(prefix: &[u8], key: &[u8], last: u64) -> bool
     requires { last < 2 ^ 64 - 1 }
     ensures { result ≡ is_local last (prefix.now, key.now) }

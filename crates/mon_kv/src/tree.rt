@@ -135,7 +135,7 @@ fn single<V: Drop>(alloc: Global, key: &[u8], value: V) -> Result<Tree<V>, OutOf
 }
 
 impl<V: Drop> Tree<V> {
-    /// Puts a value, and gives the one that was there. An `Err` leaves the tree.
+    /// Puts a value, and returns the one that was there. After an `Err` the tree has the same entries.
     pub(crate) fn put(
         &mut self,
         alloc: Global,
@@ -169,7 +169,7 @@ impl<V: Drop> Tree<V> {
         }
     }
 
-    /// Sets the value of a key that is there, and gives the old one in its place.
+    /// Swaps the value of a key with `value`. Returns whether the key is there; if it isn't, nothing changes.
     pub(crate) fn exchange(&mut self, key: &[u8], value: &mut V) -> bool
         ensures found { IsInOrder self.old → result ≡ is_some (find bytes_cmp key.now (entries self.old)) }
         ensures entries { IsInOrder self.old
@@ -191,7 +191,7 @@ impl<V: Drop> Tree<V> {
         }
     }
 
-    /// Takes the key away, and gives its value.
+    /// Removes the key, and returns its value, or `None` if the key wasn't there.
     pub(crate) fn remove(&mut self, key: &[u8]) -> Option<V>
         ensures value { IsInOrder self.old → result ≡ find bytes_cmp key.now (entries self.old) }
         ensures entries { IsInOrder self.old
