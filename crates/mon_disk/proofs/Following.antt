@@ -10,7 +10,7 @@ use Rattle.mon_disk.proofs.Writes.{torn_not}
 
 -- ---- what a crash may leave at each point
 
--- time that stays
+-- no time passes
 pub still : (x : Content) (P : List ℕ → Type 0) → ((c : List ℕ) → images x c → P c) → LeavesOnly x x P
 still x P here = record {
   later = omega arith;
@@ -24,7 +24,7 @@ still x P here = record {
 pub weaker : (old new : Content) (P R : List ℕ → Type 0) → LeavesOnly old new P → ((c : List ℕ) → P c → R c) → LeavesOnly old new R
 weaker old new P R so_far p = record { later = so_far.later; past = so_far.past; kept = so_far.kept; each = λ t c from to left. p c (so_far.each t c from to left) }
 
--- points, and points after them
+-- two spans of time, one after the other
 pub then_more : (old mid new : Content) (P Q R : List ℕ → Type 0) → LeavesOnly old mid P → LeavesOnly mid new Q → ((c : List ℕ) → P c → R c) → ((c : List ℕ) → Q c → R c) → LeavesOnly old new R
 then_more old mid new P Q R first second p q = record {
   later = omega (arith, first.later, second.later);
@@ -44,7 +44,7 @@ then_more old mid new P Q R first second p q = record {
 pub now : (old new : Content) (P : List ℕ → Type 0) → LeavesOnly old new P → (c : List ℕ) → images new c → P c
 now old new P so_far c left = so_far.each new.moment c so_far.later (omega arith) left
 
--- what is there may be left of any write
+-- what a crash may leave now it may also leave of any write
 pub torn_none : (x : Content) (at : ℕ) (bytes c : List ℕ) → images x c → TornFrom x at bytes c
 torn_none x at bytes c left = (c, left, torn_not at bytes c)
 
@@ -60,7 +60,7 @@ none_more call calls OutOfMemory old new made = inl (refl, made.0)
 none_more call calls Failed None new made = inr (inl (refl, made.0, tt))
 none_more call calls Failed (Some t) new made = absurd (made.1 refl)
 
--- a row that stopped makes no further ones
+-- calls that stopped are followed by none
 pub stops : (calls more : List DiskCall) (s : Stop) (old new : Option Told) → Makes calls (Some s) old new → Makes (calls ++ more) (Some s) old new
 stops [] [] s old new made = made
 stops [] (call ∷ more) s old new made = none_more call more s old new made
@@ -68,7 +68,7 @@ stops (call ∷ calls) more s old new (inl stopped) = inl stopped
 stops (call ∷ calls) more s old new (inr (inl failed)) = inr (inl failed)
 stops (call ∷ calls) more s old new (inr (inr (passes, rest))) = inr (inr (passes, stops calls more s (and_made call old) new rest))
 
--- and one that came to its end is followed by them
+-- calls that were all made may be followed by more
 pub follows : (calls more : List DiskCall) (stop : Option Stop) (old mid new : Option Told) → Makes calls None old mid → Makes more stop mid new → Makes (calls ++ more) stop old new
 follows [] more stop old mid new made next = subst (λ (t : Option Told). Makes more stop t new) made.0 next
 follows (call ∷ calls) more stop old mid new (inl (is, same)) next = absurd cc
@@ -89,7 +89,7 @@ pub widened : {calls : List DiskCall} {stop : Option Stop} {old new : DiskState}
 widened {old = old} {new = new} P R c p =
     record { tells = c.tells; any_moment = weaker old.content new.content P R c.any_moment p; made = c.made; faults = c.faults; wants = c.wants }
 
--- a row that came to its end, and one after it
+-- calls that were all made, and calls after them
 pub then_calls : {calls more : List DiskCall} {stop : Option Stop} {old mid new : DiskState} (P Q R : List ℕ → Type 0) → Called calls P None old mid → Called more Q stop mid new
     → ((c : List ℕ) → P c → R c) → ((c : List ℕ) → Q c → R c) → Called (calls ++ more) R stop old new
 then_calls {calls = calls} {more = more} {stop = stop} {old = old} {mid = mid} {new = new} P Q R first second p q = record {
@@ -100,7 +100,7 @@ then_calls {calls = calls} {more = more} {stop = stop} {old = old} {mid = mid} {
   wants = subst (λ (n : ℕ). MayWant stop n new.wants) first.wants second.wants;
 }
 
--- a row that stopped: what would have come after it isn't made
+-- calls that stopped: the calls after them aren't made
 pub stopped_at : {calls : List DiskCall} {s : Stop} {old new : DiskState} (more : List DiskCall) (P R : List ℕ → Type 0) → Called calls P (Some s) old new → ((c : List ℕ) → P c → R c) → Called (calls ++ more) R (Some s) old new
 stopped_at {calls = calls} {s = s} {old = old} {new = new} more P R c p = record {
   tells = c.tells;
@@ -110,7 +110,7 @@ stopped_at {calls = calls} {s = s} {old = old} {new = new} more P R c p = record
   wants = c.wants;
 }
 
--- a row that came to its end, after which what is built on the disk has no memory of its own
+-- calls that were all made, after which what is built on the disk is out of memory
 pub without_memory : {calls : List DiskCall} {old new : DiskState} (P : List ℕ → Type 0) → Called calls P None old new → Called calls P (Some OutOfMemory) old new
 without_memory {calls = calls} {old = old} {new = new} P c =
     record { tells = c.tells; any_moment = c.any_moment; made = end calls old.told new.told c.made; faults = c.faults; wants = inl c.wants }

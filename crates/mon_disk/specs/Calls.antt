@@ -6,8 +6,8 @@ use Rattle.mon_types.specs.declared.names.Stop.TheVariants.{Failed, OutOfMemory}
 use Rattle.mon_disk.specs.declared.disk.DiskCall.{DiskCall}
 use Rattle.mon_disk.specs.Images.{Content, images, LeavesOnly}
 
--- The writes and syncs in order, failed ones too; the number, from 1, of the first of them that fails, as each later
--- one does then; and what the disk settles to, once a fault is over, after each list of calls that it might be given.
+-- What can be seen of a disk's calls: the writes and syncs in order, failed ones too; the number, counted from 1, of
+-- the first that fails, as all after it do; and the file that the disk settles to after any list of writes and syncs.
 pub record Told : Type 0 where
   pub made : List DiskCall
   pub fails_from : Option ℕ
@@ -28,7 +28,7 @@ abbrev pub and_made : DiskCall → Option Told → Option Told
 and_made call None = None
 and_made call (Some t) = Some (record { made = t.made ++ call ∷ []; fails_from = t.fails_from; settles = t.settles })
 
--- whether the call of a number is that from which calls fail, or a later one
+-- whether the call of this number fails: it is the first that does, or a later one
 abbrev pub is_past : Option ℕ → ℕ → Bool
 is_past None n = false
 is_past (Some from) n = nat_le from n
@@ -53,7 +53,8 @@ faults_after None faults = faults
 faults_after (Some Failed) faults = risen faults
 faults_after (Some OutOfMemory) faults = faults
 
--- The disk's own failed allocations are counted too. Those of what is built on a disk aren't.
+-- Only OutOfMemory may raise the count of the disk's own failed allocations, by one. It stays if the memory was refused
+-- to what is built on the disk.
 abbrev pub MayWant : Option Stop → ℕ → ℕ → Type 0
 MayWant None old new = new ≡ old
 MayWant (Some Failed) old new = new ≡ old
@@ -68,7 +69,7 @@ pub record Called (calls : List DiskCall) (P : List ℕ → Type 0) (stop : Opti
   pub any_moment : LeavesOnly old.content new.content P
   -- these writes and syncs were made, up to the stop
   pub made : Makes calls stop old.told new.told
-  -- what the counts say of the stop
+  -- the counts of faults and of failed allocations after the stop
   pub faults : new.faults ≡ faults_after stop old.faults
   pub wants : MayWant stop old.wants new.wants
 

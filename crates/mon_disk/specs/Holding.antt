@@ -1,4 +1,4 @@
--- What a disk in memory holds of its life: what a read gives, and what its images need beside that.
+-- The contents of a disk in memory: what a read returns, and the writes that its images need beside that.
 use Rattle.std.specs.Prelude.{◌≡◌, ◌==◌, ◌-◌, ◌++◌, ℕ, suc, Bool, false, List, [], ◌∷◌, map, length, take, drop, reverse, Option, Some, None, if◌then◌else◌}
 use Rattle.mon_disk.specs.declared.disk.DiskCall.{DiskCall}
 use Rattle.mon_disk.specs.declared.disk.DiskCall.TheVariants.{Write, Sync}

@@ -30,7 +30,7 @@ abbrev pub Reads : Option (List ℕ) → ℕ → List ℕ → Type 0
 Reads None at bytes = ⊤
 Reads (Some file) at bytes = bytes ≡ take (length bytes) (drop at file)
 
--- One byte that a crash cuts short, inside what was there: the old byte, the new one, or one that isn't 1.
+-- A one-byte write inside the file that a crash cuts short: the byte is the old one, the new one, or any other but 1.
 abbrev pub TornByte : ℕ → ℕ → List ℕ → List ℕ → Type 0
 TornByte at byte old new =
     (new ≡ old) ⊎ (new ≡ overwritten at (byte ∷ []) old) ⊎ ((other : ℕ) × (other ≢ 1) × (new ≡ overwritten at (other ∷ []) old))

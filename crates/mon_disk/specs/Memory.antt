@@ -1,10 +1,11 @@
--- What a disk in memory went through, and what that makes of it.
+-- The history of a disk in memory, and what it holds after that.
 use Rattle.std.specs.Prelude.{◌≡◌, ◌==◌, ◌++◌, ◌-◌, ◌/◌, ℕ, pred, List, [], ◌∷◌, length, take, drop, replicate, reverse, Option, Some, None, if◌then◌else◌}
 use Rattle.mon_disk.specs.declared.disk.DiskCall.{DiskCall}
 use Rattle.mon_disk.specs.declared.disk.DiskCall.TheVariants.{Write, Sync}
 use Rattle.mon_disk.specs.Images.{overwritten, Torn}
 
--- from which write or sync on a disk fails, by their number from 1, and the image that it then settles to
+-- an injected fault: the number, counted from 1, of the first write or sync that fails, and the image that the disk
+-- settles to
 pub record Upset : Type 0 where
   pub from : ℕ
   pub image : ℕ
@@ -35,7 +36,7 @@ abbrev pub done_of : Option ℕ → List DiskCall → List DiskCall
 done_of None calls = calls
 done_of (Some from) calls = take (pred from) calls
 
--- the first write of those that failed, if there is one
+-- the first write of these calls, if there is one
 abbrev pub first_write : List DiskCall → List DiskCall
 first_write [] = []
 first_write (Write at bytes ∷ calls) = Write at bytes ∷ []
@@ -75,7 +76,7 @@ abbrev pub placed : ℕ → List ℕ → List ℕ → List ℕ
 placed at [] file = file
 placed at (byte ∷ bytes) file = overwritten at (byte ∷ bytes) (file ++ replicate (at - length file) 0)
 
--- the image after these calls, newest first: of each unsynced write in order
+-- the image after these calls, newest first: the file at the last sync with the kept part of each write since, in order
 abbrev pub imaged : ℕ → List ℕ → List DiskCall → List ℕ
 imaged image first [] = first
 imaged image first (Write at bytes ∷ older) = placed at (part image bytes) (imaged image first older)

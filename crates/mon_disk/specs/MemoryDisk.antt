@@ -33,7 +33,7 @@ and_call call life = with_calls life (life.calls ++ call ∷ [])
 abbrev pub Leaves : Lived → List ℕ → Type 0
 Leaves life c = (c ≡ seen_of life) ⊎ (c ≡ settled life) ⊎ LeftAfter life.first (begun life) c
 
--- the beginnings of a list, but for the whole
+-- the proper prefixes of a list, the shortest first
 abbrev pub beginnings : List DiskCall → List (List DiskCall)
 beginnings [] = []
 beginnings (call ∷ calls) = [] ∷ map (λ cs. call ∷ cs) (beginnings calls)
@@ -69,13 +69,15 @@ abbrev pub known_after : DiskCall → ℕ → ℕ
 known_after (Write at bytes) known = max known (at + length bytes)
 known_after Sync known = known
 
--- The disk after a call that returned so: the call is noted if it was made, and otherwise a failed allocation is counted.
+-- The disk after a call with this result: a call that was made is added to the life, failed or not; without memory a
+-- failed allocation is counted.
 abbrev pub after_call : DiskCall → Option Stop → MemoryState → MemoryState
 after_call call None d = record { past = d.past; life = and_call call d.life; known = known_after call d.known; faults = d.faults; wants = d.wants }
 after_call call (Some Failed) d = record { past = d.past; life = and_call call d.life; known = d.known; faults = risen d.faults; wants = d.wants }
 after_call call (Some OutOfMemory) d = record { past = d.past; life = d.life; known = d.known; faults = d.faults; wants = risen d.wants }
 
--- A call is made, or fails as the injected fault has it, if there is memory left.
+-- A result that the life allows: Failed if and only if the injected fault applies to the call. OutOfMemory is always
+-- allowed.
 abbrev pub IsFor : Option Stop → Lived → Type 0
 IsFor None life = fails life ≡ false
 IsFor (Some Failed) life = fails life ≡ true

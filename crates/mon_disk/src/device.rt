@@ -1,4 +1,4 @@
-//! What of a file is asked of the system beside its reads, writes and syncs.
+//! System calls on a file other than reads, writes and syncs: its lock, and its cached pages.
 
 use std::fs::File;
 use std::io;
@@ -8,7 +8,7 @@ use std::os::unix::fs::FileExt;
 
 /// An open file that can be made this process's alone.
 pub trait DeviceFile: FileExt + Sized {
-    /// Locks the file for this process. One that another process has, or another handle of this one, is refused.
+    /// Locks the file for this process. Fails if another process, or another handle of this process, has the lock.
     fn claim(self) -> io::Result<Self>;
 
     /// Drops the system's copies of the file, so that the next read gives what the device has.
@@ -16,8 +16,8 @@ pub trait DeviceFile: FileExt + Sized {
 }
 
 impl DeviceFile for File {
-    /// The handle gets a number above those of the standard streams: what is written to one that was closed must not
-    /// land in the file.
+    /// Also gives the handle a number above those of the standard streams. Otherwise a write to a standard stream that
+    /// was closed could go into the file.
     fn claim(self) -> io::Result<File> {
         let file = if self.as_raw_fd() <= 2 {
             self.try_clone()?

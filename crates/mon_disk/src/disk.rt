@@ -29,7 +29,7 @@ pub trait Disk {
     /// can be seen. The faults so far, and the disk's own failed allocations.
     ghost state: { Self → DiskState };
 
-    /// The length in bytes. It is the known length then.
+    /// The length in bytes, which becomes the known length.
     fn len(&mut self) -> Result<u64, Stop>
         ensures call { Called [] (images (state self.old).content) (result_err result) (state self.old)
             (state self.new) }
@@ -39,7 +39,7 @@ pub trait Disk {
         ensures seen { (state self.new).content.seen ≡ (state self.old).content.seen }
         ensures no_memory { result ≡ Err OutOfMemory → Unmade (state self.old) (state self.new) };
 
-    /// Reads the bytes from an offset on, as many as `into` has room for. After an `Err` the room may hold any bytes.
+    /// Reads the bytes from an offset on, as many as `into` has room for. After an `Err`, `into` may hold any bytes.
     fn read(&mut self, at: u64, into: &mut [u8]) -> Result<(), Stop>
         requires { at + length into.old ≤ (state self.old).known }
         ensures call { Called [] (images (state self.old).content) (result_err result) (state self.old)
@@ -71,7 +71,7 @@ pub trait Disk {
         ensures known { (state self.new).known ≡ (state self.old).known }
         ensures no_memory { result ≡ Err OutOfMemory → Unmade (state self.old) (state self.new) };
 
-    /// A disk as it reads is one of its images.
+    /// What a read returns is one of the disk's images.
     ghost as_read: { (d : Self) → IfSome (state d).content.seen (images (state d).content) };
 
     /// What a disk settles to is one of its images.

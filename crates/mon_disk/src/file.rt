@@ -15,7 +15,7 @@ use std::io::{Error, ErrorKind};
 use std::os::unix::fs::{FileExt, MetadataExt, OpenOptionsExt};
 use std::path::Path;
 
-/// A file, and which one it is: while it is open, no other file gets its inode on its device.
+/// An open file and its identity: while it is open, no other file has its inode on its device.
 #[derive(Drop)]
 struct OpenedFile<F> {
     file: F,
@@ -23,9 +23,9 @@ struct OpenedFile<F> {
     inode: u64,
 }
 
-/// The file of a name. From its first call on it is locked. A sync fails if, after the system's sync, the name is gone
-/// or names another file. After a call that failed each later one fails too: the system may have lost what was written
-/// before and then answer that all is well.
+/// A disk that is the file of a name. The first call locks the file. A sync fails if, after the system's sync, the name
+/// is gone or names another file. After a failed call each later one fails too: the system may have lost earlier writes
+/// and still report success.
 #[derive(Drop)]
 pub struct FileDisk<R: Files + Copy>
 where
@@ -58,7 +58,7 @@ where
         }
     }
 
-    /// What the system said to the first call that failed.
+    /// The system's error at the first call that failed.
     pub fn failure(&self) -> Option<&Error>
         ensures { option_map (λ error. error.now) result ≡ self.now.failure }
     {
@@ -66,7 +66,8 @@ where
     }
 
     /// Opens the file, unless it is open.
-    // A call that lends the file out can't say what it leaves of the rest, so each caller looks at it again.
+    // The contract of a call that lends the file out couldn't state that the other fields stay. So `open` lends
+    // nothing, and each caller looks at `self.file` again.
     fn open(&mut self) -> io::Result<()>
         ensures known { self.new.known ≡ self.old.known }
         ensures faults { self.new.faults ≡ self.old.faults }
@@ -84,7 +85,7 @@ where
         Ok(())
     }
 
-    /// Counts a fault, keeps what the system said first, and gives the file up.
+    /// Counts a fault, keeps the system's first error, and closes the file.
     fn fail(&mut self, said: Error) -> Stop
         ensures stop { result ≡ Stop.Failed }
         ensures known { self.new.known ≡ self.old.known }
@@ -154,8 +155,8 @@ where
     }
 }
 
-/// The file of a name, opened for this process alone. A read gives what is on the device: a sync of an earlier process
-/// that failed leaves the system's copies other than that.
+/// The file of a name, locked for this process, synced, and without the system's cached pages. So a read returns what
+/// is on the device: after a failed sync of an earlier process, the cached pages may differ from it.
 fn settled<R: Files>(rt: &R, path: &str) -> io::Result<OpenedFile<R::File>>
 where
     R::File: DeviceFile,

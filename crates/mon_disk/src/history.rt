@@ -1,4 +1,4 @@
-//! What a disk in memory went through. It exists only in proofs, and takes no memory.
+//! The history of a disk in memory. It exists only in proofs, and takes no memory.
 ghost use Rattle.std.specs.Prelude.{◌≡◌, []};
 ghost use Rattle.std.specs.Borrow.{ftrue};
 ghost use Rattle.mon_disk.specs.Memory.{Lives, begins_with};

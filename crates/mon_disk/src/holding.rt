@@ -1,4 +1,4 @@
-//! What a disk in memory holds: what a read gives, and what its images need beside that.
+//! The contents of a disk in memory: what a read returns, and the writes that its images need beside that.
 
 ghost use Rattle.std.specs.Prelude.{◌≡◌, ◌≤◌, ◌+◌, length, IfOk, OnOk, OnErr};
 ghost use Rattle.mon_disk.specs.Holding.{holds_only, is_over, counted, written_on, synced_on, lost_on, failed_on, upset_on, settled_from};
@@ -60,7 +60,7 @@ impl Holding {
         }
     }
 
-    /// Makes the `call`-th call from now the first that fails.
+    /// Makes the `call`-th write or sync from now the first that fails.
     pub(crate) fn upset(&mut self, call: u64, image: u8)
         requires { 1 ≤ call }
         ensures { self.new ≡ upset_on call image self.old }
@@ -71,7 +71,7 @@ impl Holding {
         });
     }
 
-    /// Counts a call that fails, or that is done.
+    /// Counts a write or sync, done or failed, in the countdown to the fault.
     pub(crate) fn count(&mut self)
         ensures { self.new ≡ failed_on self.old }
     {
@@ -83,7 +83,7 @@ impl Holding {
         }
     }
 
-    /// A write that is done. It returns the end of the write; after an `Err` nothing changed.
+    /// Makes a write that doesn't fail, and returns its end. After an `Err` nothing changed.
     pub(crate) fn write(&mut self, alloc: Global, at: u64, bytes: &[u8]) -> Result<u64, OutOfMemory>
         requires { at ≤ length self.old.bytes }
         ensures end { IfOk result (λ end. end ≡ at + length bytes.now) }
@@ -106,7 +106,7 @@ impl Holding {
         Ok(end)
     }
 
-    /// A write that fails. After an `Err` nothing changed.
+    /// Makes a write that fails, and keeps it if it is the first of those. After an `Err` nothing changed.
     pub(crate) fn lose(&mut self, alloc: Global, at: u64, bytes: &[u8]) -> Result<(), OutOfMemory>
         ensures ok { OnOk result (self.new ≡ lost_on at bytes.now self.old) }
         ensures err { OnErr result (self.new ≡ self.old) }
@@ -122,7 +122,7 @@ impl Holding {
         Ok(())
     }
 
-    /// A sync that is done.
+    /// Makes a sync that doesn't fail.
     pub(crate) fn sync(&mut self)
         ensures { self.new ≡ synced_on self.old }
     {

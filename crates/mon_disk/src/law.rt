@@ -7,9 +7,9 @@ ghost use Rattle.mon_disk.specs.Images.{images, Torn};
 ghost use Rattle.mon_disk.specs.Memory.{from_of, lost_of, seen_of, settled};
 ghost use Rattle.mon_disk.specs.MemoryDisk.{MemoryState, state_of, fails, after_call, upset_by, settle_of};
 
-/// A crash may leave each torn form of what it might have left before a write, even if the write is the first that
-/// fails; what a read gives, after a sync; whatever it might have left, when an injected fault begins; and what a
-/// disk settles to.
+/// After a write, even the first that fails, a crash may leave each torn form of what it might have left before. After
+/// a sync it may leave what a read returns. When a fault is injected, all that it might have left before stays
+/// possible. After the disk has settled it may leave what the disk settled to.
 pub fn law_images()
     ensures written { (d : MemoryState) (at : ℕ) (bytes c e : List ℕ) → fails d.life ≡ false
         → images (state_of d).content c

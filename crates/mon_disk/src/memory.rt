@@ -14,10 +14,10 @@ use mon_types::Stop;
 use std::alloc::Global;
 use std::marker::Model;
 
-/// A disk in memory, empty at first. Contracts see what it holds, what a crash may leave and what calls were made. A
-/// fault can be injected: then it fails from a call on, until it settles to an image that a crash may leave. Beside
-/// what a read gives it takes memory for the writes since the last sync alone; what else it went through is known to
-/// proofs only.
+/// A disk in memory, empty at first. Contracts see what it holds, what a crash may leave and which calls were made. A
+/// fault can be injected: then each call from a given one on fails, until the disk settles to an image that a crash may
+/// leave. Its memory holds what a read returns, the writes since the last sync and the first write that failed; the
+/// rest of its history exists only in proofs.
 #[derive(Drop)]
 pub struct MemoryDisk {
     alloc: Global,
@@ -61,8 +61,9 @@ impl MemoryDisk {
         }
     }
 
-    /// Makes the `call`-th write or sync from now and each later one answer `Failed`. Image 0 of a write that isn't on
-    /// the disk then is nothing of it, 1 all of it, 2 its first half rounded down, 3 a byte 0xA5 for each of its bytes.
+    /// Makes the `call`-th write or sync from now and each later one return `Failed`. `image` is what the disk then
+    /// keeps of each unsynced write: 0 nothing, 1 all, 2 the first half, rounded down, and 3 a byte 0xA5 for each of
+    /// its bytes.
     pub fn upset(&mut self, call: u64, image: u8)
         requires none { self.old.life.upset ≡ None }
         requires first { 1 ≤ call }

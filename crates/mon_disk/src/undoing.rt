@@ -1,4 +1,4 @@
-//! A file before the writes that aren't on the disk, and with the parts of them that an image keeps.
+//! Undoes unsynced writes in a file, and writes the parts of them that an image keeps.
 
 ghost use Rattle.std.specs.Prelude.{◌≡◌, map, reverse, OnOk};
 ghost use Rattle.mon_disk.specs.Memory.{imaged};
@@ -8,7 +8,7 @@ use crate::unsynced::{Unsynced, keep_part, overwrite};
 use mon_bytes::OutOfMemory;
 use std::alloc::Global;
 
-/// Takes a write back.
+/// Undoes a write.
 fn undo(file: &mut Vec<u8>, write: &Unsynced) -> Result<(), OutOfMemory>
     ensures { OnOk result (file.new.items ≡ undone write.now file.old.items) }
 {
@@ -21,7 +21,7 @@ fn undo(file: &mut Vec<u8>, write: &Unsynced) -> Result<(), OutOfMemory>
     Ok(())
 }
 
-/// Takes writes back, the newest first.
+/// Undoes writes, the newest first.
 pub(crate) fn undo_all(file: &mut Vec<u8>, writes: &[Unsynced]) -> Result<(), OutOfMemory>
     ensures { OnOk result (file.new.items ≡ all_undone (reverse writes.now) file.old.items) }
 {
@@ -34,7 +34,7 @@ pub(crate) fn undo_all(file: &mut Vec<u8>, writes: &[Unsynced]) -> Result<(), Ou
     }
 }
 
-/// Puts what an image keeps of each write, the oldest first.
+/// Writes the part of each write that an image keeps, the oldest write first.
 pub(crate) fn keep_parts(
     alloc: Global,
     file: &mut Vec<u8>,

@@ -1,4 +1,4 @@
-//! Writes that aren't on the disk: they are taken back, and put there in part.
+//! Unsynced writes of a disk in memory, and the part of each that an image keeps.
 
 ghost use Rattle.std.specs.Prelude.{◌≡◌, ◌≤◌, map, take, drop, reverse, length, OnOk, OnErr};
 ghost use Rattle.mon_disk.specs.Images.{overwritten};
@@ -7,7 +7,7 @@ ghost use Rattle.mon_disk.specs.Memory.{part, placed, imaged};
 use mon_bytes::{Bytes, OutOfMemory};
 use std::alloc::Global;
 
-/// A write that isn't on the disk, and the bytes that were at its place.
+/// An unsynced write, and the bytes that it overwrote.
 #[derive(Drop)]
 pub(crate) struct Unsynced {
     pub(crate) at: u64,
@@ -41,7 +41,7 @@ pub(crate) fn bytes_at(file: &[u8], at: usize, most: usize) -> &[u8]
     }
 }
 
-/// Puts the part of a write that an image keeps in its place.
+/// Writes the part of a write that an image keeps. After an `Err` the file is unspecified.
 pub(crate) fn keep_part(
     alloc: Global,
     file: &mut Vec<u8>,
