@@ -1,4 +1,4 @@
--- What calls that read answer, over errors of which some say that memory ran out.
+-- The results of calls that read. Some of their errors mean that memory ran out.
 use Rattle.std.specs.Prelude.{◌≡◌, ℕ, Bool, true, false, Result, Ok, Err}
 use Rattle.mon_bytes.specs.declared.cursor.Short.{Short}
 use Rattle.mon_bytes.specs.Reading.{Reading}
@@ -17,7 +17,7 @@ abbrev pub Unless : Bool → Type 0 → Type 0
 Unless true P = Unit {0}
 Unless false P = P
 
--- What a call answered and left is what reading gives, unless memory ran out.
+-- The result of a call, and the place of its cursor after `Ok`, are those of the definition, unless memory ran out.
 abbrev pub Fails : {Y E : Type 0} → (E → Bool) → E → Result Y E → Type 0
 Fails no_memory e read = Unless (no_memory e) (read ≡ Err e)
 

@@ -40,7 +40,7 @@ infixr 20 ◌⊗◌
 abbrev pub ◌⊗◌ : {E A B : Type 0} → Format E A → Format E B → Format E (A × B)
 f ⊗ g = dependent f (λ x. g)
 
--- the same bytes for values of another type, of which these have a spelling
+-- the same bytes for values of another type; of these, the values of this form have an encoding
 abbrev pub seen_as : {E A B : Type 0} → Format E A → (A → B) → (B → A) → (B → Type 0) → Format E B
 seen_as f whole parts Form = record {
   text = λ b. f.text (parts b);

@@ -20,7 +20,7 @@ no_memory refused.OutOfMemory = true
 abbrev pub fitted : {A : Type 0} → Result A Short → Result A MapRefused
 fitted read = at_fault (λ at. refused.Form at) read
 
--- What a call answered and left is what reading gives, unless memory ran out.
+-- The result of a call, and the place of its cursor after `Ok`, are those of the definition, unless memory ran out.
 abbrev pub Fails : {Y : Type 0} → MapRefused → Result Y MapRefused → Type 0
 Fails e read = answers.Fails no_memory e read
 

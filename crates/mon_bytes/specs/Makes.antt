@@ -7,7 +7,7 @@ abbrev pub Refuses : {X : Type 0} → CommandRefused → Result X CommandRefused
 Refuses refused.OutOfMemory wanted = Unit {0}
 Refuses e wanted = wanted ≡ Err e
 
--- a call answers what is wanted, unless memory ran out
+-- a call returns what is wanted, unless memory ran out
 abbrev pub Makes : {X : Type 0} → Result X CommandRefused → Result X CommandRefused → Type 0
 Makes (Ok x) wanted = wanted ≡ Ok x
 Makes (Err e) wanted = Refuses e wanted

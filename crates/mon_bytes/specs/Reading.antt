@@ -33,6 +33,6 @@ pub record Takes (c : Reading) (taken : List ℕ) (after : Reading) : Type 0 whe
   pub parts : c.rest ≡ taken ++ after.rest
   pub bytes : IsBytes after.rest
 
--- a reader finds this before the rest
+-- a reader reads this value, and the rest is left
 abbrev pub Found : {A E : Type 0} → Result (A × Reading) E → A → List ℕ → Type 0
 Found read x rest = (after : Reading) × (after.rest ≡ rest) × (read ≡ Ok (x, after))

@@ -41,13 +41,13 @@ impl Command {
 /// Why a command makes no version.
 #[derive(Clone, Copy, Debug, PartialEq, Eq, Error)]
 pub enum CommandRefused {
-    /// The key that is to go isn't there.
+    /// The key to remove isn't there.
     #[error("no such key")]
     NoSuch,
-    /// The value or text has `len` bytes, above the `most` that are taken.
+    /// The value or text has `len` bytes, more than the `most` that are allowed.
     #[error("{len} bytes, above {most}")]
     TooLong { len: u64, most: u64 },
-    /// The service's map would take this many bytes.
+    /// The service's map would take this many bytes, more than it may.
     #[error("the map would have {would_be} bytes")]
     MapFull { would_be: u64 },
     #[error("out of memory")]

@@ -12,7 +12,7 @@ pub struct Short {
     pub at: usize,
 }
 
-/// Reads numbers, the lowest byte first, and bytes, from left to right. A read that is refused leaves the cursor.
+/// Reads numbers, the lowest byte first, and bytes, from left to right. A refused read doesn't move the cursor.
 #[derive(Drop)]
 pub struct Cursor<'a> {
     bytes: &'a [u8],

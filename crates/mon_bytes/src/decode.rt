@@ -15,7 +15,7 @@ pub trait Decode: Drop + Sized {
     /// How a value is encoded and decoded, and which values have an encoding.
     ghost format: { Format MapRefused Self };
 
-    /// The value that all of the bytes encode.
+    /// The value that all of the bytes encode, or why there is none.
     ghost spelled: { List ℕ → Result Self MapRefused };
 
     /// Reads a value from the front of the cursor. After a refusal the cursor may be anywhere.
@@ -39,7 +39,7 @@ pub trait Decode: Drop + Sized {
     }
 }
 
-/// What was read, if nothing is left.
+/// Returns what was read, if no byte is left, and otherwise refuses the first one.
 #[tactic(auto, unfolding(crate::specs::Forms::ended))]
 fn ended<T: Drop>(value: T, cursor: &Cursor<'_>) -> Result<T, MapRefused>
     ensures { Gives (λ x. x) result (ended (value, cursor.now)) }

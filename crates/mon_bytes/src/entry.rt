@@ -5,7 +5,7 @@ use crate::texts::Bytes;
 use crate::word::{Name, Prefix};
 use std::alloc::Global;
 
-/// What a map holds at a key.
+/// A prefix and key of a map, with the value there.
 #[derive(Drop)]
 pub struct Entry {
     pub prefix: Prefix,

@@ -6,7 +6,7 @@ use crate::texts::Bytes;
 use std::alloc::Global;
 use std::marker::Model;
 
-/// What can be copied, if there is memory for it.
+/// A type whose values can be copied, if there is memory for the copy.
 pub trait TryCopy: Drop + Sized {
     /// An equal value.
     fn try_copy(&self, alloc: Global) -> Result<Self, OutOfMemory>
@@ -56,7 +56,7 @@ impl<T: Drop> Items<T> {
         Items { items }
     }
 
-    /// Appends one. An `Err` leaves the list.
+    /// Appends one. After an `Err` the list is unchanged.
     pub fn push(&mut self, item: T) -> Result<(), OutOfMemory>
         ensures ok { OnOk result (self.new ≡ self.old ++ item ∷ []) }
         ensures err { OnErr result (self.new ≡ self.old) }

@@ -1,5 +1,5 @@
-//! Byte texts with their bounds, reading and writing of little-endian bytes, formats and the decoding of bytes by them, and what the
-//! services are asked.
+//! Byte texts with their bounds, and the reading and writing of little-endian bytes. Formats, and the decoding of bytes
+//! by them. The commands of the services.
 #![tactic(auto)]
 
 mod command;

@@ -10,7 +10,7 @@ use Rattle.mon_tx.specs.Map.{Place, place_cmp, is_within}
 abbrev pub Cell : Type 0
 Cell = Option (List ℕ)
 
--- the cell that is left, after changes that concern it
+-- the cell at a place after changes, or `None` if no change concerns the place
 abbrev pub Decision : Type 0
 Decision = Option Cell
 
@@ -21,7 +21,7 @@ decided (Erase prefix key) at = if eq_by_cmp place_cmp at (prefix, key) then Som
 decided (ErasePrefix prefix) at = if bytes_eq at.0 prefix then Some None else None
 decided (EraseRange prefix from to) at = if bytes_eq at.0 prefix && is_within from to at.1 then Some None else None
 
--- the value afterwards
+-- the cell after a decision; without one it stays as before
 abbrev pub or_before : Decision → Cell → Cell
 or_before None before = before
 or_before (Some answer) before = answer

@@ -19,11 +19,11 @@ no_memory e = false
 abbrev pub cut : {A : Type 0} → Result A Short → Result A TxRefused
 cut read = at_fault (λ at. refused.Cut at) read
 
--- What a call that takes no memory answered and left is what reading gives.
+-- The result of a call that takes no memory, and the place of its cursor after `Ok`, are those of the definition.
 abbrev pub Scans : {X Y : Type 0} → (X → Y) → Result X TxRefused → Reading → Result (Y × Reading) TxRefused → Type 0
 Scans view result new read = answers.Reads (λ e. false) view result new read
 
--- What a call answered and left is what reading gives, unless memory ran out.
+-- The result of a call, and the place of its cursor after `Ok`, are those of the definition, unless memory ran out.
 abbrev pub Reads : {X Y : Type 0} → (X → Y) → Result X TxRefused → Reading → Result (Y × Reading) TxRefused → Type 0
 Reads view result new read = answers.Reads no_memory view result new read
 

@@ -60,7 +60,7 @@ is_local last at = list_any (λ own. eq_by_cmp place_cmp own at) (local_places l
 unfoldable pub shared : Store → Store
 shared m = retain_keys m (λ at. not (is_local (number m Paxos LastCommitted) at))
 
--- whether two names are the same
+-- whether two areas are the same, and whether two keys are
 abbrev pub same_area : Area → Area → Bool
 same_area Paxos Paxos = true
 same_area Kv Kv = true
@@ -85,7 +85,7 @@ same_key (Version v) (Version w) = v == w
 same_key (Full v) (Full w) = v == w
 same_key a b = false
 
--- whether a key is that of a version from `from` up to `to`
+-- whether a key is that of a version from `from` up to but not including `to`
 abbrev pub covers : ℕ → ℕ → Key → Bool
 covers from to (Version v) = nat_le from v && nat_lt v to
 covers from to key = false

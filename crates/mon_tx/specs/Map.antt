@@ -28,18 +28,18 @@ is_digit b = nat_le 48 b && nat_le b 57
 abbrev pub is_decimal : List ℕ → Bool
 is_decimal key = list_all is_digit key && (nat_lt 48 (get_or key 0 0) || length key == 1)
 
--- the decimal number, without padding, of some version from `from` up to `to`
+-- whether a key is the decimal number, without padding, of a version from `from` up to but not including `to`
 unfoldable pub is_within : ℕ → ℕ → List ℕ → Bool
 is_within from to key = is_decimal key && nat_le from (digits_value 10 key) && nat_lt (digits_value 10 key) to
 
--- what one change leaves
+-- the map after one change
 abbrev pub apply_op : Op → Store → Store
 apply_op (Put prefix key value) m = insert m (prefix, key) value
 apply_op (Erase prefix key) m = remove m (prefix, key)
 apply_op (ErasePrefix prefix) m = retain_keys m (λ place. not (bytes_eq place.0 prefix))
 apply_op (EraseRange prefix from to) m = retain_keys m (λ place. not (bytes_eq place.0 prefix && is_within from to place.1))
 
--- what changes leave that are made in order
+-- the map after changes that are made in order
 abbrev pub apply : List Op → Store → Store
 apply [] m = m
 apply (op ∷ ops) m = apply ops (apply_op op m)

@@ -38,8 +38,8 @@ ranges_at format count c = do
   ops ← ops_at format count c
   Ok (list_any is_range ops.0, ops.1)
 
--- the changes that are left of a text of this format: this many, and nothing after them; `ranged` says whether a range was
--- read before
+-- the changes that remain of a text of this format: `left` of them, and nothing after them; `ranged` is true if a range
+-- was read before
 unfoldable pub unread : ℕ → ℕ → Bool → Reading → Result (List Op) TxRefused
 unread format left ranged c = do
   ops ← ops_at format left c
@@ -50,7 +50,7 @@ unread format left ranged c = do
 abbrev pub rest_of : SpelledOps → Result (List Op) TxRefused
 rest_of s = unread s.format s.left s.ranged s.cursor
 
--- What a call returns that reads the next change, if `before` was left to read and `after` still is.
+-- The result of a call that reads the next change: `before` was unread before the call, and `after` is unread after it.
 abbrev pub GoesOn : Result (Option Spelled) TxRefused → Result (List Op) TxRefused → Result (List Op) TxRefused → Type 0
 GoesOn (Ok (Some op)) before after = before ≡ (after >>= λ ops. Ok (change op ∷ ops))
 GoesOn (Ok None) before after = before ≡ Ok []

@@ -22,7 +22,7 @@ fn number_bytes(alloc: Global, n: u64) -> Result<Bytes, OutOfMemory>
 }
 
 impl Transaction {
-    /// Appends a put of a key's value. An `Err` leaves the transaction.
+    /// Appends a put of a key's value. After an `Err` the transaction is unchanged.
     pub fn put(&mut self, area: Area, key: Key, value: Bytes) -> Result<(), OutOfMemory>
         ensures ok { OnOk result (self.new ≡ self.old ++ put area key value ∷ []) }
         ensures err { OnErr result (self.new ≡ self.old) }
@@ -33,8 +33,8 @@ impl Transaction {
         self.push(Op::Put { prefix, key, value })
     }
 
-    /// Appends a put of a number, in eight bytes, the lowest first. A number above 2^62 is put too, and whoever reads
-    /// the key takes it for 0. An `Err` leaves the transaction.
+    /// Appends a put of a number, in eight bytes, the lowest first. A number above 2^62 is put too, but readers of the
+    /// key return 0 for it. After an `Err` the transaction is unchanged.
     pub fn put_number(&mut self, area: Area, key: Key, n: u64) -> Result<(), OutOfMemory>
         ensures ok { OnOk result (self.new ≡ self.old ++ put_number area key n ∷ []) }
         ensures err { OnErr result (self.new ≡ self.old) }
@@ -43,7 +43,7 @@ impl Transaction {
         self.put(area, key, value)
     }
 
-    /// Appends an erasure of a key. An `Err` leaves the transaction.
+    /// Appends an erasure of a key. After an `Err` the transaction is unchanged.
     pub fn erase(&mut self, area: Area, key: Key) -> Result<(), OutOfMemory>
         ensures ok { OnOk result (self.new ≡ self.old ++ erase area key ∷ []) }
         ensures err { OnErr result (self.new ≡ self.old) }
@@ -55,7 +55,7 @@ impl Transaction {
     }
 
     /// Appends an erasure of an area's versions from `from` up to but not including `to`, which has to be above `from`
-    /// and at most 2^62. An `Err` leaves the transaction.
+    /// and at most 2^62. After an `Err` the transaction is unchanged.
     pub fn erase_range(&mut self, area: Area, from: u64, to: u64) -> Result<(), OutOfMemory>
         requires upward { from < to }
         requires most { to ≤ 2 ^ 62 }
@@ -70,7 +70,7 @@ impl Transaction {
         })
     }
 
-    /// Appends all changes of another transaction, in order. After an `Err` some of them are there, the first ones.
+    /// Appends all changes of another transaction, in order. After an `Err` some of the first ones may be there.
     pub fn append(&mut self, changes: &Transaction) -> Result<(), OutOfMemory>
         ensures ok { OnOk result (self.new ≡ self.old ++ changes.now) }
         ensures err { OnErr result ((n : ℕ) × (self.new ≡ self.old ++ take n changes.now)) }

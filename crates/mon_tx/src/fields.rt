@@ -22,7 +22,7 @@ fn graphic_front(bytes: &[u8]) -> usize
     bytes.len()
 }
 
-/// A prefix or a key.
+/// Reads a prefix or a key of at most `limit` bytes, after its length.
 #[tactic(auto, using(crate::proofs::Words::is_word_by), unfolding(crate::specs::Fields::word_at))]
 pub fn word_at<'a>(cursor: &mut Cursor<'a>, limit: usize) -> Result<&'a [u8], TxRefused>
     ensures bytes { Scans (λ x. x.now) result cursor.new (word_at limit cursor.old) }
@@ -42,7 +42,7 @@ pub fn word_at<'a>(cursor: &mut Cursor<'a>, limit: usize) -> Result<&'a [u8], Tx
     Ok(bytes)
 }
 
-/// A value.
+/// Reads a value, after its length in four bytes.
 #[tactic(auto, unfolding(crate::specs::Fields::value_at))]
 pub fn value_at<'a>(cursor: &mut Cursor<'a>) -> Result<&'a [u8], TxRefused>
     ensures bytes { Scans (λ x. x.now) result cursor.new (value_at cursor.old) }
@@ -52,7 +52,7 @@ pub fn value_at<'a>(cursor: &mut Cursor<'a>) -> Result<&'a [u8], TxRefused>
     Ok(cursor.take_bytes(n as usize)?)
 }
 
-/// A number of a range.
+/// Reads a version of a range: a number of at most 2^62.
 #[tactic(auto, unfolding(crate::specs::Fields::version_at))]
 pub fn version_at(cursor: &mut Cursor<'_>) -> Result<Version, TxRefused>
     ensures number { Scans (λ n. n) result cursor.new (version_at cursor.old) }

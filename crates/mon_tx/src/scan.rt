@@ -11,7 +11,7 @@ use crate::refusal::TxRefused;
 use crate::spelled::op_at;
 use mon_bytes::Cursor;
 
-/// Scans over the next change, and says whether it is a range.
+/// Scans over the next change, and returns whether it is a range.
 fn range_at(format: u8, cursor: &mut Cursor<'_>) -> Result<bool, TxRefused>
     ensures { Scans (λ b. b) result cursor.new (range_at format cursor.old) }
 {
@@ -21,7 +21,7 @@ fn range_at(format: u8, cursor: &mut Cursor<'_>) -> Result<bool, TxRefused>
     }
 }
 
-/// Scans over that many changes, and says whether a range is among them.
+/// Scans over that many changes, and returns whether a range is among them.
 fn ranges_at(format: u8, count: u32, cursor: &mut Cursor<'_>) -> Result<bool, TxRefused>
     ensures { Scans (λ b. b) result cursor.new (ranges_at format count cursor.old) }
 {

@@ -87,7 +87,7 @@ fn erase_range_at<'a>(cursor: &mut Cursor<'a>) -> Result<Spelled<'a>, TxRefused>
     }
 }
 
-/// The next change of a text of that format.
+/// Reads the next change of a text of that format. A range is refused in the first format.
 #[tactic(auto, unfolding(crate::specs::Decode::op_at))]
 pub fn op_at<'a>(format: u8, cursor: &mut Cursor<'a>) -> Result<Spelled<'a>, TxRefused>
     ensures op { Scans change result cursor.new (op_at format cursor.old) }
@@ -109,7 +109,7 @@ pub fn op_at<'a>(format: u8, cursor: &mut Cursor<'a>) -> Result<Spelled<'a>, TxR
     }
 }
 
-/// A put of copies.
+/// A put of copies of these bytes.
 fn put_of(alloc: Global, prefix: &[u8], key: &[u8], value: &[u8]) -> Result<Op, OutOfMemory>
     requires prefix { IsTrue (is_prefix prefix.now) }
     requires key { IsTrue (is_name key.now) }
@@ -122,7 +122,7 @@ fn put_of(alloc: Global, prefix: &[u8], key: &[u8], value: &[u8]) -> Result<Op, 
     })
 }
 
-/// An erasure of a copied key.
+/// An erasure of a copy of this key.
 fn erase_of(alloc: Global, prefix: &[u8], key: &[u8]) -> Result<Op, OutOfMemory>
     requires prefix { IsTrue (is_prefix prefix.now) }
     requires key { IsTrue (is_name key.now) }

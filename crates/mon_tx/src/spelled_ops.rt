@@ -22,8 +22,8 @@ pub struct SpelledOps<'a> {
 }
 
 impl<'a> SpelledOps<'a> {
-    /// The changes of a text, of which its format and their number alone are read. An `Err` is what the text is refused
-    /// with.
+    /// Reads the format of a text and the number of its changes, and returns these unread. An `Err` is the refusal of
+    /// the text.
     #[tactic(auto, unfolding(crate::specs::Decode::transaction_of, crate::specs::Decode::ops_of, crate::specs::Spelled::unread))]
     pub fn new(text: &'a [u8]) -> Result<SpelledOps<'a>, TxRefused>
         ensures ok { IfOk result (λ ops. rest_of ops ≡ transaction_of text.now) }
@@ -43,7 +43,7 @@ impl<'a> SpelledOps<'a> {
         })
     }
 
-    /// Whether the text may end after its last change.
+    /// Refuses a text with bytes after its last change, or of the second format without a range.
     fn end(&self) -> Result<(), TxRefused>
         requires { self.now.left ≡ 0 }
         ensures { Gives (λ e. false) (λ _. []) result (rest_of self.now) }
@@ -59,8 +59,8 @@ impl<'a> SpelledOps<'a> {
         Ok(())
     }
 
-    /// The next change, and `None` after the last one, if the text ends well. An `Err` is what the text is refused
-    /// with; after it no more changes may be read.
+    /// Reads the next change, or returns `None` after the last one if the text may end there. An `Err` is the refusal
+    /// of the text; after it no more changes may be read.
     pub fn next_op(&mut self) -> Result<Option<Spelled<'a>>, TxRefused>
         ensures op { GoesOn result (rest_of self.old) (rest_of self.new) }
         ensures fits { IfOk result (λ next. IfSome next (λ op. OpFits (change op))) }

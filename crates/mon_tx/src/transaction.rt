@@ -46,7 +46,7 @@ impl Transaction {
         self.ops.as_slice()
     }
 
-    /// Appends a change. An `Err` leaves the transaction.
+    /// Appends a change. After an `Err` the transaction is unchanged.
     pub fn push(&mut self, op: Op) -> Result<(), OutOfMemory>
         requires { IsTrue (is_upward op) }
         ensures ok { OnOk result (self.new ≡ self.old ++ op ∷ []) }
