@@ -15,7 +15,7 @@ use Rattle.mon_wire.specs.Message.Whole.{kind_of, text, HasText, format_at, kind
 
 -- ---- how they are read
 
--- no number, one, two, a set of ranks, the first and the last of some versions
+-- readers of the numbers that a body begins with: none, one, two, a set of ranks, the first and last of some versions
 abbrev pub none_at : Reader (ℕ × ℕ)
 none_at c = Ok ((0, 0), c)
 

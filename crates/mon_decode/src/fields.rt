@@ -28,7 +28,7 @@ pub(crate) fn read_number<K: Copy>(cursor: &mut Cursor<'_>) -> Result<Number<K>,
     }
 }
 
-/// A number of at most 2^62 that is of none of the numbers' types.
+/// Reads a number of at most 2^62 that has no type of its own.
 pub(crate) fn read_count(cursor: &mut Cursor<'_>) -> Result<u64, MsgRefused>
     ensures number { Reads (λ x. x) result cursor.new (number_at cursor.old) }
     ensures most { IfOk result (λ n. n ≤ 2 ^ 62) }

@@ -116,8 +116,8 @@ fn read_get_chunk(alloc: Global, cursor: &mut Cursor<'_>) -> Result<Body, MsgRef
     Ok(Body::GetChunk { cookie, place })
 }
 
-/// What follows a place. A CHUNK ends with whether the entries are at their end, and a LAST_CHUNK with the provider's
-/// last version.
+/// Reads the body of a CHUNK or a LAST_CHUNK. The one ends with whether the entries are at their end, and the other
+/// with the provider's last version.
 fn read_chunk(alloc: Global, is_last: bool, cursor: &mut Cursor<'_>) -> Result<Body, MsgRefused>
     ensures chunk { is_last ≡ false →
         (n own : ℕ) → Reads (λ x. x) result cursor.new (body_at n own Kind.Chunk cursor.old) }
@@ -164,7 +164,7 @@ fn read_answered(alloc: Global, cursor: &mut Cursor<'_>) -> Result<Body, MsgRefu
     Ok(Body::Reply { id, reply })
 }
 
-/// What follows the header of a message of the monitor `own` of `n`, by its kind.
+/// Reads what follows the header of a message of the monitor `own` of `n`, by its kind.
 pub(crate) fn read_body(
     alloc: Global,
     n: u8,

@@ -28,7 +28,7 @@ fn read_since_version(cursor: &mut Cursor<'_>) -> Result<Request, MsgRefused>
     Ok(Request::Since { service, version })
 }
 
-/// What a client asks.
+/// Reads a client's request.
 #[tactic(auto, unfolding(mon_wire::specs::Message::Client::request_at))]
 pub(crate) fn read_request(alloc: Global, cursor: &mut Cursor<'_>) -> Result<Request, MsgRefused>
     ensures { Reads (λ x. x) result cursor.new (request_at cursor.old) }
@@ -91,7 +91,7 @@ fn read_readable(cursor: &mut Cursor<'_>) -> Result<Reply, MsgRefused>
     Ok(Reply::NotReadable { has, lease })
 }
 
-/// What a leader replies to a forwarded command, after the kind that was read at that place.
+/// Reads what follows the kind in a leader's reply to a forwarded command. The kind was read at `at`.
 fn read_answer(at: usize, kind: u8, cursor: &mut Cursor<'_>) -> Result<Reply, MsgRefused>
     ensures { Reads (λ x. x) result cursor.new (chosen routed_kinds at kind cursor.old) }
 {
@@ -118,7 +118,7 @@ fn read_answer(at: usize, kind: u8, cursor: &mut Cursor<'_>) -> Result<Reply, Ms
     }
 }
 
-/// What a leader answers to a command that was handed on.
+/// Reads a leader's reply to a forwarded command.
 #[tactic(auto, unfolding(mon_wire::specs::Message::Client::routed_at))]
 pub(crate) fn read_routed(cursor: &mut Cursor<'_>) -> Result<Reply, MsgRefused>
     ensures { Reads (λ x. x) result cursor.new (routed_at cursor.old) }
@@ -128,7 +128,7 @@ pub(crate) fn read_routed(cursor: &mut Cursor<'_>) -> Result<Reply, MsgRefused>
     read_answer(at, kind, cursor)
 }
 
-/// What a client is answered.
+/// Reads a reply to a client.
 #[tactic(auto, unfolding(mon_wire::specs::Message::Client::reply_at))]
 pub(crate) fn read_reply(alloc: Global, cursor: &mut Cursor<'_>) -> Result<Reply, MsgRefused>
     ensures { Reads (λ x. x) result cursor.new (reply_at cursor.old) }

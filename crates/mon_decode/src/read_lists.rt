@@ -10,7 +10,7 @@ use mon_tx::Transaction;
 use mon_wire::{MsgKind, MsgRefused};
 use std::alloc::Global;
 
-/// What a list of a message can hold.
+/// A type of the items that a message's list can hold.
 pub(crate) trait Listed: Drop + Sized {
     ghost use Rattle.mon_wire.specs.Message.Format.{Format};
 
@@ -67,7 +67,7 @@ fn read_items<T: Listed>(
     Ok(read)
 }
 
-/// Items with their count.
+/// Reads a list: its count and its items.
 pub(crate) fn read_list<T: Listed>(
     alloc: Global,
     cursor: &mut Cursor<'_>,
@@ -78,7 +78,7 @@ pub(crate) fn read_list<T: Listed>(
     read_items(alloc, count, cursor)
 }
 
-/// At least one item, with their count.
+/// Reads a list that isn't empty: its count and its items.
 pub(crate) fn read_some<T: Listed>(
     alloc: Global,
     cursor: &mut Cursor<'_>,

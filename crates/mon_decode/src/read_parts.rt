@@ -11,7 +11,7 @@ use mon_bytes::{Command, Cursor, Decode, Entry, KeyPlace, MapRefused};
 use mon_wire::{Cookie, MsgKind, MsgRefused, Place, Service, ShownMap, Told};
 use std::alloc::Global;
 
-/// What names a synchronization.
+/// Reads a cookie.
 pub(crate) fn read_cookie(cursor: &mut Cursor<'_>) -> Result<Cookie, MsgRefused>
     ensures { Reads (λ x. x) result cursor.new (cookie.read cursor.old) }
 {
@@ -63,7 +63,7 @@ fn read_key_place(alloc: Global, cursor: &mut Cursor<'_>) -> Result<KeyPlace, Ms
     }
 }
 
-/// How far a synchronization has come.
+/// Reads the place of a synchronization: a version, and a place among the keys.
 pub(crate) fn read_place(alloc: Global, cursor: &mut Cursor<'_>) -> Result<Place, MsgRefused>
     ensures { Reads (λ x. x) result cursor.new (place.read cursor.old) }
 {

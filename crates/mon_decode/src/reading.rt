@@ -146,7 +146,7 @@ fn read_message(alloc: Global, cursor: &mut Cursor<'_>) -> Result<Message, MsgRe
     })
 }
 
-/// The message, if nothing is left.
+/// Returns the message, if no byte is left, and otherwise refuses the first one.
 #[tactic(auto, unfolding(mon_wire::specs::Message::Whole::ended))]
 fn ended(message: Message, cursor: &Cursor<'_>) -> Result<Message, MsgRefused>
     ensures { Gives (λ x. x) result (ended (message, cursor.now)) }

@@ -37,7 +37,7 @@ pub enum Body {
         last: Version,
     },
     /// The answer to a collect: the promise, the versions that are kept, committed values from the version `from` on,
-    /// and the pending value. `whole` says that nothing which the leader lacks was left out.
+    /// and the pending value. `whole` is true if nothing that the leader lacks was left out.
     Last {
         pn: Pn,
         first: Version,

@@ -30,7 +30,7 @@ fn copied_told(pending: &Option<Told>) -> Result<Option<Told>, OutOfMemory>
     }
 }
 
-/// What CHUNK and LAST_CHUNK alike carry.
+/// The fields, apart from the cookie, that CHUNK and LAST_CHUNK have in common.
 struct Carried {
     place: Place,
     values: Items<Transaction>,

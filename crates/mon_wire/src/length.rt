@@ -64,7 +64,7 @@ fn entries_len(entries: &[Entry]) -> usize
     len
 }
 
-/// The length of the table of scores among `n` monitors.
+/// The length of a flag and, if there is one, of the table of scores among `n` monitors.
 fn table_len(n: u8, table: &Option<ScoreTable>) -> usize
     ensures { result ≡ table_length n table.now }
 {
@@ -158,7 +158,7 @@ fn reply_len(reply: &Reply) -> usize
     }
 }
 
-/// The length of what a chunk holds.
+/// The length of a chunk's place, values and entries. It saturates at 2^64 - 1.
 fn chunk_len(place: &Place, values: &[Transaction], entries: &[Entry]) -> usize
     ensures { result ≡ min (place_length place.now + list_length value_length values.now + list_length entry_length entries.now) (2 ^ 64 - 1) }
 {
@@ -220,10 +220,9 @@ impl Message {
     /// How many bytes the message takes, found from its parts, without its encoding. The count saturates at 2^64 - 1.
     /// No memory is taken.
     pub fn len(&self) -> usize
-        // For every message of the form of messages, which has an encoding if that is short enough, it is the
-        // encoding's length.
+        // For a message of the form of messages: the length of its text, even if that is too long to be sent.
         ensures text { IsMessage self.now → result ≡ min (length (text self.now)) (2 ^ 64 - 1) }
-        // The number by the parts, for every message.
+        // For every message: the sum of the lengths of its parts.
         ensures parts { result ≡ min (message_length self.now.monitors self.now.body) (2 ^ 64 - 1) }
     {
         body_len(self.monitors, &self.body).saturating_add(12)

@@ -49,9 +49,9 @@ pub enum Reply {
         incrementals: Items<Bytes>,
         more: bool,
     },
-    /// The key that was to go isn't there.
+    /// The key to remove isn't there.
     NoSuch,
-    /// The value or text has `len` bytes, above the `most` that are taken.
+    /// The value or text has `len` bytes, more than the `most` that are allowed.
     TooLong {
         len: u64,
         most: u64,
@@ -62,7 +62,8 @@ pub enum Reply {
     },
     /// The monitor is in no quorum.
     Unavailable,
-    /// The version `has` can't be read now. `lease` says whether the lease is valid.
+    /// The monitor's last version `has` can't be read now. `lease` is true if the lease is valid or the map has no
+    /// other monitor.
     NotReadable {
         has: Version,
         lease: bool,

@@ -45,7 +45,7 @@ pub(crate) fn write_collect(
     write_number(out, last.get())
 }
 
-/// What a peon has that its leader asked for: whether it is all, the values from version `from` on, and the pending one.
+/// Appends the end of a LAST: whether it is whole, the values from version `from` on, and the pending value.
 pub(crate) fn write_found(
     out: &mut Out,
     whole: bool,

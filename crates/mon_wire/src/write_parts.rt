@@ -54,7 +54,7 @@ pub(crate) fn write_place(out: &mut Out, at: &Place) -> Result<(), OutOfMemory>
     write_key_place(out, &at.key)
 }
 
-/// A key and its value.
+/// Appends a key and its value.
 fn write_set(out: &mut Out, key: &Name, value: &Text) -> Result<(), OutOfMemory>
     requires { length value.now < 2 ^ 32 }
     ensures { OnOk result (out.new ≡ out.old ++ (name ⊗ utf8).text (key.now, value.now)) }
@@ -95,7 +95,7 @@ fn request_byte(request: &Request) -> u8
     }
 }
 
-/// What follows the kind.
+/// Appends what follows the kind of a request.
 fn write_fields(out: &mut Out, request: &Request) -> Result<(), OutOfMemory>
     requires { a_request.Form request.now }
     ensures { OnOk result (out.new ≡ out.old ++ (request_spelled request.now).text) }

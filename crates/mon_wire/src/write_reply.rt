@@ -81,7 +81,7 @@ fn write_since(
     write_blobs(out, incrementals)
 }
 
-/// What follows the kind.
+/// Appends what follows the kind of a reply.
 fn write_fields(out: &mut Out, reply: &Reply) -> Result<(), OutOfMemory>
     requires { a_reply.Form reply.now }
     ensures { OnOk result (out.new ≡ out.old ++ (reply_spelled reply.now).text) }

@@ -24,7 +24,7 @@ faults = record { cut = λ at. refused.At at fault.Cut; value = λ at. refused.A
 abbrev pub cut : {A : Type 0} → Result A Short → Result A MsgRefused
 cut read = answers.at_fault faults.cut read
 
--- What a call answered and left is what reading gives, unless memory ran out.
+-- The result of a call, and the place of its cursor after `Ok`, are those of the definition, unless memory ran out.
 abbrev pub Fails : {Y : Type 0} → MsgRefused → Result Y MsgRefused → Type 0
 Fails e read = answers.Fails no_memory e read
 

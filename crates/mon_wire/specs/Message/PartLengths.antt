@@ -20,7 +20,7 @@ use Rattle.mon_tx.specs.Text.{text}
 use Rattle.mon_tx.specs.declared.op.Op.{Op}
 use Rattle.mon_types.specs.Ranks.{has}
 
--- a byte of length and the bytes, and four bytes of length and the bytes
+-- bytes after their length in one byte, and bytes after their length in four bytes
 abbrev pub word_length : List ℕ → ℕ
 word_length bytes = 1 + length bytes
 
@@ -30,11 +30,11 @@ bytes_length bytes = 4 + length bytes
 abbrev pub value_length : List Op → ℕ
 value_length value = bytes_length (text value)
 
--- two bytes of count and the items
+-- items after their count in two bytes
 abbrev pub list_length : {A : Type 0} → (A → ℕ) → List A → ℕ
 list_length item items = 2 + sum_by item items
 
--- for each of n monitors a boot count, a count and n scores
+-- a flag, and with a table, for each of n monitors, a boot count, a count and n scores
 abbrev pub table_length : ℕ → Option Scores → ℕ
 table_length n None = 1
 table_length n (Some table) = 1 + n * (16 + 4 * n)

@@ -11,7 +11,7 @@ use Rattle.mon_wire.specs.declared.refusal.MsgRefused.TheVariants as refused
 use Rattle.mon_wire.specs.Message.Format.{◌>>=◌, cut, Reader, Format, ◌⊗◌, seen_as, as_parts, items}
 use Rattle.mon_wire.specs.Message.Fields.{numeral}
 
--- fifteen values, of which the first n are sent; the others are always the same
+-- fifteen values: the first n are sent, and the others are `rest`
 unfoldable pub padded_at : {A : Type 0} → ℕ → A → Reader A → Reader (List A)
 padded_at n rest read c = do
   xs ← items read n c
