@@ -33,7 +33,7 @@ held key (Some value) = entry_size (key, value)
 abbrev pub IsPair : List ℕ × List ℕ → Type 0
 IsPair e = IsTrue (is_name e.0) × IsTrue (is_utf8 e.1)
 
--- names in ascending order with texts, and the size of the map's text, which no memory passes
+-- names in ascending order with texts, and the size of the map's text, at most 2^62 since no memory holds more
 pub record IsKept (es : List (String Global × List ℕ)) (size : ℕ) : Type 0 where
   pub sorted : T (is_sorted (slice_cmp nat_cmp) (pairs es))
   pub each : AllByRecursion IsPair (pairs es)

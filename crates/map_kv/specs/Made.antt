@@ -17,7 +17,7 @@ IsOfKv (command.Set key value) = Unit {0}
 IsOfKv (command.Remove key) = Unit {0}
 IsOfKv (command.Log text) = ⊥
 
--- a value that isn't too long, after which the map isn't; a key that is there
+-- the incremental of a command: a value, and the map with it, may not be too long; a key to remove must be there
 abbrev pub made : Kv → Command → Result KvInc CommandRefused
 made m (command.Set key value) =
     if nat_lt MOST_KV_VALUE (length value) then Err (TooLong (length value) MOST_KV_VALUE) else (

@@ -39,7 +39,7 @@ pub record MapFits (m : Kv) : Type 0 where
   pub each : AllByRecursion EntryFits (entries m)
   pub count : len m < 2 ^ 32
 
--- What is asked of an incremental or a map, so that it has a text: the lengths. The rest is true of each.
+-- What encoding requires of an incremental or a map: the lengths. Every value of the types meets the rest of the form.
 abbrev pub IncIsShort : KvInc → Type 0
 IncIsShort (Set key value) = length value < 2 ^ 32
 IncIsShort (Remove key) = Unit {0}

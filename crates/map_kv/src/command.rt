@@ -48,7 +48,7 @@ fn remove(alloc: Global, map: &KvMap, key: &Name) -> Result<KvInc, CommandRefuse
     })
 }
 
-/// The incremental of a command other than `Log`. `NoSuch` comes if and only if a key that isn't there is to be
+/// The incremental of a command other than `Log`. Returns `NoSuch` if and only if a key that isn't there is to be
 /// removed, `TooLong` if and only if a value is longer than 65,536 bytes, and `MapFull` if and only if the value
 /// isn't too long and the map after it would be longer than 393,216 bytes.
 pub fn make(alloc: Global, map: &KvMap, command: &Command) -> Result<KvInc, CommandRefused>

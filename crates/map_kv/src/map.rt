@@ -160,7 +160,7 @@ impl KvMap {
         self.size() + entry_size(key, value) - self.held(key)
     }
 
-    /// Sets the value of a key. A refusal leaves the map.
+    /// Sets the value of a key. After `OutOfMemory` the map is unchanged.
     pub(crate) fn put(&mut self, key: Name, value: Text) -> Result<(), OutOfMemory>
         ensures ok { OnOk result (self.new ≡ insert self.old key value) }
         ensures err { OnErr result (self.new ≡ self.old) }
@@ -174,7 +174,7 @@ impl KvMap {
         Ok(())
     }
 
-    /// Takes a key away, if it is there.
+    /// Removes a key, if it is there.
     fn take(&mut self, key: &str)
         requires { IsTrue (is_name key.now) }
         ensures { self.new ≡ remove self.old key.now }
@@ -184,7 +184,7 @@ impl KvMap {
         }
     }
 
-    /// Takes the step of the incremental. After `OutOfMemory` the map is unchanged.
+    /// Applies the incremental. After `OutOfMemory` the map is unchanged.
     pub fn apply(&mut self, inc: &KvInc) -> Result<(), OutOfMemory>
         ensures ok { OnOk result (self.new ≡ with_inc self.old inc.now) }
         ensures err { OnErr result (self.new ≡ self.old) }

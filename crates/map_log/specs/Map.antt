@@ -4,7 +4,7 @@ use Rattle.map_log.specs.Text.{map_text}
 use Rattle.map_log.specs.declared.surplus.TheConstants.{MOST_ENTRIES, MOST_LOG_MAP}
 use Rattle.map_log.specs.declared.inc.LogInc.{LogInc}
 
--- too many entries, or too long a text
+-- whether a map has too many entries or too long a text
 abbrev pub is_above : List LogInc → Bool
 is_above es = nat_lt MOST_ENTRIES (length es) || nat_lt MOST_LOG_MAP (length (map_text es))
 

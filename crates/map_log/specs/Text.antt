@@ -23,7 +23,7 @@ pub record MapFits (es : List LogInc) : Type 0 where
   pub each : AllByRecursion IncFits es
   pub count : length es < 2 ^ 32
 
--- What is asked of an entry or a map, so that it has a text: the lengths. The rest is true of each.
+-- What encoding requires of an entry or a map: the lengths. Every value of the types meets the rest of the form.
 abbrev pub IncIsShort : LogInc → Type 0
 IncIsShort inc = length inc.text < 2 ^ 32
 
@@ -44,7 +44,7 @@ size_of (inc ∷ es) = inc_size inc + size_of es
 abbrev pub IsEntry : LogInc → Type 0
 IsEntry inc = (inc.rank ≤ 14) × IsTrue (is_utf8 inc.text)
 
--- entries, and the size of the map's text, which no memory passes
+-- entries, and the size of the map's text, at most 2^62 since no memory holds more
 pub record IsKept (es : List LogInc) (size : ℕ) : Type 0 where
   pub each : AllByRecursion IsEntry es
   pub sum : size ≡ 4 + size_of es

@@ -11,7 +11,7 @@ use std::alloc::Global;
 /// The most bytes of a logged text.
 pub const MOST_TEXT: u64 = 1024;
 
-/// The entry of a text that the monitor `rank` is asked to log. `TooLong` comes if and only if the text is longer
+/// The entry of a text that the monitor `rank` is asked to log. Returns `TooLong` if and only if the text is longer
 /// than 1,024 bytes.
 pub fn make(alloc: Global, rank: Rank, text: &Text) -> Result<LogInc, CommandRefused>
     ensures made { Makes result (made rank text.now) }

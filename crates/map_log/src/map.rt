@@ -69,7 +69,7 @@ impl LogMap {
         self.size
     }
 
-    /// Appends an entry and drops none. A refusal leaves the map.
+    /// Appends an entry and drops none. After `OutOfMemory` the map is unchanged.
     pub(crate) fn push(&mut self, inc: LogInc) -> Result<(), OutOfMemory>
         ensures ok { OnOk result (self.new ≡ self.old ++ inc ∷ []) }
         ensures err { OnErr result (self.new ≡ self.old) }

@@ -45,7 +45,7 @@ fn entries_at(alloc: Global, count: u32, cursor: &mut Cursor<'_>) -> Result<LogM
     Ok(map)
 }
 
-/// A map above the limits of `apply` is read as it is.
+/// A map above the limits of `apply` is read in full: decoding drops no entries.
 impl Decode for LogMap {
     ghost use Rattle.map_log.specs.Decode.{map_format, map_of};
 

@@ -1,4 +1,4 @@
--- Counts of faults of the outside, and what the answer Failed goes back to.
+-- Counts of the faults of devices, and what the result Failed means for them.
 use Rattle.std.specs.Prelude.{◌≡◌, ℕ, ◌+◌, ◌-◌, ◌^◌, ◌≤◌, min, Result, Err}
 use Rattle.mon_types.specs.declared.names.Stop.{Stop}
 use Rattle.mon_types.specs.declared.names.Stop.TheVariants.{Failed}

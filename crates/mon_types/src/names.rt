@@ -41,10 +41,10 @@ impl Side {
     }
 }
 
-/// Why a call of a device returned nothing.
+/// Why a call of a device failed.
 #[derive(Clone, Copy, Debug, PartialEq, Eq, Error)]
 pub enum Stop {
-    /// The device failed, and its count of faults rose.
+    /// The device failed, and its count of faults rose, unless it was the greatest 64-bit number.
     #[error("the device failed")]
     Failed,
     #[error("out of memory")]

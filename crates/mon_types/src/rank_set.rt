@@ -114,7 +114,7 @@ impl RankSet {
     }
 }
 
-/// The ranks of a set that are still to come, in ascending order.
+/// An iterator over the ranks of a set, in ascending order.
 #[derive(Drop)]
 pub struct Ranks {
     set: RankSet,
