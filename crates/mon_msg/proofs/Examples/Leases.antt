@@ -1,5 +1,5 @@
--- A leader that awaits no acknowledgements awaits those of the lease that it gives, and one that awaits some goes on to its old end.
--- So one that is cut off steps down.
+-- A leader that gives leases waits for their acknowledgements, and one that already waits keeps the time at which it
+-- gives up. So a leader that is cut off steps down.
 use Rattle.std.proofs.Common.{◌≡◌, ℕ, ◌+◌, ◌^◌, false, Option, Some, None, min, [], ◌∷◌, refl}
 use Rattle.mon_msg.specs.Protocol.Course.{Course, timers_are}
 use Rattle.mon_msg.specs.Protocol.Leading.{extend}

@@ -1,5 +1,5 @@
--- An event under way, and the small steps of which acts and rows are made. A step changes only its own field, and a test on
--- which it depends is inside that field.
+-- An event under way, and the small steps of which acts and rows are made. A step changes only its own field. If the
+-- change depends on a test, the test is in the value of that field, so all other fields compute without it.
 use Rattle.std.specs.Prelude.{ℕ, Bool, nat_le, List, Option, Result, Ok, if◌then◌else◌, ◌^◌, [], ◌∷◌, ◌++◌, Err}
 use Rattle.mon_msg.specs.Protocol.Changes.{Change}
 use Rattle.mon_msg.specs.Protocol.Phases.{phase_of, same_phase}

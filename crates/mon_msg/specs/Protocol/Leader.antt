@@ -60,7 +60,7 @@ module _ (me : Me) (now : ℕ) where
     y ← note f last told x
     if all_answered me y then settle me now y else Ok y
 
-  -- an answer under the leader's own number
+  -- an answer under the leader's own number: its values are learned; if it isn't whole, the leader collects anew
   abbrev pub hear_answer : (f last : ℕ) → Bool → (from : ℕ)
       → List (List Op) → Option Told → Course → Result Course Which
   hear_answer f last whole from values told x = do

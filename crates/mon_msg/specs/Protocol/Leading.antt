@@ -31,8 +31,8 @@ begin_alone me v value o x = do
   Ok (y ▸ leads_in stage.Active ▸ answer_any me o (reply.Done v))
 
 module _ (me : Me) (now : ℕ) where
-  -- The lease is given to all members, and goes on here. A leader that awaits acknowledgements of an earlier lease awaits
-  -- them no longer than before, so one that is cut off steps down.
+  -- The leader extends its lease and gives one to all members. If it still awaits acknowledgements of an earlier lease,
+  -- it waits for no longer than before, so a leader that is cut off steps down.
   unfoldable pub extend : Course → Course
   extend x =
       let peons = members me x.state.leader.quorum in

@@ -23,11 +23,11 @@ of_leader f e x = is_peon x.state.phase && e == epoch_of x.readings && f == x.st
 
 -- ---- promises
 
--- the peon has no lease any more
+-- the peon gives up its lease
 abbrev pub cancel : Course → Course
 cancel x = peon_is (record x.state.peon { lease = None }) x
 
--- a number above its own is promised
+-- a number above the one that was promised is promised
 abbrev pub promise : (pn : ℕ) → Course → Course
 promise pn x = change_if (nat_lt (promise_of x.readings) pn) (Promise pn) x
 

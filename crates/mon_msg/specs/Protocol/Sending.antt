@@ -38,7 +38,7 @@ send me to b x = say (message_to me (epoch_of x.readings) b to ∷ []) x
 abbrev pub reply_to : Session → Reply → Course → Course
 reply_to session r = say (sent.Reply session r ∷ [])
 
--- a session is here; the answer to a command that a peon handed on goes by way of that peon
+-- a session of this monitor gets a reply; the answer to a forwarded command goes to the peon that forwarded it
 abbrev pub answer_to : Me → (epoch : ℕ) → Origin → Reply → Sent
 answer_to me epoch (origin.Session session) r = sent.Reply session r
 answer_to me epoch (origin.Forwarded rank seq) r = message_to me epoch (body.Route seq r) rank

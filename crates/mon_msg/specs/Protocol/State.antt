@@ -30,7 +30,7 @@ pub record State : Type 0 where
   pub requester : Requester
   pub timers : List (Option ℕ)
 
--- the quorum that it is in, or nobody
+-- the quorum that the monitor is in, or the empty set
 abbrev pub quorum_of : State → List Bool
 quorum_of s = if is_peon s.phase then s.peon.quorum else (if is_leading s.phase then s.leader.quorum else no_ranks)
 
