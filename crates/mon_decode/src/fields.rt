@@ -11,7 +11,7 @@ use mon_types::{Number, OfVersion, Rank, RankSet};
 use mon_wire::{MsgKind, MsgRefused, Service};
 use std::alloc::Global;
 
-/// A number of at most 2^62.
+/// Reads a number of at most 2^62.
 #[tactic(auto, unfolding(mon_wire::specs::Message::Fields::number_at))]
 pub(crate) fn read_number<K: Copy>(cursor: &mut Cursor<'_>) -> Result<Number<K>, MsgRefused>
     ensures reads { Reads (λ x. x) result cursor.new (number_at cursor.old) }
@@ -40,7 +40,7 @@ pub(crate) fn read_count(cursor: &mut Cursor<'_>) -> Result<u64, MsgRefused>
     }
 }
 
-/// A byte 0 or 1.
+/// Reads a byte 0 or 1.
 #[tactic(auto, unfolding(mon_wire::specs::Message::Fields::flag_at))]
 pub(crate) fn read_flag(cursor: &mut Cursor<'_>) -> Result<bool, MsgRefused>
     ensures { Reads (λ x. x) result cursor.new (flag_at cursor.old) }
@@ -56,7 +56,7 @@ pub(crate) fn read_flag(cursor: &mut Cursor<'_>) -> Result<bool, MsgRefused>
     Ok(flag == 1)
 }
 
-/// Bytes after their length.
+/// Reads bytes after their length in four bytes.
 #[tactic(auto, unfolding(mon_wire::specs::Message::Fields::blob_at))]
 pub(crate) fn read_slice<'a>(cursor: &mut Cursor<'a>) -> Result<&'a [u8], MsgRefused>
     ensures { Reads (λ x. x.now) result cursor.new (blob_at cursor.old) }
@@ -65,7 +65,7 @@ pub(crate) fn read_slice<'a>(cursor: &mut Cursor<'a>) -> Result<&'a [u8], MsgRef
     Ok(cursor.take_bytes(length as usize)?)
 }
 
-/// Bytes after their length, copied.
+/// Reads bytes after their length in four bytes, and copies them.
 pub(crate) fn read_blob(alloc: Global, cursor: &mut Cursor<'_>) -> Result<Bytes, MsgRefused>
     ensures { Reads (λ x. x) result cursor.new (blob_at cursor.old) }
 {
@@ -74,7 +74,7 @@ pub(crate) fn read_blob(alloc: Global, cursor: &mut Cursor<'_>) -> Result<Bytes,
     Ok(Bytes::new(bytes))
 }
 
-/// UTF-8 after its length.
+/// Reads UTF-8 after its length in four bytes.
 #[tactic(auto, unfolding(mon_wire::specs::Message::Fields::text_at))]
 pub(crate) fn read_utf8(alloc: Global, cursor: &mut Cursor<'_>) -> Result<Text, MsgRefused>
     ensures { Reads (λ x. x) result cursor.new (text_at cursor.old) }
@@ -92,7 +92,7 @@ pub(crate) fn read_utf8(alloc: Global, cursor: &mut Cursor<'_>) -> Result<Text, 
     }
 }
 
-/// A prefix or a key.
+/// Reads a prefix or a key after its length in one byte.
 #[tactic(auto, unfolding(mon_wire::specs::Message::Fields::word_at))]
 pub(crate) fn read_word<const MOST: usize>(
     alloc: Global,
@@ -120,7 +120,7 @@ pub(crate) fn read_word<const MOST: usize>(
     }
 }
 
-/// A transaction's encoding after its length.
+/// Reads a transaction after the length of its encoding in four bytes.
 #[tactic(auto, unfolding(mon_wire::specs::Message::Fields::value_at))]
 pub(crate) fn read_value(alloc: Global, cursor: &mut Cursor<'_>) -> Result<Transaction, MsgRefused>
     ensures { Reads (λ x. x) result cursor.new (value_at cursor.old) }
@@ -138,7 +138,7 @@ pub(crate) fn read_value(alloc: Global, cursor: &mut Cursor<'_>) -> Result<Trans
     }
 }
 
-/// A service's byte.
+/// Reads the byte of a service.
 #[tactic(auto, unfolding(mon_wire::specs::Message::Fields::service_at))]
 pub(crate) fn read_service(cursor: &mut Cursor<'_>) -> Result<Service, MsgRefused>
     ensures { Reads (λ x. x) result cursor.new (service_at cursor.old) }

@@ -28,7 +28,7 @@ fn read_some_told(alloc: Global, cursor: &mut Cursor<'_>) -> Result<Told, MsgRef
     Ok(Told { pn, value })
 }
 
-/// A flag, and with 1 a pending value.
+/// Reads a flag, and with 1 a pending value.
 pub(crate) fn read_told(alloc: Global, cursor: &mut Cursor<'_>) -> Result<Option<Told>, MsgRefused>
     ensures { Reads (λ x. x) result cursor.new ((optional told).read cursor.old) }
 {
@@ -72,7 +72,7 @@ pub(crate) fn read_place(alloc: Global, cursor: &mut Cursor<'_>) -> Result<Place
     Ok(Place { version, key })
 }
 
-/// An entry of the map.
+/// Reads an entry of the map.
 pub(crate) fn read_entry(alloc: Global, cursor: &mut Cursor<'_>) -> Result<Entry, MsgRefused>
     ensures { Reads (λ x. x) result cursor.new (entry.read cursor.old) }
 {
@@ -82,7 +82,7 @@ pub(crate) fn read_entry(alloc: Global, cursor: &mut Cursor<'_>) -> Result<Entry
     Ok(Entry { prefix, key, value })
 }
 
-/// A command.
+/// Reads a command.
 #[tactic(auto, unfolding(mon_wire::specs::Message::Parts::command_at))]
 pub(crate) fn read_command(alloc: Global, cursor: &mut Cursor<'_>) -> Result<Command, MsgRefused>
     ensures { Reads (λ x. x) result cursor.new (command_at cursor.old) }
@@ -107,7 +107,7 @@ pub(crate) fn read_command(alloc: Global, cursor: &mut Cursor<'_>) -> Result<Com
     }
 }
 
-/// A service's map, after the length of its encoding.
+/// Reads a service's map after the length of its encoding.
 #[tactic(auto, unfolding(mon_wire::specs::Message::Parts::shown_map_at))]
 pub(crate) fn read_shown_map(
     alloc: Global,

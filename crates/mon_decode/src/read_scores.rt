@@ -22,7 +22,7 @@ fn is_above(number: u16, n: u8) -> bool
     u32::from(number) >= 1u32 << n
 }
 
-/// A set of ranks below `n`.
+/// Reads a set of ranks below `n`.
 #[tactic(auto, unfolding(mon_wire::specs::Message::Fields::set_at))]
 pub(crate) fn read_set(n: u8, cursor: &mut Cursor<'_>) -> Result<RankSet, MsgRefused>
     requires { n ≤ 15 }
@@ -100,7 +100,7 @@ fn read_scores(n: u8, own: Rank, cursor: &mut Cursor<'_>) -> Result<Scores, MsgR
     Ok(Scores { own, rows })
 }
 
-/// A flag, and with 1 the sender's table.
+/// Reads a flag, and with 1 the sender's table.
 pub(crate) fn read_table(
     alloc: Global,
     n: u8,

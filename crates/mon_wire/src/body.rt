@@ -8,7 +8,7 @@ use mon_bytes::{Command, Entry, Items};
 use mon_tx::Transaction;
 use mon_types::{Pn, RankSet, Version};
 
-/// What a message says.
+/// The body of a message.
 #[derive(Drop)]
 pub enum Body {
     /// How far are you?

@@ -5,16 +5,16 @@ ghost use Rattle.std.specs.Prelude.{◌≡◌};
 use mon_bytes::{OutOfMemory, Short};
 use thiserror::Error;
 
-/// What is wrong with the first field of a message that is at fault.
+/// The fault of the first faulty field of a message.
 #[derive(Clone, Copy, Debug, PartialEq, Eq)]
 pub enum MsgKind {
-    /// It doesn't fit.
+    /// The bytes end before the field does.
     Cut,
     /// The first byte isn't that of this format.
     Format,
     /// No message has this kind.
     Kind,
-    /// There can't be this many monitors, or the sender isn't one of them.
+    /// The number of monitors isn't 1 to 15, or the sender's rank isn't below it.
     From,
     /// A number is above 2^62.
     Number,
