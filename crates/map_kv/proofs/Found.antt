@@ -72,7 +72,7 @@ some_left n before c = refl
 abbrev pub entries_in_order : Entries MapRefused (List ℕ) (List ℕ)
 entries_in_order = record { cmp = slice_cmp nat_cmp; total = nat_list_cmp_total; text = entry_text; Form = EntryFits; one = entry_at; many = entries_at; none = none_left; some = some_left }
 
--- nothing is below each name
+-- the empty text is below each name
 above_nothing : (es : List Entry) → AllByRecursion EntryFits es → T (below_all (slice_cmp nat_cmp) [] es)
 above_nothing [] each = tt
 above_nothing (e ∷ es) each = rw (nothing_first e.0 (name_is_long e.0 each.0.0)) (above_nothing es each.1)

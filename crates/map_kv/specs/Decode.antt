@@ -65,7 +65,7 @@ entries_at (suc n) before c = do
   others ← entries_at n first.0.0 first.1
   Ok (first.0 ∷ others.0, others.1)
 
--- the map that all of the bytes encode. Before the first key there is nothing, which is below each name.
+-- the map that all of the bytes encode; the first key must be above the empty text, as each name is
 unfoldable pub map_of : List ℕ → Result Kv MapRefused
 map_of bytes = do
   count ← fitted (number 4 (record { at = 0; rest = bytes }))

@@ -57,7 +57,7 @@ each_fits (e ∷ es) entry short = ((entry.0.0, entry.0.1, short.0), each_fits e
 pub fits : (es : List LogInc) → AllByRecursion IsEntry es → MapIsShort es → MapFits es
 fits es entry short = record { each = each_fits es entry short.each; count = short.count }
 
--- ---- what goes from the front
+-- ---- what is dropped from the front
 
 pub trimmed-within : (es : List LogInc) → length es ≤ 500 → 4 + size_of es ≤ 12288 → trimmed es ≡ es
 trimmed-within [] few short = refl
@@ -76,7 +76,7 @@ trimmed-above e es (inr long) =
     either true = refl
     either false = refl
 
--- the first of those that are left
+-- the first of the entries that stay
 pub drop_first : (es : List LogInc) (i : ℕ) (d : LogInc) → i < length es → drop i es ≡ get_or es i d ∷ drop (suc i) es
 drop_first [] i d lt = absurd (omega arith)
 drop_first (e ∷ es) zero d lt = refl

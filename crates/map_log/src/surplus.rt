@@ -23,7 +23,7 @@ pub(crate) fn inc_size(inc: &LogInc) -> u64
     inc.text.as_slice().len() as u64 + 5
 }
 
-/// How many entries are dropped from the front, if the map's text has `size` bytes, and how many bytes are left.
+/// How many entries are dropped from the front if the map's text has `size` bytes, and the size of the text after that.
 pub(crate) fn surplus(entries: &[LogInc], size: u64) -> (usize, u64)
     requires { size ≡ 4 + size_of entries.now }
     ensures most { result.0 ≤ length entries.now }

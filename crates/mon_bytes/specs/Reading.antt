@@ -23,7 +23,7 @@ front n c = if nat_lt (length c.rest) n then Err (record { at = c.at }) else Ok 
 abbrev pub number : ℕ → Reading → Result (ℕ × Reading) Short
 number n c = if nat_lt (length c.rest) n then Err (record { at = c.at }) else Ok (little_number n (take n c.rest), moved n c)
 
--- What a cursor's call returned and left, if it should have read `wanted`. A refusal leaves the cursor as it was.
+-- A call on a cursor returned what is `wanted`, and moved the cursor there. A refused call doesn't move the cursor.
 abbrev pub Steps : {X Y : Type 0} → (X → Y) → Result X Short → Reading → Reading → Result (Y × Reading) Short → Type 0
 Steps view (Ok x) old new wanted = wanted ≡ Ok (view x, new)
 Steps view (Err e) old new wanted = (wanted ≡ Err e) × (new ≡ old)

@@ -26,7 +26,7 @@ pub fn read_text(alloc: Global, cursor: &mut Cursor<'_>) -> Result<Text, MapRefu
     Ok(text)
 }
 
-/// Appends a number in four bytes. A refusal leaves the bytes as they were.
+/// Appends a number in four bytes. After an `Err` the bytes are unchanged.
 #[tactic(auto, unfolding(crate::specs::Forms::u32_bytes))]
 pub fn write_count(out: &mut Out, count: u32) -> Result<(), OutOfMemory>
     ensures ok { OnOk result (out.new ≡ out.old ++ u32_bytes count) }
@@ -35,8 +35,8 @@ pub fn write_count(out: &mut Out, count: u32) -> Result<(), OutOfMemory>
     out.put_u32(count)
 }
 
-/// Appends a text with its length in four bytes. It is for texts of fewer than 2 ^ 32 bytes. A refusal leaves the bytes
-/// as they were.
+/// Appends a text with its length in four bytes. It is for texts of fewer than 2 ^ 32 bytes. After an `Err` the bytes
+/// are unchanged.
 #[tactic(auto, unfolding(crate::specs::Forms::u32_bytes))]
 pub fn write_text(out: &mut Out, text: &Text) -> Result<(), OutOfMemory>
     requires { length text.now < 2 ^ 32 }

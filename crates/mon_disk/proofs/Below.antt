@@ -1,4 +1,4 @@
--- What a crash leaves of a disk in memory at least.
+-- What a crash may at least leave of a disk in memory.
 use Rattle.std.proofs.Common.{true, false, ◌≡◌, ℕ, ◌+◌, ◌≤◌, List, [], ◌∷◌, ◌++◌, length, reverse, Option, Some, None, refl, sym, ap, ◌∙◌, subst, arith}
 use Rattle.mon_types.specs.declared.names.Stop.TheVariants.{Failed}
 use Rattle.mon_disk.specs.declared.disk.DiskCall.{DiskCall}

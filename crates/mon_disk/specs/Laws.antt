@@ -5,7 +5,7 @@ use Rattle.mon_disk.specs.Images.{images}
 use Rattle.mon_disk.specs.Memory.{Lived, seen_of, settled}
 use Rattle.mon_disk.specs.MemoryDisk.{MemoryState, Leaves, earlier, content_of, tells}
 
--- now there is the life that goes on
+-- after all earlier points comes the life that goes on
 pub as_now : (lives : List Lived) (life : Lived) → get_or lives (length lives) life ≡ life
 as_now [] life = refl
 as_now (l ∷ lives) life = as_now lives life

@@ -137,8 +137,8 @@ where
         }
     }
 
-    /// Syncs the file, and then looks at its name: a file that lost its name before the system's sync returned is
-    /// noticed before its caller answers or sends anything.
+    /// Syncs the file, and then looks at its name. So a file that lost its name before the system's sync returned is
+    /// noticed before the caller replies or sends anything.
     fn keep(&mut self) -> io::Result<()>
         ensures known { self.new.known ≡ self.old.known }
         ensures faults { self.new.faults ≡ self.old.faults }

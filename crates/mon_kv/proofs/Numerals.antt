@@ -1,4 +1,4 @@
--- What `parse` says of digits, when it fails.
+-- If `parse` fails on digits, their number doesn't fit.
 use Rattle.std.proofs.Common.{◌≡◌, ◌≢◌, ℕ, ◌^◌, ◌≤◌, List, length, Result, Err, IsTrue, inl, inr, arith, rules}
 use Rattle.std.specs.List.{list_all}
 use Rattle.std.specs.Str.Parse.{digits_value, ParsesUnsigned}

@@ -1,4 +1,4 @@
--- When a value is waiting.
+-- A value waits if its version is the next one and its record encodes a transaction.
 use Rattle.std.proofs.Common.{◌≡◌, ℕ, ◌+◌, true, cond, List, Option, Some, None, ap, ◌∙◌}
 use Rattle.std.specs.Option.{option_map}
 use Rattle.std.proofs.lemmas.Bool.{eq-eqb}

@@ -24,8 +24,8 @@ use mon_types::{GREATEST, Version};
 use std::alloc::Global;
 use std::marker::Model;
 
-/// A map from pairs of prefix and key to bytes: one ordered tree of keys for each prefix. A look-up takes the number of
-/// steps that these trees are high.
+/// A map from pairs of prefix and key to bytes: one ordered tree of keys per prefix. A look-up takes at most as many
+/// steps as the two trees are high together.
 #[derive(Drop)]
 pub struct Kv {
     areas: Areas,

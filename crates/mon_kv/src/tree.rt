@@ -69,7 +69,7 @@ impl<V> Tree<V> {
 }
 
 impl<V> Tree<V> {
-    /// The number of entries, counted no further than to `most`.
+    /// The number of entries, or `most` if that is fewer.
     pub(crate) fn count_up_to(&self, most: u64) -> u64
         ensures { result ≡ min most (length (entries self.now)) }
     {

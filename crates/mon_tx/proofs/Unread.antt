@@ -18,7 +18,7 @@ carries true b d e op ops = refl
 carries false true d e op ops = refl
 carries false false d e op ops = refl
 
--- what is left is the next change and what is left then
+-- the unread changes are the next one and those unread after it
 pub goes_on : (format left n : ℕ) (ranged : Bool) (c after : Reading) (op : Op) → left ≡ suc n → op_at format c ≡ Ok (op, after)
     → unread format left ranged c ≡ (unread format n (ranged || is_range op) after >>= λ ops. Ok (op ∷ ops))
 unfolding unread ops_at

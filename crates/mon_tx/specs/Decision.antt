@@ -1,4 +1,4 @@
--- What changes decide of a place: the last of them that speaks of it.
+-- What changes decide about a place: the last change that concerns it decides.
 use Rattle.std.specs.Prelude.{ℕ, ◌&&◌, if◌then◌else◌, List, [], ◌∷◌, Option, Some, None}
 use Rattle.std.specs.Ordering.{eq_by_cmp}
 use Rattle.std.specs.Str.{bytes_eq}

@@ -1,4 +1,4 @@
--- The fields of a transaction's text, and what a call that reads answers.
+-- The fields of a transaction's text, and the results of calls that read.
 use Rattle.std.specs.Prelude.{ℕ, ◌+◌, ◌^◌, Bool, true, false, List, length, Result, Ok, Err, nat_lt, ◌==◌, if◌then◌else◌}
 use Rattle.std.specs.List.{prefix_len}
 use Rattle.mon_bytes.specs.declared.cursor.Short.{Short}

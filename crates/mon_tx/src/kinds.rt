@@ -1,4 +1,4 @@
-//! The byte that a change begins with in a text, which says of which kind it is.
+//! The kinds of changes: the byte with which a change's encoding begins.
 
 /// A put.
 pub(crate) const PUT: u8 = 1;

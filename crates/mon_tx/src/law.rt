@@ -34,7 +34,7 @@ pub fn law_last_decides()
     ensures { (ops : List Op) (m : Store) (at : Place) → get (apply ops m) at ≡ or_before (decision ops at) (get m at) }
 {}
 
-/// A range goes by number: of the decimal keys it takes away those of the versions in it, and no other named key.
+/// A range erases by number, not by the order of texts: the decimal keys of the versions in it, and no other named key.
 pub fn law_range()
     ensures versions { (m : Store) (prefix : List ℕ) (from to v : ℕ)
         → get (apply_op (EraseRange prefix from to) m) (prefix, decimal_text v)

@@ -7,10 +7,10 @@ use thiserror::Error;
 /// Why bytes are no transaction: the first field at fault, at its place.
 #[derive(Clone, Copy, Debug, PartialEq, Eq, Error)]
 pub enum TxRefused {
-    /// The field that begins here doesn't fit.
+    /// The bytes end before the field that begins here does.
     #[error("cut at {at}")]
     Cut { at: usize },
-    /// An unknown format or kind, or a format that the kinds don't call for.
+    /// An unknown format or kind, a range in the first format, or the second format without a range.
     #[error("unknown kind at {at}")]
     Kind { at: usize },
     /// A length outside its bounds, or a byte that isn't graphic.
