@@ -15,9 +15,9 @@ use std::alloc::Global;
 use std::marker::Model;
 
 /// A disk in memory, empty at first. Contracts see what it holds, what a crash may leave and which calls were made. A
-/// fault can be injected: then each call from a given one on fails, until the disk settles to an image that a crash may
-/// leave. Its memory holds what a read returns, the writes since the last sync and the first write that failed; the
-/// rest of its history exists only in proofs.
+/// fault can be injected: then each write and sync from a given one on fails, until the disk settles to an image that a
+/// crash may leave. Its memory holds what a read returns, the writes since the last sync and the first write that
+/// failed; the rest of its history exists only in proofs.
 #[derive(Drop)]
 pub struct MemoryDisk {
     alloc: Global,

@@ -1,5 +1,6 @@
 //! Joins trees, and keeps them balanced. Each call keeps the entries in their order. A tree is balanced if the heights
-//! of the two sides of each node differ by at most one. What is joined of balanced trees is balanced.
+//! of the two sides of each node differ by at most one. All but `fork` make balanced trees of balanced trees. Contracts
+//! state the entries; the balance isn't proved.
 
 ghost use Rattle.std.specs.Prelude.{◌≡◌, [], ◌∷◌, ◌++◌};
 ghost use Rattle.mon_kv.specs.Tree.{entries, node_entries, TakesRoot};
