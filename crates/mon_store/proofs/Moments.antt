@@ -11,26 +11,26 @@ still x = record { later = omega arith; past = λ t c le h. h; kept = λ t c le 
 lasts : (old new : Content) (P : List ℕ → Type 0) → LeavesOnly old new P → Lasts old new
 lasts old new P l = record { later = l.later; past = l.past; kept = l.kept }
 
--- what a disk that stays may leave at each point of the call it may leave now
+-- a disk without calls leaves the same at each point of the call as now
 stays : (x : Content) (t : ℕ) (c : List ℕ) → x.moment ≤ t → t ≤ x.moment → x.images_at t c → images x c
 stays x t c low high left = let same : t ≡ x.moment = omega (arith, low, high) in subst (λ (k : ℕ). x.images_at k c) same left
 
--- the first disk goes on
+-- calls on the first disk alone
 pub first_goes : (old new other : Content) (Q : List ℕ → Type 0) (P : List ℕ → List ℕ → Type 0) → LeavesOnly old new Q → ((c d : List ℕ) → Q c → images other d → P c d) → Meanwhile old other new other P
 first_goes old new other Q P l h =
     record { a = lasts old new Q l; b = still other; each = λ s t c d low high from to left there. h c d (l.each s c low high left) (stays other t d from to there) }
 
--- the second disk goes on
+-- calls on the second disk alone
 pub second_goes : (other old new : Content) (Q : List ℕ → Type 0) (P : List ℕ → List ℕ → Type 0) → LeavesOnly old new Q → ((c d : List ℕ) → images other c → Q d → P c d) → Meanwhile other old other new P
 second_goes other old new Q P l h =
     record { a = still other; b = lasts old new Q l; each = λ s t c d low high from to there left. h c d (stays other s c low high there) (l.each t d from to left) }
 
--- both go on
+-- calls on both disks
 pub both_go : (a a1 b b1 : Content) (Q R : List ℕ → Type 0) (P : List ℕ → List ℕ → Type 0) → LeavesOnly a a1 Q → LeavesOnly b b1 R → ((c d : List ℕ) → Q c → R d → P c d) → Meanwhile a b a1 b1 P
 both_go a a1 b b1 Q R P l k h =
     record { a = lasts a a1 Q l; b = lasts b b1 R k; each = λ s t c d low high from to left there. h c d (l.each s c low high left) (k.each t d from to there) }
 
--- no disk goes on
+-- calls on no disk
 pub none_goes : (a b : Content) (P : List ℕ → List ℕ → Type 0) → EachPair a b P → Meanwhile a b a b P
 none_goes a b P h = record { a = still a; b = still b; each = λ s t c d low high from to left there. h c d (stays a s c low high left) (stays b t d from to there) }
 
@@ -69,7 +69,7 @@ then_first a b a1 b1 a2 Q P m l h = record {
 pub now : (a b c d : Content) (P : List ℕ → List ℕ → Type 0) → Meanwhile a b c d P → EachPair c d P
 now a b c d P m = λ x y left there. m.each c.moment d.moment x y m.a.later (omega arith) m.b.later (omega arith) left there
 
--- what two disks settle to is among that
+-- what two disks settle to is what a crash may leave at the end
 pub settles_too : (x y : Content) (p q : Option Told) (P : List ℕ → List ℕ → Type 0) → EachPair x y P → IfSome p (λ s. images x (s.settles s.made)) → IfSome q (λ t. images y (t.settles t.made))
     → IfSome p (λ s. IfSome q (λ t. P (s.settles s.made) (t.settles t.made)))
 settles_too x y None q P h m n = tt

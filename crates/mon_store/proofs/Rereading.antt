@@ -65,7 +65,7 @@ module _ (x y : Content) (P : List ℕ → List ℕ → Type 0) where
   le_or_ge : (m n : ℕ) → (m ≤ n) ⊎ (n ≤ m)
   le_or_ge m n = grind arith
 
-  -- disk A's moments go on, and leave what it left
+  -- further calls on disk A leave what it left before
   on_a : (a a1 b : Content) → Meanwhile x y a b P → LeavesOnly a a1 (images a) → Meanwhile x y a1 b P
   on_a a a1 b m l = record {
     a = record {

@@ -1,4 +1,4 @@
--- The calls on a disk, by what a store answers.
+-- The calls on a disk, for each result of a store's call.
 use Rattle.std.proofs.Common.{◌≡◌, Bool, true, false, ◌||◌, List, [], ℕ, None, Err, refl}
 use Rattle.mon_disk.specs.declared.disk.DiskCall.{DiskCall}
 use Rattle.mon_disk.specs.Images.{images}
@@ -46,7 +46,7 @@ same_stop T U (Full would_be) calls P R old new outside c p = absurd outside
 same_stop T U DiskFault calls P R old new outside c p = widened P R c p
 same_stop T U OutOfMemory calls P R old new outside c p = widened P R c p
 
--- what comes of it
+-- what a checkpoint's failure returns
 pub refuses : (broken due : Bool) (e : StoreStop) → IsOutside e → broken ≡ false → due ≡ true → Restarts broken due (Err e)
 refuses broken due Broken outside whole is = absurd outside
 refuses broken due (TooLong len) outside whole is = absurd outside

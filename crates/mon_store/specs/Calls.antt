@@ -16,13 +16,13 @@ use Rattle.mon_store.specs.declared.stop.StoreStop.TheVariants.{Broken, TooLong,
 use Rattle.mon_store.specs.Checkpoint.{checkpoint_text}
 use Rattle.mon_store.specs.Sound.{is_due}
 
--- what a journal's refusal is to the store; no call that a store makes here answers NotAStore
+-- the store's stop for a journal's; the calls that write never return NotAStore
 abbrev pub stop_of : Rattle.mon_journal.specs.declared.stop.JournalStop.JournalStop → StoreStop
 stop_of journal.DiskFault = DiskFault
 stop_of (journal.NotAStore at) = DiskFault
 stop_of journal.OutOfMemory = OutOfMemory
 
--- what stopped a store's calls on a disk: nothing, if it refused before them
+-- the disk's stop in a store's call: none if the call succeeded, or was refused before its calls on the disk
 abbrev pub stop_in : {T : Type 0} → Result T StoreStop → Option Stop
 stop_in (Ok x) = None
 stop_in (Err DiskFault) = Some stop.Failed
@@ -50,7 +50,7 @@ abbrev pub journal_after : Journal → List Op → Journal
 journal_after journal [] = journal
 journal_after journal (op ∷ ops) = appended journal (text (op ∷ ops))
 
--- what a transaction's refusal is to the store
+-- the store's stop for a transaction that has no encoding
 abbrev pub unspelled : Rattle.mon_tx.specs.declared.encode.EncodeRefused.EncodeRefused → StoreStop
 unspelled (Rattle.mon_tx.specs.declared.encode.EncodeRefused.TheVariants.TooLong len) = TooLong len
 unspelled Rattle.mon_tx.specs.declared.encode.EncodeRefused.TheVariants.OutOfMemory = OutOfMemory

@@ -2,7 +2,7 @@
 use Rattle.std.specs.Prelude.{ℕ, ◌≤◌, List}
 use Rattle.mon_disk.specs.Images.{Content, images}
 
--- what a crash might have left of a disk at an earlier point stays so
+-- what a crash might have left of a disk at an earlier point doesn't change later
 pub record Lasts (old new : Content) : Type 0 where
   pub later : old.moment ≤ new.moment
   pub past : (t : ℕ) (c : List ℕ) → t ≤ old.moment → new.images_at t c → old.images_at t c
@@ -18,7 +18,7 @@ pub record Meanwhile (old_a old_b new_a new_b : Content) (P : List ℕ → List 
   pub b : Lasts old_b new_b
   pub each : (s t : ℕ) (c d : List ℕ) → old_a.moment ≤ s → s ≤ new_a.moment → old_b.moment ≤ t → t ≤ new_b.moment → new_a.images_at s c → new_b.images_at t d → P c d
 
--- The same of a call that may end on disk A alone. From the switch to A on, disk B was at its last point.
+-- The same of a call that calls disk A alone from some point `turn` of A on. From there disk B is at its last point.
 pub record WhileOpening (old_a old_b new_a new_b : Content) (P : List ℕ → List ℕ → Type 0) : Type 0 where
   pub a : Lasts old_a new_a
   pub b : Lasts old_b new_b

@@ -24,7 +24,7 @@ use Rattle.mon_store.specs.Stood.{opens_as}
 use Rattle.mon_store.specs.Sound.{of_live}
 use Rattle.mon_store.specs.Pair.{Refusal, NotAStore, Stranger, Found, Create, Live, found, stands}
 
--- what a disk was found to hold, and how long it is if it holds nothing
+-- what a disk was found to hold: nothing if it is closed; and the length of a closed disk
 abbrev pub held_in : OnDisk → Option Held
 held_in (disk.Closed len) = None
 held_in (disk.Live journal payloads) = Some (held_by journal payloads)
@@ -38,13 +38,13 @@ abbrev pub found_of : List (List ℕ) → List (List ℕ) → Choice → Found
 found_of p q choice.New = Create
 found_of p q (choice.Live side journal) = Live side (held_by journal (of_live side p q))
 
--- a journal's fault, on its disk
+-- the store's stop for a journal's: NotAStore names the disk too
 abbrev pub named : Side → JournalStop → OpenStop
 named side journal.DiskFault = DiskFault
 named side (journal.NotAStore at) = stop.NotAStore side at
 named side journal.OutOfMemory = OutOfMemory
 
--- What a refusal goes back to: what reading gives, or the outside.
+-- NotAStore and Stranger are what reading the bytes gives. DiskFault and OutOfMemory say nothing of the bytes.
 abbrev pub Tells : {X : Type 0} → OpenStop → Result X Refusal → Type 0
 Tells DiskFault read = Unit {0}
 Tells OutOfMemory read = Unit {0}
@@ -55,7 +55,7 @@ abbrev pub Gives : {X Y : Type 0} → (X → Y) → Result X OpenStop → Result
 Gives view (Ok x) read = read ≡ Ok (view x)
 Gives view (Err e) read = Tells e read
 
--- what stopped opening: nothing, if what the disks hold is refused
+-- the disks' stop that ended an opening: none if it succeeded, or if it refused the bytes
 abbrev pub stop_in : {T : Type 0} → Result T OpenStop → Option Stop
 stop_in (Ok x) = None
 stop_in (Err DiskFault) = Some disk_stop.Failed
@@ -71,11 +71,12 @@ Counts stop old new = (new.faults ≡ faults_after stop old.faults) × MayWant s
 abbrev pub BothCount : Option Stop → DiskState → DiskState → DiskState → DiskState → Type 0
 BothCount stop a b new_a new_b = (Counts stop a new_a × Counts None b new_b) ⊎ (Counts None a new_a × Counts stop b new_b)
 
--- What opening answers, unless the outside refused.
+-- Opening returns what the member opens on these bytes, unless a disk failed or memory ran out.
 abbrev pub Answers : Member → List ℕ → List ℕ → Result Standing OpenStop → Type 0
 Answers member a b result = Gives (λ s. s) result (opens_as member a b)
 
--- what disk A holds if it held that and the two were found so: the first file of a new store, once that is opened
+-- what disk A holds after an opening, given its file before: a new store's first file if one is created and its gate is
+-- open, and otherwise what it held
 abbrev pub first_content : Member → Bool → List ℕ → Result Found Refusal → Option (Result Held JournalStop)
 first_content member true file (Ok Create) = Some (Ok (held_by (created member 1 None) []))
 first_content member opening file place = content file
@@ -95,8 +96,8 @@ pub record AlikePair (member : Member) (a b : Content) (opening : Bool) (c d : L
 abbrev pub Alike : Member → Content → Content → List ℕ → List ℕ → Type 0
 Alike member a b c d = (opening : Bool) × AlikePair member a b opening c d
 
--- What they settle to: the first file is there if its gate is open and more than five calls were made on disk A, the sync
--- with which opening begins, and more than four of its own.
+-- What two disks settle to after an opening. A new store's first file is there if its gate is open and more than five
+-- calls were made on disk A: the sync with which opening begins, and more than four calls of the creation.
 abbrev pub Settled : Member → Content → Content → Told → Told → Told → Type 0
 Settled member a b before now_a now_b =
     AlikePair member a b (slice_index_or (now_a.settles now_a.made) 0 0 == 1 && made_more 5 before now_a) (now_a.settles now_a.made) (now_b.settles now_b.made)
@@ -113,14 +114,14 @@ IsOutside OutOfMemory = Unit {0}
 IsOutside (stop.NotAStore disk at) = ⊥
 IsOutside (stop.Stranger kept asked) = ⊥
 
--- what the bytes alone are refused for
+-- a stop that the bytes alone cause
 abbrev pub IsRefusal : OpenStop → Type 0
 IsRefusal DiskFault = ⊥
 IsRefusal OutOfMemory = ⊥
 IsRefusal (stop.NotAStore disk at) = Unit {0}
 IsRefusal (stop.Stranger kept asked) = Unit {0}
 
--- no disk's fault
+-- any stop but a disk's fault
 abbrev pub IsNoFault : OpenStop → Type 0
 IsNoFault DiskFault = ⊥
 IsNoFault OutOfMemory = Unit {0}

@@ -35,7 +35,8 @@ pub data Found : Type 0 where
   Create : Found
   Live : (side : Side) (held : Held) → Found
 
--- two closed disks are a new store only if they hold no more than a creation that a crash cut short
+-- a store may be created on two closed disks if disk A holds no more than a creation that a crash cut short, and disk B
+-- is empty
 abbrev pub new_store : ℕ → ℕ → Result Found Refusal
 new_store a b = if nat_lt (HEADER + 1) a then Err (NotAStore A 0) else (if nat_lt 0 b then Err (NotAStore B 0) else Ok Create)
 

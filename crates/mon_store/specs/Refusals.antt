@@ -1,4 +1,4 @@
--- What a store's answers go back to.
+-- What causes each result of a store's calls.
 use Rattle.std.specs.Prelude.{◌≡◌, ◌≤◌, ◌<◌, ◌-◌, ◌^◌, min, length, Bool, true, false, List, Result, Ok, Err}
 use Rattle.mon_tx.specs.declared.op.Op.{Op}
 use Rattle.mon_tx.specs.Map.{Store, apply}
@@ -8,7 +8,7 @@ use Rattle.mon_store.specs.declared.stop.StoreStop.{StoreStop}
 use Rattle.mon_store.specs.declared.stop.StoreStop.TheVariants.{Broken, TooLong, Full, DiskFault, OutOfMemory}
 use Rattle.mon_store.specs.Checkpoint.{most_size}
 
--- What each refusal of a transaction goes back to, in the order in which they are tested. After TooLong the map is as it was.
+-- What holds after each refusal of a transaction, in the order of the tests. After TooLong the map is unchanged.
 abbrev pub Refuses : List Op → Store → Store → StoreStop → Type 0
 Refuses ops old new Broken = ⊥
 Refuses ops old new (TooLong len) = (most < length (text ops)) × (len ≡ min (length (text ops)) (2 ^ 64 - 1)) × (new ≡ old)
@@ -31,7 +31,7 @@ breaks (Err (Full would_be)) = true
 breaks (Err DiskFault) = true
 breaks (Err OutOfMemory) = true
 
--- a refusal that comes before the first call on a disk
+-- a refusal that may come before the first call on a disk, if the store isn't broken
 abbrev pub IsEarly : StoreStop → Type 0
 IsEarly Broken = ⊥
 IsEarly (TooLong len) = Unit {0}
@@ -39,7 +39,7 @@ IsEarly (Full would_be) = Unit {0}
 IsEarly DiskFault = ⊥
 IsEarly OutOfMemory = Unit {0}
 
--- after TooLong and Full what a disk holds is what it held
+-- after Broken, TooLong and Full a disk is unchanged
 abbrev pub LeavesDisk : {D : Type 0} → D → D → StoreStop → Type 0
 LeavesDisk old new (TooLong len) = new ≡ old
 LeavesDisk old new (Full would_be) = new ≡ old
@@ -47,8 +47,8 @@ LeavesDisk old new Broken = new ≡ old
 LeavesDisk old new DiskFault = Unit {0}
 LeavesDisk old new OutOfMemory = Unit {0}
 
--- What a store returns that is asked to begin a new journal if one is due: true if it was due, and false if it wasn't. It is
--- Broken if and only if the store was broken before.
+-- What `restart_if_due` returns: whether a checkpoint was due. It is Broken if and only if the store was broken before.
+-- It fails otherwise only if a checkpoint was due.
 abbrev pub Restarts : Bool → Bool → Result Bool StoreStop → Type 0
 Restarts broken due (Ok done) = (broken ≡ false) × (done ≡ due)
 Restarts broken due (Err Broken) = broken ≡ true

@@ -19,7 +19,7 @@ use Rattle.mon_journal.specs.Steps.{ByTest, Stands, ClosedFrom}
 use Rattle.mon_store.specs.Checkpoint.{checkpoint_text, most_size, HasCheckpoint}
 use Rattle.mon_store.specs.Payloads.{map_of}
 
--- of the live one and the other, that of disk A, and that of disk B
+-- what belongs to disk A, and what to disk B, given the live disk's and the other's
 abbrev pub of_a : {X : Type 0} → Side → X → X → X
 of_a A live other = live
 of_a B live other = other
@@ -28,7 +28,7 @@ abbrev pub of_b : {X : Type 0} → Side → X → X → X
 of_b A live other = other
 of_b B live other = live
 
--- of those of disk A and disk B, that of the live one
+-- what belongs to the live disk, given disk A's and disk B's
 abbrev pub of_live : {X : Type 0} → Side → X → X → X
 of_live A a b = a
 of_live B a b = b
@@ -72,8 +72,8 @@ abbrev pub is_first : Form → Bool
 is_first First = true
 is_first Second = false
 
--- A checkpoint is due if the live file has the first header, or is longer than 1,048,576 bytes up to and with its first
--- closed gate and than four times the map's size. No generation passes 2^62.
+-- A checkpoint is due if the generation is below 2^62, and the live file has the first header, or is longer than
+-- 1,048,576 bytes and than four times the map's size. The length counts the bytes up to and with the first closed gate.
 abbrev pub is_due : Journal → Store → Bool
 is_due journal m = nat_lt journal.generation (2 ^ 62) && (is_first journal.form || is_outgrown (journal.next_gate + 1) m)
 
@@ -81,7 +81,8 @@ is_due journal m = nat_lt journal.generation (2 ^ 62) && (is_first journal.form 
 abbrev pub Begins : Content → Journal → Store → List ℕ → Type 0
 Begins x journal m file = images x file ⊎ ClosedFrom x (journal.next_gate + 1) file ⊎ (Holds journal (checkpoint_text m ∷ []) file × HasCheckpoint m)
 
--- and what the disk settles to
+-- What that disk settles to: the new journal if its gate is open and its last write was begun; otherwise what a crash
+-- might have left before, or a closed file.
 abbrev pub BegunAs : Content → Journal → Store → Bool → List ℕ → Type 0
 BegunAs x journal m opening file =
     ByTest (slice_index_or file 0 0 == 1 && opening) (Holds journal (checkpoint_text m ∷ []) file × HasCheckpoint m) (images x file ⊎ ClosedFrom x (journal.next_gate + 1) file)
@@ -90,12 +91,12 @@ BegunAs x journal m opening file =
 abbrev pub next_journal : Journal → Store → Journal
 next_journal journal m = created journal.member (journal.generation + 1) (Some (checkpoint_text m))
 
--- A store is on two images, or its next one is, which a checkpoint begins on the other disk.
+-- Two images hold the store with this journal, or with the next one, which a checkpoint begins on the other disk.
 abbrev pub ThisOrNext : Side → Journal → Store → List ℕ → List ℕ → Type 0
 ThisOrNext side journal m a b = StandsOn side journal m a b ⊎ StandsOn (other_side side) (next_journal journal m) m a b
 
--- The next one is if its gate is open and its last write was begun. Otherwise the other disk holds what a crash might have
--- left before, or is closed.
+-- What two disks hold after a checkpoint. If the other disk's gate is open and its last write was begun, they hold the
+-- next journal. Otherwise they hold this one, and the other disk has what a crash might have left before, or is closed.
 abbrev pub Restarted : Side → Journal → Store → Content → Bool → List ℕ → List ℕ → Type 0
 Restarted side journal m x opening a b =
     let file = of_live (other_side side) a b in

@@ -17,7 +17,7 @@ Stood = Standing
 abbrev pub journal_of : Member → Held → Journal
 journal_of member held = record { member = member; generation = held.header.generation; next_gate = held.next_gate; form = held.header.form }
 
--- with this map, if this was found; where a new store is created on disk A
+-- what is opened with this map if this was found; a new store's live disk is A
 abbrev pub standing_of : Member → Found → Store → Stood
 standing_of member Create m = record { side = A; journal = created member 1 None; kv = m }
 standing_of member (Live side held) m = record { side = side; journal = journal_of member held; kv = m }

@@ -26,7 +26,7 @@ disk_b store = of_b store.side store.live store.other
 abbrev pub disk_of : {D : Type 0} → Side → Store D → D
 disk_of side store = of_live side (disk_a store) (disk_b store)
 
--- After Broken and TooLong a store is as it was, and so it is after an empty transaction.
+-- After Broken, TooLong or an empty transaction a store is as it was.
 abbrev pub Stays : {D T : Type 0} → List Op → Store D → Store D → Result T StoreStop → Type 0
 Stays [] old new (Ok x) = new ≡ old
 Stays (op ∷ ops) old new (Ok x) = Unit {0}
@@ -47,7 +47,7 @@ abbrev pub b_after : {D : Type 0} → Result (Store D) (OpenRefused D) → D
 b_after (Ok store) = disk_b store
 b_after (Err refused) = refused.disks.b
 
--- what is on them, or why there is nothing
+-- the opened store's live disk, journal and map, or why none was opened
 abbrev pub answered : {D : Type 0} → Result (Store D) (OpenRefused D) → Result Standing OpenStop
 answered (Ok store) = Ok (record { side = store.side; journal = store.journal; kv = store.kv })
 answered (Err refused) = Err refused.why

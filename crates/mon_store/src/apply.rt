@@ -57,7 +57,7 @@ pub(crate) fn keep<D: Disk>(
     ensures disk { IfErr result (LeavesDisk disk.old disk.new) }
     ensures large { most_size < size_of (apply tx.now kv.old) → disk.new ≡ disk.old }
 
-    // Its writes and syncs are made. A crash at any point leaves the payloads from before, and the transaction if its
+    // Which writes and syncs were made. A crash at any point leaves the earlier payloads, and the transaction if its
     // gate is open.
     ensures call { let old = D.state disk.old in
         Called (unless_early result (append_calls journal.old.next_gate (text tx.now)))
@@ -69,7 +69,7 @@ pub(crate) fn keep<D: Disk>(
     Ok(())
 }
 
-/// Whether an answer breaks the store.
+/// Whether a result breaks the store: Full, DiskFault and OutOfMemory do.
 pub(crate) fn breaks<T>(answer: &Result<T, StoreStop>) -> bool
     ensures { result ≡ breaks answer.now }
 {
@@ -85,10 +85,10 @@ impl<D: Disk> Store<D> {
     ghost use Rattle.mon_store.specs.Sound.{StandsOn, BeforeOrAfter};
     ghost use Rattle.mon_store.specs.Whole.{IsSound, disk_a, disk_b, Stays};
 
-    /// Makes a transaction's changes: in the map, and with a record on the live disk. An empty one makes no call on a
-    /// disk. Broken is returned if an earlier call broke the store, and then TooLong, if the text passes 4,194,304
-    /// bytes; then nothing changed. Each later refusal breaks the store: OutOfMemory; Full, if the map would be too
-    /// large; DiskFault. After DiskFault, and after OutOfMemory, the disks represent the old map or the new one.
+    /// Applies a transaction to the map, and appends its record on the live disk. An empty transaction makes no call on
+    /// a disk. Broken is returned if an earlier call broke the store, and TooLong if the text passes 4,194,304 bytes;
+    /// nothing changes then. The other errors break the store: OutOfMemory; Full, if the map would be larger than
+    /// 268,435,456; DiskFault. After DiskFault or OutOfMemory the disks represent the old map or the new one.
     pub fn apply(&mut self, tx: &Transaction) -> Result<(), StoreStop>
         requires { IsSound D.state self.old }
         ensures sound { IsSound D.state self.new }
@@ -103,14 +103,14 @@ impl<D: Disk> Store<D> {
             (D.state (disk_a self.new)).content (D.state (disk_b self.new)).content
             (BeforeOrAfter self.old.side self.old.journal self.old.kv tx.now) }
 
-        // What the disks settle to as well, if their contents can be seen.
+        // The same holds of what the disks settle to, if their calls and contents can be seen.
         ensures settles { self.old.broken ≡ false → IsTrue (is_some (D.state self.old.live).content.seen)
             → IfSome (D.state (disk_a self.new)).told
             (λ s. IfSome (D.state (disk_b self.new)).told
             (λ t. BeforeOrAfter self.old.side self.old.journal self.old.kv tx.now (s.settles s.made)
             (t.settles t.made))) }
 
-        // After Ok it leaves only the store as it is now.
+        // After Ok a crash leaves only the store as it is now.
         ensures safe { OnOk result (EachPair (D.state (disk_a self.new)).content (D.state (disk_b self.new)).content
             (StandsOn self.new.side self.new.journal self.new.kv)) }
 
@@ -118,14 +118,14 @@ impl<D: Disk> Store<D> {
         ensures journal_err { OnErr result (self.new.journal ≡ self.old.journal) }
         ensures disk { IfErr result (LeavesDisk self.old.live self.new.live) }
 
-        // A map that would be too large leaves the disks, whatever is answered.
+        // If the map would be too large, the live disk is unchanged, whatever is returned.
         ensures large { most_size < size_of (apply tx.now self.old.kv) → self.new.live ≡ self.old.live }
 
         ensures other { self.new.other ≡ self.old.other }
         ensures side { self.new.side ≡ self.old.side }
 
-        // Which writes and syncs were made on the live disk, and what it counted. Want of memory that it didn't count
-        // came before the first of them.
+        // Which writes and syncs were made on the live disk, and what it counted. After OutOfMemory the live disk is
+        // unchanged, or it counted the failed allocation.
         ensures call { Called (unless_early result (apply_calls self.old.journal.next_gate tx.now)) Any (stop_in result)
             (D.state self.old.live) (D.state self.new.live) }
         ensures no_memory { WantsFirst D.state StoreStop.OutOfMemory result self.old.live self.new.live }

@@ -22,7 +22,8 @@ pub(crate) enum Choice {
     Live { side: Side, journal: Journal },
 }
 
-/// Two closed disks are a new store only if they hold no more than a creation that a crash cut short.
+/// A store may be created on two closed disks if disk A holds no more than a creation that a crash cut short, and disk
+/// B is empty.
 fn new_store(a: u64, b: u64) -> Result<Choice, OpenStop>
     ensures found { (p q : List (List ℕ)) → Gives (found_of p q) result (new_store a b) }
     ensures refused { IfErr result IsRefusal }
@@ -64,7 +65,8 @@ fn newer(a: Journal, b: Journal) -> Result<Choice, OpenStop>
     })
 }
 
-/// The open disk is live, and of two that one with the greater generation, whichever payloads they have.
+/// Chooses the live disk: the only open one, or of two open ones that with the greater generation. The payloads don't
+/// matter.
 pub(crate) fn choose(a: Opened, b: Opened) -> Result<Choice, OpenStop>
     ensures found { (p q : List (List ℕ)) → let x = with_payloads p a in let y = with_payloads q b in
         Gives (found_of p q) result (chosen (held_in x) (held_in y) (len_of x) (len_of y)) }

@@ -67,8 +67,8 @@ impl<D: Disk> Store<D> {
             → WhileOpening (D.state disks.a).content (D.state disks.b).content (D.state (a_after result)).content
             (D.state (b_after result)).content (Alike member (D.state disks.a).content (D.state disks.b).content) }
 
-        // What the disks settle to as well, if their contents can be seen: the first file is there if its gate is
-        // open and its last write was begun.
+        // The same holds of what the disks settle to, if their calls and contents can be seen. A new store's first file
+        // is there if its gate is open and its last write was begun.
         ensures settles { IsTrue (is_some (D.state disks.a).content.seen)
             → IsTrue (is_some (D.state disks.b).content.seen)
             → IfSome (D.state disks.a).told

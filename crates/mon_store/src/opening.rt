@@ -26,7 +26,7 @@ use mon_kv::Kv;
 use mon_types::{Member, Side};
 use std::alloc::Global;
 
-/// A journal's fault, on its disk.
+/// The store's stop for a journal's: NotAStore names the disk too.
 fn named(side: Side, stop: JournalStop) -> OpenStop
     ensures { result ≡ named side stop }
 {

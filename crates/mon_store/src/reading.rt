@@ -112,8 +112,8 @@ fn map_at(alloc: Global, cursor: &mut Cursor<'_>) -> Result<Kv, MapRefused>
     entries_at(alloc, count, cursor)
 }
 
-/// The map that a checkpoint encodes, which must be all that is left. `Form` names the first byte of the first faulty
-/// field. Its time is that of one look-up for each entry.
+/// Decodes a checkpoint, after which no byte may follow. `Form` names the first byte of the first faulty field. Time:
+/// one look-up per entry.
 #[tactic(auto, unfolding(crate::specs::Decode::checkpoint_of, mon_bytes::specs::Forms::ended))]
 pub fn read_checkpoint(alloc: Global, cursor: &mut Cursor<'_>) -> Result<Kv, MapRefused>
     ensures { Gives (λ kv. kv) result (checkpoint_of cursor.old) }

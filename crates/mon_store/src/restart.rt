@@ -29,8 +29,8 @@ fn is_first(form: Form) -> bool
     }
 }
 
-/// Whether a checkpoint is due: the live file has the first header, or is long, and longer than four times what the map
-/// counts with.
+/// Whether a checkpoint is due: the generation is below 2^62, and the live file has the first header, or is longer than
+/// 1,048,576 bytes and than four times the map's size.
 fn is_due(journal: &Journal, kv: &Kv) -> bool
     ensures { result ≡ is_due journal.now kv.now }
 {
@@ -41,7 +41,7 @@ fn is_due(journal: &Journal, kv: &Kv) -> bool
         || (journal.next_gate >= LEAST_LENGTH && journal.next_gate / 4 >= kv.size())
 }
 
-/// The checkpoint of a map, as bytes. It takes memory for the bytes alone.
+/// Encodes a map as a checkpoint. It takes memory for the bytes alone.
 pub fn checkpoint_bytes(alloc: Global, kv: &Kv) -> Result<Vec<u8>, OutOfMemory>
     requires { size_of kv.now ≤ most_size }
     ensures text { IfOk result (λ bytes. bytes.items ≡ checkpoint_text kv.now) }
@@ -68,13 +68,14 @@ pub(crate) fn begin<D: Disk>(
     ensures outside { IfErr result IsOutside }
     ensures no_memory { WantsFirst D.state StoreStop.OutOfMemory result disk.old disk.new }
 
-    // Its writes and syncs are made. A crash at any point leaves what it might have left before, a closed file, or
+    // Which writes and syncs were made. A crash at any point leaves what it might have left before, a closed file, or
     // the new journal.
     ensures call { let old = D.state disk.old in
         Called (create_calls (owner_of journal.now.member) (journal.now.generation + 1) (Some (checkpoint_text kv.now)))
         (Begins old.content (next_journal journal.now kv.now) kv.now) (stop_in result) old (D.state disk.new) }
 
-    // The disk settles to the new one if its gate is open then and more than four of the calls were made.
+    // If the gate of the settled file is open and more than four calls were made, the disk settles to the new journal.
+    // Otherwise it settles to what a crash might have left before, or to a closed file.
     ensures settles { IfSome (D.state disk.old).told
         (λ s. IfSome (D.state disk.new).told
         (λ t. BegunAs (D.state disk.old).content (next_journal journal.now kv.now) kv.now (made_more 4 s t)
@@ -91,10 +92,11 @@ impl<D: Disk> Store<D> {
     ghost use Rattle.mon_store.specs.Calls.{restart_calls};
     ghost use Rattle.mon_store.specs.Whole.{IsSound, disk_a, disk_b, disk_of};
 
-    /// Begins a new journal on the other disk, if a checkpoint is due, and then that disk is live. It returns whether
-    /// one was due. A checkpoint is due if the live generation is below 2^62, and the live file has the first header,
-    /// or is longer than 1,048,576 bytes and than four times the map's size, up to and with its first closed gate.
-    /// Broken is returned if an earlier call broke the store. DiskFault and OutOfMemory break it.
+    /// Begins a new journal on the other disk if a checkpoint is due. After that the other disk is live. Returns
+    /// whether a checkpoint was due. It is due if the live generation is below 2^62, and the live file has the first
+    /// header, or is longer than 1,048,576 bytes and than four times the map's size. The length counts the bytes up to
+    /// and with the first closed gate. Broken is returned if an earlier call broke the store. DiskFault and OutOfMemory
+    /// break it.
     pub fn restart_if_due(&mut self) -> Result<bool, StoreStop>
         requires { IsSound D.state self.old }
         ensures sound { IsSound D.state self.new }
@@ -103,13 +105,15 @@ impl<D: Disk> Store<D> {
         ensures map { self.new.kv ≡ self.old.kv }
         ensures refused { result ≡ Err StoreStop.Broken → self.new ≡ self.old }
 
-        // A crash at any point leaves the store as it was, or on the other disk with the next journal.
+        // A crash at any point leaves the store as it was, or as it is after the checkpoint, on the other disk.
         ensures any_moment { self.old.broken ≡ false
             → Meanwhile (D.state (disk_a self.old)).content (D.state (disk_b self.old)).content
             (D.state (disk_a self.new)).content (D.state (disk_b self.new)).content
             (ThisOrNext self.old.side self.old.journal self.old.kv) }
 
-        // The disks settle to the next one if its gate is open then and more than four of the calls were made.
+        // If the gate of the other disk is open and more than four calls were made on it, the disks settle to the next
+        // journal. Otherwise they settle to this one, and the other disk to what it might have held before, or to a
+        // closed file.
         ensures settles { self.old.broken ≡ false
             → IfSome (D.state (disk_of self.old.side self.new)).told
             (λ l. IfSome (D.state self.old.other).told
@@ -121,13 +125,13 @@ impl<D: Disk> Store<D> {
         ensures safe { OnOk result (EachPair (D.state (disk_a self.new)).content (D.state (disk_b self.new)).content
             (StandsOn self.new.side self.new.journal self.new.kv)) }
 
-        // If one was due, the other disk is live.
+        // If a checkpoint was due and succeeded, the other disk is live.
         ensures live { result ≡ Ok true → self.new.side ≡ other_side self.old.side }
         ensures journal { result ≡ Ok true → self.new.journal ≡ next_journal self.old.journal self.old.kv }
         ensures same { result ≡ Ok false → self.new ≡ self.old }
 
-        // Which writes and syncs were made on the other disk, and what it counted. Want of memory that it didn't count
-        // came before the first of them. The live one stays as it is.
+        // Which writes and syncs were made on the other disk, and what it counted. After OutOfMemory the other disk is
+        // unchanged, or it counted the failed allocation. The live disk is unchanged.
         ensures call { Called (unless_early result (restart_calls self.old.journal self.old.kv)) Any (stop_in result)
             (D.state self.old.other) (D.state (disk_of (other_side self.old.side) self.new)) }
         ensures no_memory { WantsFirst D.state StoreStop.OutOfMemory result self.old.other

@@ -5,7 +5,7 @@ use mon_tx::EncodeRefused;
 use mon_types::{Member, Side};
 use thiserror::Error;
 
-/// Why a store makes no change.
+/// Why a store refused a change.
 #[derive(Clone, Copy, Debug, PartialEq, Eq, Error)]
 pub enum StoreStop {
     /// An earlier call broke the store. It has to be closed, and opened again.
@@ -14,13 +14,13 @@ pub enum StoreStop {
     /// The transaction's text would have `len` bytes, above 4,194,304. Nothing changed.
     #[error("a transaction of {len} bytes")]
     TooLong { len: u64 },
-    /// The map would count with `would_be`, above 268,435,456. The disks are as they were, and the store is broken.
+    /// The map would have the size `would_be`, above 268,435,456. The disks are unchanged, and the store is broken.
     #[error("the map would count with {would_be}")]
     Full { would_be: u64 },
     /// A disk failed, and the store is broken.
     #[error("a disk failed")]
     DiskFault,
-    /// The store is broken.
+    /// Memory ran out, and the store is broken.
     #[error("out of memory")]
     OutOfMemory,
 }
@@ -45,7 +45,7 @@ impl From<JournalStop> for StoreStop {
     fn from(s: JournalStop) -> StoreStop {
         match s {
             JournalStop::OutOfMemory => StoreStop::OutOfMemory,
-            // No call that a store makes here answers NotAStore.
+            // The journal's calls that write never return NotAStore.
             JournalStop::DiskFault | JournalStop::NotAStore { .. } => StoreStop::DiskFault,
         }
     }
@@ -65,15 +65,15 @@ impl From<EncodeRefused> for StoreStop {
     }
 }
 
-/// Why two disks are no store of this member.
+/// Why no store of this member was opened on two disks.
 #[derive(Clone, Copy, Debug, PartialEq, Eq, Error)]
 pub enum OpenStop {
     /// A disk failed.
     #[error("a disk failed")]
     DiskFault,
-    /// What begins at this offset of that disk isn't what a store has there. Two open files with the same generation
-    /// are named as disk B at 0. Two closed files on which no store may be created are named as disk A at 0 if it has
-    /// more than 26 bytes, and otherwise as disk B at 0.
+    /// The field or payload that begins at offset `at` of `disk` is cut short or invalid. Two open files with the same
+    /// generation are reported as disk B at 0. Two closed files on which no store may be created are reported as disk A
+    /// at 0 if disk A has more than 26 bytes, and otherwise as disk B at 0.
     #[error("disk {disk:?} is no store, at {at}")]
     NotAStore { disk: Side, at: u64 },
     /// The store is another member's.
@@ -83,7 +83,7 @@ pub enum OpenStop {
     OutOfMemory,
 }
 
-/// What an opening that was refused hands back.
+/// Why an opening was refused, with the two disks that it was given.
 #[derive(Drop)]
 pub struct OpenRefused<D> {
     pub why: OpenStop,
