@@ -34,7 +34,7 @@ at_least (call ∷ calls) old new stop some (inr (inl made)) = omega (arith, ap 
 at_least (call ∷ calls) old new stop some (inr (inr made)) =
     omega (arith, at_least calls (and_made call old) new stop (told_more call old some).1 made.1, (told_more call old some).0)
 
--- where all went well
+-- after calls of which none failed, all are counted
 pub all_made : (calls : List DiskCall) (old new : Option Told) → is_some old ≡ true → Makes calls None old new → (count new ≡ count old + length calls) × (is_some new ≡ true)
 all_made [] old new some made = (omega (arith, ap count made.0), ap is_some made.0 ∙ some)
 all_made (call ∷ calls) old new some (inl made) = absurd cc
@@ -44,7 +44,7 @@ all_made (call ∷ calls) old new some (inr (inr made)) =
     let rest = all_made calls (and_made call old) new m.1 made.1 in
     (omega (arith, rest.0, m.0), rest.1)
 
--- none was, or one at least
+-- no call was made, or at least one
 pub begun : (call : DiskCall) (calls : List DiskCall) (old new : Option Told) (stop : Option Stop) → is_some old ≡ true → Makes (call ∷ calls) stop old new → (new ≡ old) ⊎ (count old < count new)
 begun call calls old new stop some (inl made) = inl made.1
 begun call calls old new stop some (inr (inl made)) = inr (omega (arith, ap count made.1, (told_more call old some).0))
@@ -52,7 +52,7 @@ begun call calls old new stop some (inr (inr made)) =
     let m = told_more call old some in
     inr (omega (arith, at_least calls (and_made call old) new stop m.1 made.1, m.0))
 
--- what a call that wasn't made leaves, and what one that was
+-- if one call was refused and no call was counted, memory ran out
 pub refused : (P : Type 0) (call : DiskCall) (stop : Stop) (before now : Option Told) → Makes (call ∷ []) (Some stop) before now → (stop ≡ OutOfMemory → P) → IfSome before (λ s. now ≡ Some s → P)
 refused P call stop None now made none = tt
 refused P call stop (Some s) now (inl made) none = λ same. none (let is : Some stop ≡ Some OutOfMemory = made.0 in cc)
@@ -66,7 +66,7 @@ done_before P call next stop (Some s) mid now first second = λ same.
     let more = at_least (next ∷ []) mid now stop m.1 second in
     absurd (omega (arith, m.0, more, ap count same))
 
--- what a disk settles to, if few calls were made
+-- what a disk settles to if at most n calls were made
 pub few : (n : ℕ) (old now : Option Told) (new : Content) (P : Bool → List ℕ → Type 0) → count now ≤ count old + n → ((c : List ℕ) → images new c → P false c) → IfSome now (λ t. images new (t.settles t.made))
     → IfSome old (λ s. IfSome now (λ t. P (made_more n s t) (t.settles t.made)))
 few n None now new P most h settled = tt
@@ -75,7 +75,7 @@ few n (Some s) (Some t) new P most h settled =
     let not : ltb (length s.made + n) (length t.made) ≡ false = le-ltb _ _ most in
     subst (λ (b : Bool). P b (t.settles t.made)) (sym not) (h (t.settles t.made) settled)
 
--- and where more may have been
+-- and if more calls may have been made
 pub more : (n : ℕ) (old mid now : Option Told) (new : Content) (P : Bool → List ℕ → Type 0) (NoNew : Type 0) → (is_some old ≡ true → count mid ≡ count old + n) → (is_some old ≡ true → (now ≡ mid) ⊎ (count mid < count now))
     → IfSome mid (λ s. now ≡ Some s → NoNew) → ((opening : Bool) → (opening ≡ false → NoNew) → (c : List ℕ) → images new c → P opening c) → IfSome now (λ t. images new (t.settles t.made))
     → IfSome old (λ s. IfSome now (λ t. P (made_more n s t) (t.settles t.made)))

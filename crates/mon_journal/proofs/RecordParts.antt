@@ -80,8 +80,8 @@ at_open at rest x e =
     ∙ ap (λ (r : Result (List ℕ × Reading) JournalStop). r >>= λ p. with_front (p.0 ∷ []) (records (length rest) p.1)) e
     ∙ ap (λ (r : Found). with_front (x.0 ∷ []) r) (enough (length rest) (length x.1.rest) x.1.at x.1.rest less (omega arith))
 
--- The records before the first closed gate, that gate, and what follows it. Behind the same records others are read as they
--- are.
+-- The records before the first closed gate, that gate, and what follows it. After the same records other bytes are read
+-- in the same way.
 pub record Parts (c : Reading) (x : List (List ℕ) × ℕ) : Type 0 where
   pub before : List ℕ
   pub gate : ℕ
@@ -107,7 +107,7 @@ pub no_records : (at : ℕ) (rest : List ℕ) (x : List (List ℕ) × ℕ) → r
 unfolding records
 no_records at rest x e = cc
 
--- a record in front
+-- with one more record before them
 one_more : (at : ℕ) (rest : List ℕ) (p : List ℕ × Reading) (y : List (List ℕ) × ℕ) → payload_at (from (at + 1) rest) ≡ Ok p → Parts p.1 y → Parts (from at (1 ∷ rest)) (p.0 ∷ y.0, y.1)
 one_more at rest p y e q =
     let l = payload_local (from (at + 1) rest) p e in

@@ -1,4 +1,4 @@
--- A disk's stop, as a journal hands it on.
+-- The journal's stop for a disk's.
 use Rattle.std.proofs.Common.{◌≡◌, List, ℕ, Option, Some, Err, refl}
 use Rattle.mon_types.specs.declared.names.Stop.{Stop}
 use Rattle.mon_types.specs.declared.names.Stop.TheVariants.{Failed, OutOfMemory}

@@ -34,11 +34,11 @@ records (suc n) c = do
     others ← records n payload.1
     Ok (payload.0 ∷ others.0, others.1)) else Ok ([], c.at)
 
--- payloads in front of those that are found
+-- these payloads, and then those that are found
 abbrev pub with_front : List (List ℕ) → Result (List (List ℕ) × ℕ) JournalStop → Result (List (List ℕ) × ℕ) JournalStop
 with_front payloads found = found >>= λ x. Ok (payloads ++ x.0, x.1)
 
--- of all the records: each takes a byte at least
+-- the same for all records: each takes at least one byte, so a file has no more records than bytes
 unfoldable pub records_at : Reading → Result (List (List ℕ) × ℕ) JournalStop
 records_at c = records (length c.rest) c
 
@@ -109,7 +109,7 @@ abbrev pub Gives : {X Y : Type 0} → (X → Y) → Result X JournalStop → Res
 Gives view (Ok x) read = read ≡ Ok (view x)
 Gives view (Err e) read = Fails e read
 
--- What a call answered is what reading gives, but for the payloads.
+-- What a call returned is what reading gives, except for the payloads.
 abbrev pub Finds : {X Y : Type 0} → (X → List (List ℕ) → Y) → Result X JournalStop → Result Y JournalStop → Type 0
 Finds view (Ok x) read = (payloads : List (List ℕ)) × (read ≡ Ok (view x payloads))
 Finds view (Err e) read = Fails e read
@@ -134,7 +134,7 @@ HeadAt (Ok None) c = records_at c ≡ Ok ([], c.at)
 HeadAt (Ok (Some n)) c = records_at c ≡ with_front (take n (drop 5 c.rest) ∷ []) (records_at (moved (5 + n) c))
 HeadAt (Err e) c = Fails e (records_at c)
 
--- a file is a store's
+-- a file is open, and each field up to its first closed gate is valid
 abbrev pub IsStore : List ℕ → Type 0
 IsStore file = (held : Held) × (content file ≡ Some (Ok held))
 
@@ -147,7 +147,8 @@ abbrev pub IsNext : Option (List ℕ) → List (List ℕ) → Reading → Type 0
 IsNext None payloads c = payloads ≡ []
 IsNext (Some payload) payloads c = (others : List (List ℕ)) × (payloads ≡ payload ∷ others) × IsLeft others c
 
--- What a call returned that reads the next payload from the disk: that payload, unless the disk failed or memory ran out.
+-- A call that reads the next payload from the disk returned it, or None after the last one, unless the disk failed or
+-- memory ran out.
 abbrev pub NextIs : {V : Type 0} → (V → List ℕ) → List (List ℕ) → Reading → Result (Option V) JournalStop → Type 0
 NextIs view payloads c (Ok found) = IsNext (option_map view found) payloads c
 NextIs view payloads c (Err DiskFault) = Unit {0}

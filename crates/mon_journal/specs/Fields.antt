@@ -12,7 +12,7 @@ use Rattle.mon_journal.specs.declared.stop.JournalStop.TheVariants.{NotAStore}
 use Rattle.mon_journal.specs.declared.journal.Form.{Form}
 use Rattle.mon_journal.specs.declared.journal.Form.TheVariants.{First, Second}
 
--- a field that isn't there whole is at fault
+-- a field that is cut short is at fault
 abbrev pub whole : {A : Type 0} → Result A Short → Result A JournalStop
 whole read = at_fault (λ at. NotAStore at) read
 
@@ -57,6 +57,6 @@ payload_at c = do
   length ← whole (number 4 c)
   whole (front length.0 length.1)
 
--- What a call that takes no memory answered and left is what reading gives.
+-- The result of a call that takes no memory, and the bytes that it leaves unread, are what reading gives.
 abbrev pub Reads : {X Y : Type 0} → (X → Y) → Result X JournalStop → Reading → Result (Y × Reading) JournalStop → Type 0
 Reads view result new read = answers.Reads (λ e. false) view result new read

@@ -16,12 +16,12 @@ use Rattle.mon_journal.specs.Content.{Held, content, payloads_of, Holds}
 use Rattle.mon_journal.specs.Fields.{Owner}
 use Rattle.mon_journal.specs.Written.{payload_bytes, head_bytes}
 
--- a disk's refusal, as a journal's call hands it on
+-- the journal's stop for a disk's
 abbrev pub stopped : Stop → JournalStop
 stopped stop.Failed = DiskFault
 stopped stop.OutOfMemory = OutOfMemory
 
--- what stopped a journal's calls on its disk: nothing, if the file's form is at fault
+-- the disk's stop in a journal's call: none if the call succeeded, or if the file's form is at fault
 abbrev pub stop_in : {T : Type 0} → Result T JournalStop → Option Stop
 stop_in (Ok x) = None
 stop_in (Err DiskFault) = Some stop.Failed
@@ -34,24 +34,26 @@ IsOutside DiskFault = Unit {0}
 IsOutside OutOfMemory = Unit {0}
 IsOutside (NotAStore at) = ⊥
 
--- What is built on a disk, and the disk, may both run out of memory. Here its own failed allocation came before its first
--- call on the disk, or otherwise the disk's failed.
+-- A call that is built on a disk returned out of memory. Either its own allocation failed before its first call, and
+-- the disk is unchanged; or an allocation of the disk failed, which the disk counted.
 abbrev pub WantsFirst : {D E T : Type 0} → (D → DiskState) → E → Result T E → D → D → Type 0
 WantsFirst state no_memory result old new = result ≡ Err no_memory → (new ≡ old) ⊎ ((state new).wants ≡ risen (state old).wants)
 
--- any file; what a crash leaves is said apart from the calls
+-- no condition on what a crash leaves, for contracts that state it in another clause
 abbrev pub Any : List ℕ → Type 0
 Any file = Unit {0}
 
--- a record after a closed gate, with a closed gate after it; and then that gate is opened
+-- an append: the record and the next gate, closed, are written after the record's gate; then that gate is opened; each
+-- write is synced
 abbrev pub append_calls : ℕ → List ℕ → List DiskCall
 append_calls gate payload = Write (gate + 1) (payload_bytes payload ++ 0 ∷ []) ∷ Sync ∷ Write gate (1 ∷ []) ∷ Sync ∷ []
 
--- a new file after a closed gate, which is closed on the disk before it; and then that gate is opened
+-- a new file: its gate is closed; the header, the first record and a closed gate are written after it; then its gate is
+-- opened; each write is synced
 abbrev pub create_calls : Owner → ℕ → Option (List ℕ) → List DiskCall
 create_calls owner generation first = Write 0 (0 ∷ []) ∷ Sync ∷ Write 1 (head_bytes owner generation first) ∷ Sync ∷ Write 0 (1 ∷ []) ∷ Sync ∷ []
 
--- a closed file that is at most so long, or no longer than one that a crash might have left before
+-- a closed file of at most `most` bytes, or no longer than one that a crash might have left before
 abbrev pub ClosedFrom : Content → ℕ → List ℕ → Type 0
 ClosedFrom x most file = (content file ≡ None) × ((d : List ℕ) × images x d × (length file ≤ max (length d) most))
 
@@ -59,22 +61,22 @@ ClosedFrom x most file = (content file ≡ None) × ((d : List ℕ) × images x 
 abbrev pub CreatedFrom : Content → Journal → List (List ℕ) → List ℕ → Type 0
 CreatedFrom x journal payloads file = images x file ⊎ ClosedFrom x (journal.next_gate + 1) file ⊎ Holds journal payloads file
 
--- whether more than this many calls were made from one to the other
+-- whether more than n calls were made from `before` to `now`
 abbrev pub made_more : ℕ → Told → Told → Bool
 made_more n before now = nat_lt (length before.made + n) (length now.made)
 
--- the first if a test is passed, and otherwise the second
+-- P if a test is passed, and otherwise Q
 abbrev pub ByTest : Bool → Type 0 → Type 0 → Type 0
 ByTest true P Q = P
 ByTest false P Q = Q
 
--- What is left of a file that is made: the new one if its gate is open and its last write was begun, and otherwise what a
--- crash might have left before, or a closed file.
+-- What a disk settles to on which a file is made: the new file if its gate is open and its last write was begun;
+-- otherwise what a crash might have left before, or a closed file.
 abbrev pub Made : Content → Journal → List (List ℕ) → Bool → List ℕ → Type 0
 Made x journal payloads opening file =
     ByTest (slice_index_or file 0 0 == 1 && opening) (Holds journal payloads file) (images x file ⊎ ClosedFrom x (journal.next_gate + 1) file)
 
--- the payloads that can be seen on the disk
+-- the payloads that the disk holds, or none if its contents can't be seen
 abbrev pub payloads_told : Option (List ℕ) → List (List ℕ)
 payloads_told None = []
 payloads_told (Some file) = payloads_of file
@@ -97,17 +99,17 @@ pub record Keeps (journal : Journal) (payloads : List (List ℕ)) (known : ℕ) 
 
 -- ---- opening
 
--- an open store's first closed gate is written as zero
+-- a sync; of a store's file the first closed gate is then written as zero, and synced
 abbrev pub open_calls : Option (Result Held JournalStop) → List DiskCall
 open_calls (Some (Ok held)) = Sync ∷ Write held.next_gate (0 ∷ []) ∷ Sync ∷ []
 open_calls (Some (Err e)) = Sync ∷ []
 open_calls None = Sync ∷ []
 
--- a file that represents the same as one that a crash might have left before, and is as long
+-- a file with the content and the length of one that a crash might have left before
 abbrev pub AlikeFrom : Content → List ℕ → Type 0
 AlikeFrom x file = (d : List ℕ) × images x d × (content file ≡ content d) × (length file ≡ length d)
 
--- The calls of opening were made, of a file that is seen those.
+-- Opening made its calls. If the file can be seen, they are `open_calls` of its content.
 abbrev pub OpensBy : Option Stop → DiskState → DiskState → Type 0
 OpensBy stop old new =
     (calls : List DiskCall) × Called calls (AlikeFrom old.content) stop old new × IfSome old.content.seen (λ file. calls ≡ open_calls (content file))
@@ -126,7 +128,7 @@ abbrev pub on_disk : Option (List ℕ) → Result Opened JournalStop → Result 
 on_disk seen (Ok opened) = Ok (with_payloads (payloads_told seen) opened)
 on_disk seen (Err e) = Err e
 
--- What opening returned is what the disk held, if its contents can be seen, and survives a crash.
+-- Opening returned what the disk held, if its contents can be seen, and a crash leaves the same.
 abbrev pub Opens : Option (List ℕ) → ℕ → Content → Result OnDisk JournalStop → Type 0
 Opens seen known new (Ok (Closed len)) = Only new × (new.seen ≡ seen) × (known ≡ len) × IfSome seen (λ file. (content file ≡ None) × (len ≡ length file))
 Opens seen known new (Ok (Live journal payloads)) = Keeps journal payloads known new × IfSome seen (Holds journal payloads)

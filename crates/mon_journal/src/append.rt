@@ -11,9 +11,9 @@ use mon_disk::Disk;
 use std::alloc::Global;
 
 impl Journal {
-    /// Appends a record with this payload: it is written after the closed commit byte (the gate), and then that gate
-    /// is opened. After `Ok` a crash leaves the payload; at each point before it leaves the payloads from before,
-    /// with the new one or without it. It takes its memory before the first write.
+    /// Appends a record with this payload: it is written after the closed commit byte (the gate), and then that gate is
+    /// opened. A crash at any point of the call leaves the earlier payloads, with the new one or without it. After `Ok`
+    /// a crash leaves all of them. It takes its memory before the first write.
     pub fn append<D: Disk>(
         &mut self,
         alloc: Global,
@@ -23,12 +23,12 @@ impl Journal {
         requires short { length payload.now < 2 ^ 32 }
         requires stands { Stands self.old (D.state disk.old).known (D.state disk.old).content }
 
-        // Its writes and syncs are made. A crash at any point of the call leaves the payloads from before it, and the
-        // new one if its gate is open.
+        // Which writes and syncs were made. A crash at any point of the call leaves the earlier payloads, and the new
+        // one if its gate is open.
         ensures call { let old = D.state disk.old in Called (append_calls self.old.next_gate payload.now)
             (WithOrWithout self.old (payloads_seen old.content) payload.now) (stop_in result) old (D.state disk.new) }
 
-        // What the disk settles to as well, if its contents can be seen.
+        // The same holds of what the disk settles to, if its calls can be seen.
         ensures settles { IfSome (D.state disk.new).told
             (λ t. WithOrWithout self.old (payloads_seen (D.state disk.old).content) payload.now (t.settles t.made)) }
 
@@ -40,7 +40,7 @@ impl Journal {
         ensures no_memory { WantsFirst D.state JournalStop.OutOfMemory result disk.old disk.new }
     {
         let body = record_body(alloc, payload)?;
-        // A file ends below the greatest offset.
+        // A file that would end above the greatest offset is refused as out of memory.
         let Some(next_gate) = self
             .next_gate
             .checked_add(RECORD_HEAD + payload.len() as u64)

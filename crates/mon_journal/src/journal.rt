@@ -9,22 +9,22 @@ pub const RECORD_HEAD: u64 = 5;
 /// The place of the first record's payload.
 pub const FIRST_PAYLOAD: u64 = HEADER + RECORD_HEAD;
 
-/// Which of the two headers a file has. Either is read, and the second is written.
+/// Which of the two headers a file has. Both are read; only the second is written.
 #[derive(Clone, Copy, PartialEq, Eq)]
 pub enum Form {
-    /// That of `CEPHMON1`, which is read alone.
+    /// `CEPHMON1`, which is only read.
     First,
-    /// That of `CEPHMON2`, which is read and written.
+    /// `CEPHMON2`, which is read and written.
     Second,
 }
 
-/// What is kept of a store's file: whose it is, which of the store's two files is the newer, and where its first
-/// closed gate is. Its payloads are on the disk alone.
+/// What is remembered of a store's file: its owner, its generation and the place of its first closed gate. Its payloads
+/// are on the disk alone.
 #[derive(Clone, Copy, PartialEq, Eq)]
 pub struct Journal {
-    /// Whose store it is.
+    /// The monitor that owns the store.
     pub member: Member,
-    /// 1 to 2^62. The greater one is the newer file.
+    /// 1 to 2^62. Of a store's two files the one with the greater generation is newer.
     pub generation: u64,
     /// The place of the first closed gate.
     pub next_gate: u64,

@@ -12,8 +12,8 @@ use mon_disk::Disk;
 use mon_types::Member;
 use std::alloc::Global;
 
-/// Makes a store's file of what a disk holds, whatever that is: its gate is closed, the header and the first record,
-/// if there is one, are written after it, and then the gate is opened. It takes its memory before the first write.
+/// Overwrites whatever a disk holds with a new store's file. The gate is closed, the header and the first record, if
+/// there is one, are written after it, and then the gate is opened. It takes its memory before the first write.
 pub fn create<D: Disk>(
     alloc: Global,
     disk: &mut D,
@@ -29,14 +29,15 @@ pub fn create<D: Disk>(
     ensures kept { IfOk result (λ journal. let payload = option_map (λ payload. payload.now) first.entry in
         Keeps journal (first_payloads payload) (D.state disk.new).known (D.state disk.new).content) }
 
-    // Its writes and syncs are made. A crash at any point of the call leaves what it might have left before, a closed
-    // file, or the new one.
+    // Which writes and syncs were made. A crash at any point of the call leaves what it might have left before, a
+    // closed file, or the new one.
     ensures call { let old = D.state disk.old in let payload = option_map (λ payload. payload.now) first.entry in
         Called (create_calls (owner_of member) generation payload)
         (CreatedFrom old.content (created member generation payload) (first_payloads payload)) (stop_in result) old
         (D.state disk.new) }
 
-    // The disk settles to the new one if that gate is open then and more than four of the calls were made.
+    // If the settled file's gate is open and more than four calls were made, the disk settles to the new file.
+    // Otherwise it settles to what a crash might have left before, or to a closed file.
     ensures settles { let old = D.state disk.old in let payload = option_map (λ payload. payload.now) first.entry in
         IfSome old.told (λ s. IfSome (D.state disk.new).told
         (λ t. Made old.content (created member generation payload) (first_payloads payload) (made_more 4 s t)
@@ -72,14 +73,15 @@ pub fn restart<D: Disk>(
     ensures kept { IfOk result (λ journal. Keeps journal (first_payloads (Some checkpoint.now)) (D.state disk.new).known
         (D.state disk.new).content) }
 
-    // Its writes and syncs are made. A crash at any point of the call leaves what it might have left before, a closed
-    // file, or the new one.
+    // Which writes and syncs were made. A crash at any point of the call leaves what it might have left before, a
+    // closed file, or the new one.
     ensures call { let old = D.state disk.old in
         Called (create_calls (owner_of member) generation (Some checkpoint.now))
         (CreatedFrom old.content (created member generation (Some checkpoint.now)) (first_payloads (Some checkpoint.now)))
         (stop_in result) old (D.state disk.new) }
 
-    // The disk settles to the new one if that gate is open then and more than four of the calls were made.
+    // If the settled file's gate is open and more than four calls were made, the disk settles to the new file.
+    // Otherwise it settles to what a crash might have left before, or to a closed file.
     ensures settles { let old = D.state disk.old in IfSome old.told (λ s. IfSome (D.state disk.new).told
         (λ t. Made old.content (created member generation (Some checkpoint.now)) (first_payloads (Some checkpoint.now))
         (made_more 4 s t) (t.settles t.made))) }

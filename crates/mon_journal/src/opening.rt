@@ -43,8 +43,8 @@ pub fn open<D: Disk>(alloc: Global, disk: &mut D) -> Result<Opened, JournalStop>
     ensures found { let seen = (D.state disk.old).content.seen in
         Opens seen (D.state disk.new).known (D.state disk.new).content (on_disk seen result) }
 
-    // Which writes and syncs were made. A crash at any point of the call leaves a file that represents the same as
-    // one that it might have left before.
+    // Which writes and syncs were made. A crash at any point of the call leaves a file with the same content as one
+    // that it might have left before.
     ensures call { OpensBy (stop_in result) (D.state disk.old) (D.state disk.new) }
 {
     let len = synced_len(disk)?;

@@ -60,7 +60,7 @@ impl Model for Piece {
 }
 
 impl Piece {
-    /// No bytes of a file of that length. It needs no memory.
+    /// An empty piece of a file of that length. It needs no memory.
     pub fn new(alloc: Global, end: u64) -> Piece
         ensures { result ≡ record { end = end; at = 0; bytes = [] } }
     {
@@ -100,7 +100,7 @@ impl Piece {
         &self.bytes[from..from + count]
     }
 
-    /// Reads on, unless the piece has these bytes of the file. The old piece is released before the new one is made, which
+    /// Reads a new piece, unless the piece has these bytes of the file. The old piece is released first. The new one
     /// needs memory for the bytes, or for at most 65,536 bytes if they are fewer.
     pub fn reach<D: Disk>(&mut self, disk: &mut D, at: u64, count: usize) -> Result<(), JournalStop>
         requires within { at + count ≤ self.old.end }

@@ -48,8 +48,8 @@ impl Reader {
         })
     }
 
-    /// The next payload, if one is left. It needs memory for it. A file that doesn't hold what it held when it was
-    /// opened is `NotAStore` at the first field at fault.
+    /// The next payload, or `None` after the last one. It needs memory for the payload. `NotAStore` is returned only if
+    /// the file has changed since it was opened, and names the first field at fault.
     pub fn next_payload<D: Disk>(&mut self, disk: &mut D) -> Result<Option<Vec<u8>>, JournalStop>
         requires on { IsPieceOf (D.state disk.old) self.old.piece }
         ensures disk { OnlyReads (stop_in result) (D.state disk.old) (D.state disk.new) }

@@ -39,8 +39,8 @@ fn form_at(cursor: &mut Cursor<'_>) -> Result<Form, JournalStop>
     Err(JournalStop::NotAStore { at: at as u64 })
 }
 
-/// The rank and the number of monitors that come next in a header, or in any text that names a member so. `NotAStore`
-/// names the first place of the first of the two that isn't there, or isn't of its form. It takes no memory.
+/// Reads the rank and the number of monitors from a header, or from any text that encodes a member in the same way.
+/// `NotAStore` names the first byte of the first of the two that is missing or invalid. It takes no memory.
 #[tactic(auto, unfolding(crate::specs::Fields::owner_at))]
 pub fn read_owner(cursor: &mut Cursor<'_>) -> Result<Member, JournalStop>
     ensures owner { Reads (λ member. record { rank = member.rank; monitors = member.monitors }) result cursor.new

@@ -13,7 +13,7 @@ use byteorder::{ByteOrder, LittleEndian};
 use mon_bytes::Cursor;
 use mon_disk::Disk;
 
-/// The length of the payload of the record whose gate is at a place, and nothing if the gate is closed.
+/// The length of the payload after the gate at a place, or `None` if the gate is closed.
 pub fn length_at<D: Disk>(
     piece: &mut Piece,
     disk: &mut D,
@@ -47,7 +47,7 @@ pub fn length_at<D: Disk>(
     Ok(Some(length))
 }
 
-/// The place of the first closed gate, after records that are there whole.
+/// The place of the first closed gate. Each record before it must be whole.
 fn gate_behind<D: Disk>(piece: &mut Piece, disk: &mut D) -> Result<u64, JournalStop>
     requires on { IsPieceOf (D.state disk.old) piece.old }
     ensures disk { OnlyReads (stop_in result) (D.state disk.old) (D.state disk.new) }
@@ -86,7 +86,7 @@ fn header_in(head: &[u8]) -> Result<Journal, JournalStop>
     header_at(&mut cursor)
 }
 
-/// What a file holds, which is read from its beginning on: nothing if it is closed.
+/// The journal of a file, read from its first byte on, or `None` if the file is closed.
 pub fn held_on<D: Disk>(piece: &mut Piece, disk: &mut D) -> Result<Option<Journal>, JournalStop>
     requires on { IsPieceOf (D.state disk.old) piece.old }
     ensures disk { OnlyReads (stop_in result) (D.state disk.old) (D.state disk.new) }

@@ -9,7 +9,7 @@ use mon_bytes::{Out, OutOfMemory, write_count};
 use mon_types::Member;
 use std::alloc::Global;
 
-/// Appends what follows a record's gate.
+/// Appends the bytes of a record after its gate: the payload's length, and the payload.
 pub fn put_payload(out: &mut Out, payload: &[u8]) -> Result<(), OutOfMemory>
     requires { length payload.now < 2 ^ 32 }
     ensures { OnOk result (out.new ≡ out.old ++ payload_bytes payload.now) }
@@ -18,7 +18,7 @@ pub fn put_payload(out: &mut Out, payload: &[u8]) -> Result<(), OutOfMemory>
     out.put_bytes(payload)
 }
 
-/// What follows a record's gate, and a closed gate.
+/// The bytes of a record after its gate, and the next gate, closed.
 pub fn record_body(alloc: Global, payload: &[u8]) -> Result<Vec<u8>, OutOfMemory>
     requires { length payload.now < 2 ^ 32 }
     ensures { IfOk result (λ body. body.items ≡ payload_bytes payload.now ++ 0 ∷ []) }
@@ -52,7 +52,7 @@ fn put_first(out: &mut Out, first: Option<&[u8]>) -> Result<(), OutOfMemory>
     put_payload(out, payload)
 }
 
-/// What follows a new file's header gate: the header, no record or one, and a closed gate.
+/// The bytes of a new file after its first gate: the header, the first record if there is one, and a closed gate.
 pub fn head_bytes(
     alloc: Global,
     member: &Member,
