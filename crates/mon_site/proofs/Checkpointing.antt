@@ -1,4 +1,4 @@
--- The checkpoint that is due, over the other disk's fault.
+-- The checkpoint that is due, if the other disk has the injected fault.
 use Rattle.std.proofs.Common.{◌≡◌, ◌⊎◌, ℕ, zero, suc, ◌+◌, ◌<◌, Bool, true, false, nat_le, nat_lt, List, length, Option, Some, None, refl, sym, ap, ◌∙◌, subst, arith}
 use Rattle.std.specs.Prelude.{◌==◌, ◌&&◌, if◌then◌else◌, slice_index_or}
 use Rattle.std.proofs.lemmas.Bool.Decides.{nat_tests}
@@ -34,7 +34,7 @@ use Rattle.mon_site.proofs.Keeping.{CutShort, cut_of}
 use Rattle.mon_site.proofs.Sizes.{next_file, due_is}
 use Rattle.mon_site.proofs.Standing.{file_by, files_with, files_are, live_stands, as_it_reads, live_seen, other_seen, by_name_a, by_name_b}
 
--- ---- what a store in use leaves, whose disks settle to what they read
+-- ---- a store in use whose disks settle to what they read
 
 module _ (side : Side) (live other : MemoryState) (j : Journal) (m : Store) (known : ℕ) (sound : Sound j m known (content live) (content other)) where
   abbrev a : MemoryState

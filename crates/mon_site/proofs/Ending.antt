@@ -118,7 +118,7 @@ module _ (side : Side) (live other : MemoryState) (j : Journal) (m : Store) (kno
       formed true second = second
       formed false second = second
 
-  -- what is due is cut short, or whole
+  -- the checkpoint that is due is cut short, or whole
   pub due_cut : (member : Member) (call image : ℕ) (new : MemoryState) → IsUpset call image other → j.form ≡ Second → stored.is_due j m ≡ true
       → Makes (restart_calls j m) (Some disk.Failed) (Some (tells other.life)) (Some (tells new.life))
       → Restarted side j m (content other) (made_more 4 (tells other.life) (tells new.life)) (of_a side (settled live.life) (settled new.life)) (of_b side (settled live.life) (settled new.life))

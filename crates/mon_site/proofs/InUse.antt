@@ -88,7 +88,7 @@ opens_whole result member m f a b na nb rests made =
     let r = both_calm result (opening_calls (owner_of member) (seen_of a.life) (seen_of b.life)) (tells a.life) (tells b.life) (tells na.life) (tells nb.life) (ap from_of rests.calm_a.calm) (ap from_of rests.calm_b.calm) made in
     (r.0, none_stands na.life.upset r.1, none_stands nb.life.upset r.2)
 
--- and only memory may be wanting
+-- so an opening fails only if memory runs out
 pub only_memory_lacks : (member : Member) (a b : MemoryState) (s : Stood) (e : OpenStop) → opens_as member (seen_of a.life) (seen_of b.life) ≡ Ok s → opened.Answers member (seen_of a.life) (seen_of b.life) (Err e)
     → (◌≡◌ {A = Result Stood OpenStop} (Err e) (Err opening.DiskFault) → ⊥) → e ≡ opening.OutOfMemory
 only_memory_lacks member a b s opening.DiskFault opens answer calm = absurd (calm refl)

@@ -1,4 +1,4 @@
--- A transaction over the live disk's fault.
+-- A transaction, if the live disk has the injected fault.
 use Rattle.std.proofs.Common.{◌≡◌, ℕ, zero, suc, ◌+◌, ◌<◌, ◌≤◌, Bool, true, false, nat_le, nat_lt, List, [], ◌∷◌, ◌++◌, length, reverse, get_or, Option, Some, None, refl, sym, ap, ◌∙◌, subst, arith, length-append}
 use Rattle.std.specs.Prelude.{◌==◌, ◌&&◌, if◌then◌else◌, slice_index_or}
 use Rattle.std.proofs.lemmas.Bool.Decides.{nat_tests}

@@ -1,4 +1,4 @@
--- What opening leaves of two disks of which one fails.
+-- What is left after opening two disks, one of which fails.
 use Rattle.std.proofs.Common.{inl, inr, ◌≡◌, ℕ, suc, ◌+◌, ◌-◌, ◌<◌, ◌≤◌, Bool, true, false, nat_le, nat_lt, List, [], ◌∷◌, length, Option, Some, None, Result, Ok, Err, refl, sym, ap, ◌∙◌, subst, arith}
 use Rattle.std.specs.Prelude.{◌==◌, ◌&&◌, if◌then◌else◌, slice_index_or}
 use Rattle.std.specs.FinMap.{empty}
@@ -71,7 +71,7 @@ first_new member b file place e none = ap (λ (r : Result Found Refusal). file_o
     by true = refl
     by false = ap file_of none
 
--- an opening's cut leaves files that are there
+-- an opening that is cut short leaves the files that are there
 cut_there : (disk : Side) (call image : ℕ) (f : Files) → is_created f ≡ true → opening_cut f disk call image ≡ f
 cut_there A call image f made = rw made refl
 cut_there B call image f made = refl

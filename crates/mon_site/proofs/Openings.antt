@@ -1,4 +1,4 @@
--- Opening two disks of which one fails: which of its calls fails, and what is left.
+-- Opening two disks, one of which fails: which of its calls fails, and what is left.
 use Rattle.std.proofs.Common.{inl, inr, ◌≡◌, ℕ, suc, ◌+◌, ◌-◌, ◌<◌, ◌≤◌, true, false, nat_le, List, [], ◌∷◌, ◌++◌, length, reverse, Option, Some, None, Result, Ok, Err, refl, sym, ap, ◌∙◌, subst, arith, length-append, append_assoc}
 use Rattle.std.proofs.lemmas.Bool.Decides.{nat_tests}
 use Rattle.std.proofs.lemmas.List.{reverse-append}
@@ -148,7 +148,7 @@ module _ (call image : ℕ) (d : MemoryState) (up : IsUpset call image d) (only 
   pub walks : (writes : List (ℕ × List ℕ)) (t : Told) (stop : Option Stop) → Makes (Sync ∷ guarded writes) stop (Some (tells d.life)) (Some t) → Walks writes t stop
   walks writes t stop m = walks_like writes t stop (subst (λ (s : Told). Makes (Sync ∷ guarded writes) stop (Some s) (Some t)) up.told m)
 
-  -- the injected fault that is left of a disk whose calls were made
+  -- the injected fault after some calls: it is nearer by their number
   pub upset_left : (writes : List (ℕ × List ℕ)) (n : MemoryState) → Only (content n) → Opened writes (tells n.life) → IsUpset (call - (1 + length (guarded writes))) image n
   upset_left writes n calm o =
       let more : List DiskCall = calls ++ Sync ∷ guarded writes in

@@ -47,7 +47,7 @@ pub none_stands : (u : Option Upset) → from_of u ≡ None → u ≡ None
 none_stands None h = refl
 none_stands (Some u) h = absurd cc
 
--- what is known of it, whichever disk fails
+-- what is known of the store, whichever disk fails
 pub record Well (disk : Side) (call image : ℕ) (m : Store) (f : Files) (side : Side) (live other : MemoryState) (j : Journal) (kv : Store) : Type 0 where
   pub form : j.form ≡ Second
   pub map : kv ≡ m

@@ -1,4 +1,4 @@
--- What is written by the end of an event in which a disk fails.
+-- What an event in which a disk fails has written at its end.
 use Rattle.std.proofs.Common.{◌≡◌, ◌≤◌, Bool, true, false, nat_lt, nat_le, List, Ok, refl, sym, ap, ◌∙◌, subst}
 use Rattle.std.specs.Prelude.{◌==◌, ◌&&◌, ◌||◌, not, if◌then◌else◌}
 use Rattle.mon_types.specs.declared.member.Member.{Member}

@@ -1,4 +1,4 @@
--- What opening two disks leaves of which one fails.
+-- What is left after opening two disks, one of which has an injected fault.
 use Rattle.std.specs.Prelude.{◌≡◌, ◌-◌, ◌<◌, ◌≤◌, Result, Ok, Err}
 use Rattle.mon_types.specs.declared.member.Member.{Member}
 use Rattle.mon_disk.specs.Memory.{seen_of}
@@ -18,8 +18,8 @@ use Rattle.mon_site.specs.Faults.{HasFault, Settles}
 abbrev pub Opens : Member → MemoryState → MemoryState → Type 0
 Opens member a b = (s : Stood) × (opens_as member (seen_of a.life) (seen_of b.life) ≡ Ok s)
 
--- The store is open if the first call that fails follows opening; otherwise the disks settle to what was there, or to what a
--- creation had reached.
+-- The store is open if the first call that fails comes after the opening. Otherwise the disks settle to what they held,
+-- or to what a creation had written.
 abbrev pub Begins : Upset → Member → Store → Files → Result Begun OutOfMemory → Type 0
 Begins u member m f (Ok (Open store)) =
     (opening_count u.disk f < u.call) ×

@@ -1,4 +1,4 @@
--- A monitor of which no disk fails: its disks, its store in use, and what becomes of both.
+-- A monitor without injected faults: its disks, its open store, and what its calls leave.
 use Rattle.std.specs.Prelude.{◌≡◌, ◌≤◌, false, List, None, Result, Ok, Err}
 use Rattle.mon_types.specs.declared.member.Member.{Member}
 use Rattle.mon_bytes.specs.declared.memory.OutOfMemory.{OutOfMemory}
@@ -20,11 +20,11 @@ use Rattle.mon_site.specs.Ending.{StopsAt, IsMemory}
 use Rattle.mon_site.specs.Faults.{Rests}
 use Rattle.mon_site.specs.Upset.{files_on}
 
--- two disks rest, with some map and some files
+-- two disks are at rest, with some map and some files
 abbrev pub Rest : Member → MemoryState → MemoryState → Type 0
 Rest member a b = (m : Store) × (f : Files) × Rests member m f a b
 
--- a disk that was read holds what it held
+-- a disk after a read: it holds what it held, and stays at rest if it was
 pub record IsRead (old new : MemoryState) : Type 0 where
   pub seen : seen_of new.life ≡ seen_of old.life
   pub calm : IsCalm old → IsCalm new

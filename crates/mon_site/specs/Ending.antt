@@ -1,4 +1,4 @@
--- What the end of an event leaves, in which a disk fails.
+-- What is left at the end of an event in which a disk may fail.
 use Rattle.std.specs.Prelude.{◌≡◌, ◌⊎◌, ℕ, ◌<◌, ◌≤◌, Bool, true, false, not, ◌&&◌, ◌||◌, nat_lt, List, length, None, Result, Ok, Err, if◌then◌else◌}
 use Rattle.mon_types.specs.declared.member.Member.{Member}
 use Rattle.mon_disk.specs.MemoryDisk.{MemoryState}
@@ -42,11 +42,11 @@ pub record IsKept (on_live : Bool) (call image : ℕ) (member : Member) (m : Sto
 abbrev pub on_live : Upset → Files → Bool
 on_live u f = same_side u.disk (live_side f)
 
--- whether its calls reach the end of a transaction's record
+-- whether the fault is later than an append's calls, or the transaction is empty and has none
 abbrev pub is_beyond : Upset → List Op → Bool
 is_beyond u ops = nat_lt APPEND u.call || is_empty ops
 
--- why a transaction isn't made at all
+-- why a transaction is refused: its encoding or its map is too large, or memory ran out
 abbrev pub StopsAt : Store → List Op → StoreStop → Type 0
 StopsAt m ops stop.Broken = ⊥
 StopsAt m ops (stop.TooLong len) = most < length (text ops)
@@ -73,7 +73,8 @@ Keeps u member m f ops store (Ok (Cut kept)) =
     (disk_a store) (disk_b store)
 Keeps u member m f ops store (Err e) = StopsAt m ops e
 
--- What becomes due is made, as far as the disks let it.
+-- The checkpoint that is due was made: whole if the live disk has the fault, and otherwise up to the other disk's
+-- fault.
 abbrev pub Checkpoints : Bool → (call image : ℕ) → Member → Store → Files → kept.Store MemoryState →
     Result Unit StoreStop → Type 0
 Checkpoints live call image member m f store (Ok done) =
@@ -81,11 +82,12 @@ Checkpoints live call image member m f store (Ok done) =
     (disk_a store) (disk_b store)
 Checkpoints live call image member m f store (Err e) = IsMemory e
 
--- whether the transaction is kept, as a crash keeps it
+-- Whether the transaction survives: always if it is empty or the fault is on the other disk; otherwise if its gate is
+-- open.
 abbrev pub is_kept : Upset → Files → List Op → Bool
 is_kept u f ops = if is_empty ops then true else if on_live u f then opens_gate (last_write APPEND) u.call u.image else true
 
--- What a monitor's event ends with: whether its transaction is kept, and what its disks settle to.
+-- The result of a monitor's event: whether its transaction survives, and what its disks settle to.
 abbrev pub Writes : Upset → Member → Store → Files → List Op → (a b : MemoryState) → Result Bool StoreStop → Type 0
 Writes u member m f ops a b (Ok kept) =
     (kept ≡ is_kept u f ops) × (size_of (apply ops m) ≤ most_size)

@@ -1,5 +1,5 @@
--- A monitor of which one disk fails within an event: its disks before they are opened, its store, and what its disks
--- settle to.
+-- A monitor with an injected fault on one disk: its disks before the opening, its open store, and what its disks settle
+-- to.
 use Rattle.std.specs.Prelude.{◌≡◌, ℕ, false, List, None, Ok}
 use Rattle.mon_types.specs.declared.names.Side.{Side}
 use Rattle.mon_types.specs.declared.member.Member.{Member}
@@ -18,14 +18,15 @@ use Rattle.quorum_model.specs.Files.{Files}
 use Rattle.mon_site.specs.Disks.{IsCalm, content, files_in}
 use Rattle.mon_site.specs.Upset.{IsUpset, files_on}
 
--- A member opens a store with this map on two files, of which a later one has the second header.
+-- A member opens a store with this map on two files. The live file has the second header.
 pub record OpensMap (member : Member) (m : Store) (a b : List ℕ) : Type 0 where
   pub stood : Stood
   pub opens : opens_as member a b ≡ Ok stood
   pub form : stood.journal.form ≡ Second
   pub map : stood.kv ≡ m
 
--- Before they are opened: one of them has an injected fault.
+-- Two disks before the opening: `disk` has the injected fault, the other one has none, and a member opens a store with
+-- this map.
 pub record IsReady (disk : Side) (call image : ℕ) (member : Member) (m : Store) (f : Files)
     (a b : MemoryState) : Type 0 where
   pub upset : IsUpset call image (of_live disk a b)
@@ -35,7 +36,7 @@ pub record IsReady (disk : Side) (call image : ℕ) (member : Member) (m : Store
   pub opens : OpensMap member m (seen_of a.life) (seen_of b.life)
   pub files : files_on a b ≡ f
 
--- The store that is on them.
+-- An open store with this map, whose disk `disk` has the injected fault.
 pub record HasFault (disk : Side) (call image : ℕ) (member : Member) (m : Store) (f : Files)
     (store : kept.Store MemoryState) : Type 0 where
   pub unbroken : store.broken ≡ false
@@ -47,7 +48,7 @@ pub record HasFault (disk : Side) (call image : ℕ) (member : Member) (m : Stor
   pub upset : IsUpset call image (disk_of disk store)
   pub calm : (disk_of (other_side disk) store).life.upset ≡ None
 
--- What they settle to.
+-- Two disks settle to these files, on which a member opens a store with this map.
 pub record Settles (member : Member) (m : Store) (f : Files) (a b : MemoryState) : Type 0 where
   pub opens : OpensMap member m (settled a.life) (settled b.life)
   pub files : files_in (settled a.life) (settled b.life) ≡ f

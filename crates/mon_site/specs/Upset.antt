@@ -9,8 +9,8 @@ use Rattle.mon_store.specs.Sound.{StandsOn}
 use Rattle.quorum_model.specs.Files.{Files}
 use Rattle.mon_site.specs.Disks.{files_in}
 
--- What a disk does whose writes and syncs fail from this call on, counted from 1 and from now, and that settles to that
--- image.
+-- A disk with an injected fault: its writes and syncs fail from number `call` on, counted from 1 and from now, and it
+-- settles to `image`.
 pub record IsUpset (call image : ℕ) (d : MemoryState) : Type 0 where
   pub like : Lived
   pub told : tells d.life ≡ tells (upset_life call image like)
@@ -18,7 +18,7 @@ pub record IsUpset (call image : ℕ) (d : MemoryState) : Type 0 where
   pub first : 1 ≤ call
   pub most : image ≤ 3
 
--- a store is on what two disks settle to, which have these files
+-- two disks settle to images that hold this store and these files
 pub record Leaves (side : Side) (journal : Journal) (m : Store) (f : Files) (a b : MemoryState) : Type 0 where
   pub stands : StandsOn side journal m (settled a.life) (settled b.life)
   pub files : files_in (settled a.life) (settled b.life) ≡ f

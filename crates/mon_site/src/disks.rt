@@ -28,7 +28,7 @@ pub fn upset_one(disks: NodeDisks<MemoryDisk>, upset: Upset) -> NodeDisks<Memory
     NodeDisks { a, b }
 }
 
-/// Turns two disks into what a crash leaves of them.
+/// Turns two disks into what they settle to after a crash. The injected fault is gone.
 pub fn settle_both(disks: NodeDisks<MemoryDisk>) -> Result<NodeDisks<MemoryDisk>, OutOfMemory>
     ensures { IfOk result (λ rest. (member : Member) (m : Map) (f : Files) → Settles member m f disks.a disks.b →
         Rests member m f rest.a rest.b) }

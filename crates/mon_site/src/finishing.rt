@@ -1,4 +1,4 @@
-//! A transaction is applied over disks of which one fails.
+//! Applying a transaction on two disks, one of which has an injected fault.
 
 ghost use Rattle.std.specs.Prelude.{◌≡◌, ◌==◌, ◌&&◌, nat_le, ℕ, Bool, false, Ok};
 ghost use Rattle.mon_types.specs.declared.member.Member.{Member};
@@ -21,15 +21,15 @@ use quorum_model::APPEND;
 enum Kept {
     /// No call for it failed.
     Whole,
-    /// One failed. Then its record is there, or not.
+    /// A call for it failed. `kept`: whether its record survives.
     Cut { kept: bool },
 }
 
-/// What remains of a monitor in whose event a disk failed. The disks aren't settled yet.
+/// The disks at the end of an event with an injected fault. They aren't settled yet.
 #[derive(Drop)]
 pub struct Ended {
     pub disks: NodeDisks<MemoryDisk>,
-    /// Whether its transaction is kept.
+    /// Whether the event's transaction survives.
     pub kept: bool,
 }
 
@@ -40,8 +40,8 @@ fn opens_gate(upset: Upset) -> bool
     upset.call >= APPEND - 1 && upset.image == 1
 }
 
-/// Makes a transaction's changes, as far as the live disk lets it. An append writes the record first, and then its
-/// gate.
+/// Applies a transaction. If the live disk fails in it, the result says whether the record survives: an append writes
+/// the record first, and then its gate.
 fn keep(store: &mut Store<MemoryDisk>, tx: &Transaction, upset: Upset) -> Result<Kept, StoreStop>
     requires unbroken { store.old.broken ≡ false }
     requires sound { IsSound state_of store.old }
@@ -60,7 +60,7 @@ fn keep(store: &mut Store<MemoryDisk>, tx: &Transaction, upset: Upset) -> Result
     }
 }
 
-/// Makes the checkpoint that is due, if one is, as far as the other disk lets it.
+/// Makes the checkpoint that is due, if one is. A fault of the other disk cuts it short, and is no error.
 fn checkpoint(store: &mut Store<MemoryDisk>) -> Result<(), StoreStop>
     requires unbroken { store.old.broken ≡ false }
     requires sound { IsSound state_of store.old }
@@ -96,9 +96,9 @@ fn apply_until_fault(
     }
 }
 
-/// Makes a transaction's changes, and then the checkpoint that is due, if one is, as far as the disks let it, and
-/// closes the store. The disk with the injected fault fails at its call of that number, counted after the opening.
-/// Full comes if the map would be too large, and TooLong if the transaction's encoding is too long.
+/// Applies a transaction, makes the checkpoint that is due, if one is, and closes the store. The injected fault cuts
+/// these short: the disk fails at its call number `upset.call`, counted after the opening. Returns Full if the map
+/// would be too large, TooLong if the transaction's encoding is too long, and OutOfMemory.
 pub fn finish(
     mut store: Store<MemoryDisk>,
     tx: &Transaction,

@@ -1,4 +1,4 @@
-//! A monitor's store on two disks in memory. Within an event none of them fails, or one.
+//! A monitor's store on two disks in memory. Within an event at most one of them fails.
 #![tactic(auto)]
 
 mod disks;

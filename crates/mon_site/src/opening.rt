@@ -1,4 +1,4 @@
-//! Two disks are opened of which one fails.
+//! Opening two disks, one of which has an injected fault.
 
 ghost use Rattle.mon_tx.specs.Map.{Store as Map};
 ghost use Rattle.quorum_model.specs.Files.{Files};
@@ -12,17 +12,17 @@ use mon_store::{OpenRefused, OpenStop, Store};
 use mon_types::Member;
 use std::alloc::Global;
 
-/// What became of two disks that were opened.
+/// How an opening of two disks ended.
 #[derive(Drop)]
 pub enum Begun {
-    /// The store is open. Its disk fails later, or not at all.
+    /// The store is open. The disk with the injected fault fails later, or not at all.
     Open(Store<MemoryDisk>),
-    /// The disk failed.
+    /// A call of the disk with the injected fault failed.
     Failed(NodeDisks<MemoryDisk>),
 }
 
-/// Opens the store on two disks, one of which has an injected fault; only the contract mentions that. If they are
-/// empty, a store is created on disk A.
+/// Opens the store on two disks, one of which has an injected fault. If they are empty, a store is created on disk A.
+/// `_upset` is the fault, for the contract alone.
 pub fn open(
     alloc: Global,
     disks: NodeDisks<MemoryDisk>,

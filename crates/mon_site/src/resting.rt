@@ -65,8 +65,9 @@ fn is_open(disk: &mut MemoryDisk) -> Result<bool, OutOfMemory>
     Ok(first_byte(disk)? == 1)
 }
 
-/// How many writes and syncs opening makes on a disk, by which of the two are open. It syncs the disk, and of an open
-/// file it writes the first closed gate, which it syncs. If no store is there yet, one is created on disk A.
+/// How many writes and syncs opening makes on a disk, if `a` and `b` say which disks have an open file. Opening syncs
+/// the disk. Of an open file it also writes the first closed gate, and syncs that. If neither is open, it creates a
+/// store on disk A.
 fn count(side: Side, a: bool, b: bool) -> u64
     ensures { (f : Files) → is_some f.a ≡ a → is_some f.b ≡ b → result ≡ opening_count side f }
 {
@@ -77,7 +78,7 @@ fn count(side: Side, a: bool, b: bool) -> u64
     }
 }
 
-/// How many writes and syncs opening makes on one of two disks. They are at rest as before.
+/// How many writes and syncs opening makes on one of two disks. Both are still at rest afterwards.
 pub fn opening_count(disks: &mut NodeDisks<MemoryDisk>, side: Side) -> Result<u64, OutOfMemory>
     ensures rests { (member : Member) (m : Map) (f : Files) → Rests member m f disks.old.a disks.old.b →
         Rests member m f disks.new.a disks.new.b }

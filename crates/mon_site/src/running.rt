@@ -1,4 +1,4 @@
-//! A store that is open on two disks of which none fails.
+//! A store that is open on two disks without injected faults.
 
 ghost use Rattle.std.specs.Prelude.{◌≡◌, false, true, IfOk, OnOk};
 ghost use Rattle.mon_types.specs.declared.member.Member.{Member};
@@ -44,7 +44,7 @@ pub fn start(
     }
 }
 
-/// Makes a transaction's changes.
+/// Applies a transaction.
 fn change(store: &mut Store<MemoryDisk>, tx: &Transaction) -> Result<(), StoreStop>
     requires sound { IsSound state_of store.old }
     ensures sound { IsSound state_of store.new }
@@ -77,8 +77,8 @@ fn renew(store: &mut Store<MemoryDisk>) -> Result<(), StoreStop>
     }
 }
 
-/// Makes a transaction's changes, and then the checkpoint that is due, if one is. It returns Full if the map would be
-/// too large, and TooLong if the transaction's encoding is too long.
+/// Applies a transaction, and then makes the checkpoint that is due, if one is. Returns Full if the map would be too
+/// large, TooLong if the transaction's encoding is too long, and OutOfMemory.
 pub fn apply(store: &mut Store<MemoryDisk>, tx: &Transaction) -> Result<(), StoreStop>
     requires sound { IsSound state_of store.old }
     ensures sound { IsSound state_of store.new }

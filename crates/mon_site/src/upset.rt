@@ -1,12 +1,12 @@
 use mon_types::Side;
 
-/// When a disk fails, and what it settles to: its write or sync of this number fails, and every later one. Image 0
-/// leaves nothing of each write that isn't on the disk then, 1 all of it, 2 its first half, and 3 a foreign byte in
-/// place of each of its bytes.
+/// An injected fault: write or sync number `call` of `disk` fails, and so does every later one. Then the disk settles
+/// to an image of its writes that aren't durable. Image 0 has nothing of each such write, 1 all of it, 2 its first
+/// half, and 3 a foreign byte in place of each of its bytes.
 #[derive(Clone, Copy)]
 pub struct Upset {
     pub disk: Side,
-    /// Counted from 1.
+    /// Counted from 1. Reads aren't counted.
     pub call: u64,
     pub image: u8,
 }
