@@ -78,23 +78,23 @@ pub fit-append : (a b : List Change) → AllByRecursion Fits a → AllByRecursio
 fit-append [] b h g = g
 fit-append (c ∷ a) b h g = (h.0, fit-append a b h.1 g)
 
--- ---- calls that answer for another call
+-- ---- the result of a call as that of another one
 
--- what is so of every event under way that is as it should be is so of those that are more
+-- what holds of every event that satisfies A holds of every event that satisfies B, if B implies A
 pub weaken : {S : Type 0} (me : Me) (now : ℕ) (is : S → Course → Course) (A B : Course → Type 0) (start : Course → Course) (wanted : Course → Result Course Which) (r : Result (Plan S) RoleStop)
     → ((x : Course) → B x → A x) → Plans me now is A start wanted r → Plans me now is B start wanted r
 weaken me now is A B start wanted (Ok p) f h = record { changes = h.changes; fit = h.fit; spelled = h.spelled; row = λ x b. h.row x (f x b) }
 weaken me now is A B start wanted (Err stop.OutOfMemory) f h = tt
 weaken me now is A B start wanted (Err (stop.Spent which)) f h = λ x b. h x (f x b)
 
--- what is wanted may be said otherwise
+-- what is wanted may be replaced by something equal
 pub instead : {S : Type 0} (me : Me) (now : ℕ) (is : S → Course → Course) (B : Course → Type 0) (start : Course → Course) (one other : Course → Result Course Which) (r : Result (Plan S) RoleStop)
     → ((x : Course) → B x → other x ≡ one x) → Plans me now is B start one r → Plans me now is B start other r
 instead me now is B start one other (Ok p) f h = record { changes = h.changes; fit = h.fit; spelled = h.spelled; row = λ x b. f x b ∙ h.row x b }
 instead me now is B start one other (Err stop.OutOfMemory) f h = tt
 instead me now is B start one other (Err (stop.Spent which)) f h = λ x b. f x b ∙ h x b
 
--- a call that learns and fails fails as the act does
+-- if learning fails, the call fails in the same way as the act
 pub learn-fails : {S : Type 0} (me : Me) (now : ℕ) (is : S → Course → Course) (B : Course → Type 0) (start : Course → Course) (wanted : Course → Result Course Which) (v : ℕ) (values : List (List Op)) (e : RoleStop)
     → Learns v values (Err e) → ((x : Course) → B x → wanted x ≡ learn v values x) → Plans me now is B start wanted (Err e)
 learn-fails me now is B start wanted v values stop.OutOfMemory h row = tt

@@ -22,7 +22,7 @@ use Rattle.mon_msg.proofs.Changed.{readings-joined}
 use Rattle.mon_msg.proofs.Joining.{neither, apply-joined}
 use Rattle.mon_plan.specs.Taking.{is_taking}
 
--- only what takes keys away is asked
+-- puts don't matter for whether a place is erased
 pub taken-filter : (at : Place) (ops : List Op) → list_any (takes_away at) (filter is_taking ops) ≡ list_any (takes_away at) ops
 taken-filter at [] = refl
 taken-filter at (Put prefix key value ∷ ops) = taken-filter at ops
@@ -30,7 +30,7 @@ taken-filter at (Erase prefix key ∷ ops) = ap (λ b. takes_away at (Erase pref
 taken-filter at (ErasePrefix prefix ∷ ops) = ap (λ b. takes_away at (ErasePrefix prefix) || b) (taken-filter at ops)
 taken-filter at (EraseRange prefix from to ∷ ops) = ap (λ b. takes_away at (EraseRange prefix from to) || b) (taken-filter at ops)
 
--- what decides nothing of a place doesn't take it away
+-- a change that doesn't touch a place doesn't erase it
 untaken : (at : Place) (op : Op) → decided op at ≡ None → takes_away at op ≡ false
 untaken at (Put prefix key value) h = refl
 untaken at (Erase prefix key) h = ap is_some h
@@ -47,7 +47,7 @@ undecided (op ∷ ops) at h =
     let both = none_of (decision ops at) (decided op at) h in
     λ i. untaken at op both.1 i || undecided ops at both.0 i
 
--- what takes nothing away leaves no place empty that it speaks of
+-- a change that touches a place without erasing it puts a value there
 put_there : (test : Bool) (value : List ℕ) → cond test (Some (Some value)) None ≡ Some None → ⊥
 put_there true value h = cc
 put_there false value h = cc
@@ -118,7 +118,7 @@ module _ (ops : List Op) (m : Store) (at : Place) where
       by None e h = refl
       by (Some x) e h = absurd (decides_there ops at (sym (taken-filter at ops) ∙ g) (e ∙ ap Some (sym h)))
 
--- as a store reads that keeps what changes put and which of them take keys away
+-- reading by two parts: what the changes put, and which of them erase keys
 module _ (ops : List Op) (kv put now : Store) (prefix text : List ℕ) (a : Area) (k : Key)
     (made : put ≡ apply ops empty) (view : apply ops kv ≡ now) (p : prefix ≡ area_text a) (t : text ≡ key_text k) where
   there : get put (prefix, text) ≡ get (apply ops empty) (place a k)

@@ -1,4 +1,4 @@
--- What a plan leaves for the act that it names.
+-- What a plan's transaction may hold if an act follows it.
 use Rattle.std.specs.Prelude.{◌≡◌, ℕ, ◌≤◌, ◌^◌, ◌⊎◌, true, false, nat_lt, List, [], ◌∷◌}
 use Rattle.mon_msg.specs.Protocol.Changes.{Epoch, spelled}
 use Rattle.mon_msg.specs.Protocol.Records.{may_begin}
@@ -29,7 +29,7 @@ Leaves at (next.RecentSync from) tx = tx ≡ []
 -- an active leader begins a value that a message can carry
 Leaves at (next.Begin value o) tx = (tx ≡ []) × (at ≡ phase.Active) × (may_begin value ≡ true)
 
--- An act is the last one of its event, except that of a monitor that begins again and wins alone.
+-- The plan of an act that ends its event: no further act follows, except that a monitor alone in its map wins.
 abbrev pub Ends : Me → Next → (tx : List Op) → Type 0
 Ends me next.Stay tx = Unit {0}
 Ends me (next.Win quorum) tx = (nat_lt 1 me.member.monitors ≡ false) × TellsEpoch tx

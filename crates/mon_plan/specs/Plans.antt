@@ -118,7 +118,7 @@ module _ {S : Type 0} (me : Me) (now : ℕ) (is : S → Course → Course) (Befo
     pub spelled : p.tx ≡ spelled changes
     pub row : (x : Course) → Before x → wanted x ≡ act me now p.next (done is changes p (start x))
 
-  -- and so is a call's result, or it names the number that runs out; or memory ran out
+  -- A call returned such a plan, or `Spent` with the number that runs out in what is wanted, or memory ran out.
   abbrev pub Plans : Result (Plan S) RoleStop → Type 0
   Plans (Ok p) = Does p
   Plans (Err stop.OutOfMemory) = Unit {0}
@@ -129,6 +129,6 @@ module _ {S : Type 0} (me : Me) (now : ℕ) (is : S → Course → Course) (Befo
   abbrev pub PlansRow : (row : Course → Result Course Which) → Result (Plan S) RoleStop → Type 0
   PlansRow row result = Plans me now is Before (λ x. x) row result
 
-  -- an act, which the monitor has entered as the act begins
+  -- an act, after the monitor has entered the phase with which the act begins
   abbrev pub PlansAct : Next → Result (Plan S) RoleStop → Type 0
   PlansAct a result = Plans me now is Before (entered a) (act me now a) result

@@ -7,11 +7,12 @@ use Rattle.mon_msg.specs.Protocol.Records.{run_from, longest}
 use Rattle.mon_tx.specs.Decision.{Cell}
 use Rattle.mon_tx.specs.declared.op.Op.{Op}
 
--- how much a message takes besides values of the versions from `from` on: a different number if they reach the last version
+-- how many bytes a message's other fields take: `at_end` if its values from version `from` on reach the last version,
+-- and otherwise `plain`
 abbrev pub besides : (last from plain at_end : ℕ) → List (List Op) → ℕ
 besides last from plain at_end values = if nat_lt last (from + length values) then at_end else plain
 
--- whether a message takes them, and they are no more than a list of a message has
+-- whether a message has room for the values, and a list may have that many items
 abbrev pub have_room : (last from plain at_end : ℕ) → List (List Op) → Bool
 have_room last from plain at_end values =
     nat_le (besides last from plain at_end values + sum_by value_length values) MOST_MESSAGE && nat_le (length values) MOST_ITEMS
@@ -20,7 +21,7 @@ have_room last from plain at_end values =
 unfoldable pub run_within : (records : ℕ → Cell) → (last from plain at_end : ℕ) → List (List Op)
 run_within records last from plain at_end = longest (have_room last from plain at_end) (run_from records last from)
 
--- a value that still has room
+-- a value that takes at most `room` bytes in a list of a message
 abbrev pub where_room : (room : ℕ) → Option (List Op) → Option (List Op)
 where_room room None = None
 where_room room (Some value) = if nat_le (value_length value) room then Some value else None

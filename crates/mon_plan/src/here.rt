@@ -1,4 +1,4 @@
-//! What an input meets, which no part of its event changes.
+//! What is fixed during an event: the store as it was, the monitor and the time.
 
 ghost use Rattle.std.specs.Prelude.{◌≡◌};
 ghost use Rattle.mon_msg.specs.Protocol.Readings.{epoch_of, readings_of};
@@ -9,7 +9,7 @@ use mon_msg::Me;
 use mon_types::{Epoch, Moment, Version};
 use std::alloc::Global;
 
-/// The store and the monitor at which an input comes, and the time at which it comes.
+/// The monitor that an input reaches, its store before the event, and the time of the input.
 #[derive(Clone, Copy)]
 pub struct Here<'a> {
     pub alloc: Global,
@@ -19,14 +19,14 @@ pub struct Here<'a> {
 }
 
 impl Here<'_> {
-    /// The own epoch.
+    /// This monitor's epoch.
     pub fn own_epoch(&self) -> Epoch
         ensures { result ≡ epoch_of (readings_of self.now.kv.now) }
     {
         Stored::of(self.alloc, self.kv).epoch()
     }
 
-    /// The own last version.
+    /// This monitor's last committed version.
     pub fn own_last(&self) -> Version
         ensures { result ≡ (readings_of self.now.kv.now).last }
     {

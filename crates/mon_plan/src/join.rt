@@ -14,7 +14,7 @@ use mon_tx::{Op, Transaction};
 use mon_types::GREATEST;
 use std::alloc::Global;
 
-/// Notes a number under a key.
+/// Puts a number under a key of the index.
 #[tactic(auto, unfolding(mon_tx::specs::Map::number_bytes))]
 fn note(
     alloc: Global,
@@ -36,7 +36,7 @@ fn note(
     index.apply(&tx)
 }
 
-/// Makes a change alone.
+/// Makes one change in the index.
 fn make(alloc: Global, index: &mut Kv, op: &Op) -> Result<(), OutOfMemory>
     requires { IsTrue (is_upward op.now) }
     ensures { OnOk result (index.new ≡ apply_op op.now index.old) }
@@ -118,7 +118,7 @@ fn join(
     }
 }
 
-/// Which changes are left when the list is joined, in order.
+/// The indices of the changes that remain when the list is joined, in their order.
 fn order_of(alloc: Global, ops: &[Op]) -> Result<Vec<usize>, OutOfMemory>
     requires few { length ops.now < 2 ^ 62 }
     requires upward { IsTrue (list_all is_upward ops.now) }
@@ -133,9 +133,9 @@ fn order_of(alloc: Global, ops: &[Op]) -> Result<Vec<usize>, OutOfMemory>
     Ok(order)
 }
 
-/// The transaction with each key put once: in the place of its first put that a later one may replace, with the value of the
-/// last. Each change that is left is copied once. The time goes with the changes times the height of a tree of their keys;
-/// a range or a prefix that is erased takes as long as on such a tree.
+/// Joins the puts of a key that no erasure separates to one put: in the place of the first of them, with the value of
+/// the last. Each remaining change is copied once. Time: the number of changes, times the height of a tree of their
+/// keys. Erasing a range or a prefix takes as long as on such a tree.
 pub fn joined(alloc: Global, tx: &Transaction) -> Result<Transaction, OutOfMemory>
     ensures { IfOk result (λ joined_tx. joined_tx ≡ joined tx.now) }
 {

@@ -24,7 +24,7 @@ pub fn planned<S: Drop>(alloc: Global, state: S, next: Next) -> Plan<S>
     }
 }
 
-/// Nothing is done. It takes no memory.
+/// A plan that does nothing and names no act. It takes no memory.
 pub fn stay<S: Drop>(alloc: Global, state: S) -> Plan<S>
     ensures { result ≡ record { tx = []; out = []; timers = []; state = state; next = next.Stay } }
 {
@@ -66,7 +66,7 @@ fn length_of(kind: Timer) -> u64
     }
 }
 
-/// A timer is set for the time at which its length is over, or for the greatest time if that is later.
+/// Sets a timer that ends when its length is over, but at 2^62 milliseconds at the latest.
 pub fn armed(now: Moment, kind: Timer) -> Arming
     ensures { result ≡ Arming.Arm kind (min (now + length_of kind) (2 ^ 62)) }
 {
@@ -77,7 +77,7 @@ pub fn armed(now: Moment, kind: Timer) -> Arming
     }
 }
 
-/// A timer is disarmed.
+/// Disarms a timer.
 pub fn disarmed(kind: Timer) -> Arming
     ensures { result ≡ Arming.Disarm kind }
 {

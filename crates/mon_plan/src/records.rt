@@ -17,10 +17,11 @@ use mon_tx::{Transaction, TxRefused, decode, is_text};
 use mon_types::Version;
 use std::alloc::Global;
 
-/// The longest text of a value of which a BEGIN may be sent, in bytes: that of a message without what it takes besides.
+/// The longest text in bytes of a value that a BEGIN may carry: the longest message, without the 32 bytes of its other
+/// fields.
 const MOST_BEGUN: usize = MOST_MESSAGE - 32;
 
-/// The value that the bytes encode, if a BEGIN may carry it. Longer ones aren't decoded.
+/// The value that the bytes encode, if a BEGIN may carry it. Longer bytes aren't decoded.
 fn value_in(alloc: Global, bytes: &[u8]) -> Result<Option<Transaction>, OutOfMemory>
     ensures value { IfOk result (λ value. value ≡ transaction_in (Some bytes.now)) }
     ensures bytes { IfOk result (λ value. IfSome value (λ ops. bytes.now ≡ text ops)) }
@@ -42,7 +43,8 @@ fn value_len(value: &Transaction) -> usize
     (value.text_len() as usize).saturating_add(4)
 }
 
-/// The value that bytes encode, if it takes at most this many bytes. What is longer isn't decoded.
+/// The value that the bytes encode, if it takes at most `room` bytes in a list of a message. Longer bytes aren't
+/// decoded.
 fn value_fitting(
     alloc: Global,
     bytes: &[u8],
@@ -59,7 +61,7 @@ fn value_fitting(
     value_in(alloc, bytes)
 }
 
-/// Whether a value that is waiting counts: whether it may be proposed.
+/// Whether an accepted value counts as pending: it is a transaction that is short enough to be proposed.
 fn counts(value: &[u8]) -> bool
     ensures { (v pn : ℕ) → result ≡ is_some (found_as v pn (transaction_in (Some value.now))) }
 {
@@ -76,8 +78,8 @@ pub struct Run {
     pub bytes: usize,
 }
 
-/// How much room a message has that already has this many bytes of values, and this many others: at the last version,
-/// or before it.
+/// How many bytes are free in a message that has `bytes` bytes of values. Its other fields take `at_end` bytes if its
+/// values reach the last version, and `plain` bytes otherwise.
 fn room_at(is_last: bool, plain: usize, at_end: usize, bytes: usize) -> usize
     ensures { result ≡ MOST_MESSAGE - (if is_last then at_end else plain) - bytes }
 {
@@ -86,8 +88,8 @@ fn room_at(is_last: bool, plain: usize, at_end: usize, bytes: usize) -> usize
 }
 
 impl<'a> Stored<'a> {
-    /// The value that the record of a version encodes. A record that is no transaction counts as none, and so does
-    /// one that no BEGIN may carry.
+    /// The value that a version's record encodes. `None` if there is no record, if it is no transaction, or if no BEGIN
+    /// may carry it.
     #[tactic(auto, unfolding(mon_msg::specs::Protocol::Records::record_at))]
     pub fn record_at(&self, alloc: Global, v: u64) -> Result<Option<Transaction>, OutOfMemory>
         ensures { IfOk result (λ value. value ≡ record_at (readings_of self.now).record_of v) }
@@ -98,7 +100,7 @@ impl<'a> Stored<'a> {
         }
     }
 
-    /// The same, given that the value takes at most this many bytes in a list of a message. A longer one isn't
+    /// The same, but `None` if the value takes more than `room` bytes in a list of a message. A longer record isn't
     /// decoded.
     #[tactic(auto, unfolding(mon_msg::specs::Protocol::Records::record_at))]
     fn value_within(
@@ -115,8 +117,7 @@ impl<'a> Stored<'a> {
         }
     }
 
-    /// Whether a value was accepted for the version after the last one that counts: a transaction that may be proposed. It
-    /// takes no memory.
+    /// Whether a value that may be proposed was accepted for the version after the last one. It takes no memory.
     #[tactic(auto, unfolding(mon_msg::specs::Protocol::Records::pending_of, mon_msg::specs::Protocol::Records::record_at))]
     pub fn has_pending(&self) -> bool
         ensures { result ≡ is_some (pending (readings_of self.now)) }
@@ -131,7 +132,7 @@ impl<'a> Stored<'a> {
         }
     }
 
-    /// The value that was accepted for the version after the last one, with its number, if it counts.
+    /// The value that was accepted for the version after the last one, with its proposal number, if it may be proposed.
     #[tactic(auto, unfolding(mon_msg::specs::Protocol::Records::pending_of, mon_msg::specs::Protocol::Records::record_at))]
     pub fn pending(&self, alloc: Global) -> Result<Option<Found>, OutOfMemory>
         ensures { IfOk result (λ found. found ≡ pending (readings_of self.now)) }
@@ -148,9 +149,9 @@ impl<'a> Stored<'a> {
         Ok(Some(Found { version, pn, value }))
     }
 
-    /// The longest run of records from version `from` on, up to the last version or the first without a record, that
-    /// fits in a message with `plain` other bytes, or `at_end` if the run reaches the last version. Each record is
-    /// decoded once, and none for which there is no room.
+    /// The longest run of values from version `from` on that fits in a message. It ends before the first version
+    /// without a valid record. The message's other fields take `at_end` bytes if the run reaches the last version, and
+    /// `plain` bytes otherwise. Each record is decoded once, and none for which there is no room.
     pub fn run(
         &self,
         alloc: Global,

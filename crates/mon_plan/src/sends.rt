@@ -11,14 +11,14 @@ use mon_msg::{Body, Me, Origin, Reply};
 use mon_types::{Epoch, Rank, RankSet};
 use std::alloc::Global;
 
-/// Whether another monitor is in a set.
+/// Whether the rank is another monitor's, and is in the set.
 fn is_member(me: &Me, quorum: RankSet, rank: Rank) -> bool
     ensures { result ≡ (has quorum rank && not (rank == me.now.member.rank)) }
 {
     quorum.has(rank) && rank != me.member.rank
 }
 
-/// Whether it is another monitor.
+/// Whether the rank is another monitor's.
 fn is_other(me: &Me, rank: Rank) -> bool
     ensures { result ≡ not (rank == me.now.member.rank) }
 {
@@ -55,7 +55,7 @@ pub fn others(alloc: Global, me: &Me) -> Result<Vec<Rank>, OutOfMemory>
     Ok(ranks)
 }
 
-/// Appends the same message to each of some monitors. What it says is copied once for each of them.
+/// Appends one message per rank, all with the same body. The body is copied once per rank.
 pub fn send_each(
     alloc: Global,
     out: &mut Items<Sent>,

@@ -1,4 +1,4 @@
-//! A monitor's store as changes leave it that aren't made yet.
+//! A monitor's store as it would be after changes that aren't made yet.
 
 ghost use Rattle.std.specs.Prelude.{◌≡◌, ◌≤◌, ◌^◌, None, IfOk, IfSome, IsTrue, is_some, if◌then◌else◌};
 ghost use Rattle.std.specs.FinMap.{get};
@@ -18,7 +18,7 @@ use mon_types::{Epoch, Pn, Version};
 use std::alloc::Global;
 use std::marker::Model;
 
-/// A monitor's store as some changes leave it that aren't made yet. Contracts see the map that it would be.
+/// A monitor's store as it would be after some changes that aren't made yet. Contracts see the map after the changes.
 #[derive(Drop)]
 pub struct Stored<'a> {
     kv: &'a Kv,
@@ -63,7 +63,7 @@ fn is_taking(op: &Op) -> bool
     }
 }
 
-/// Those of the changes that take keys away.
+/// Copies of the changes that erase keys.
 fn taken_by(alloc: Global, ops: &[Op]) -> Result<Vec<Op>, OutOfMemory>
     ensures { IfOk result (λ taken. taken.items ≡ filter is_taking ops.now) }
 {
@@ -210,7 +210,7 @@ impl<'a> Stored<'a> {
         self.if_there(Area::Monitor, Key::ElectionEpoch).is_some()
     }
 
-    /// How often the monitor was started.
+    /// How often the monitor has started.
     #[tactic(auto, unfolding(mon_msg::specs::Protocol::Readings::readings_of))]
     pub fn boot(&self) -> u64
         ensures value { result ≡ (readings_of self.now).boot }
@@ -268,7 +268,7 @@ impl<'a> Stored<'a> {
         Version::known(self.number(Area::Paxos, Key::LastCommitted))
     }
 
-    /// For which version a value was accepted last.
+    /// The version for which a value was accepted last.
     #[tactic(auto, unfolding(mon_msg::specs::Protocol::Readings::readings_of))]
     pub(crate) fn pending_v(&self) -> u64
         ensures value { result ≡ (readings_of self.now).pending_v }
@@ -277,7 +277,7 @@ impl<'a> Stored<'a> {
         self.number(Area::Paxos, Key::PendingV)
     }
 
-    /// Under which proposal number.
+    /// The proposal number under which that value was accepted.
     #[tactic(auto, unfolding(mon_msg::specs::Protocol::Readings::readings_of))]
     pub(crate) fn pending_pn(&self) -> Pn
         ensures { result ≡ (readings_of self.now).pending_pn }

@@ -14,7 +14,7 @@ use mon_msg::RoleStop;
 use mon_tx::{Area, EncodeRefused, Key, Op, Transaction};
 use mon_types::{Epoch, Pn, Version, Which};
 
-/// The text of a value, which has to be short enough.
+/// Encodes a value, which must be short enough for a transaction.
 fn value_bytes(value: &Transaction) -> Result<Bytes, OutOfMemory>
     requires { length (text value.now) ≤ most }
     ensures { IfOk result (λ bytes. bytes ≡ text value.now) }
@@ -26,7 +26,7 @@ fn value_bytes(value: &Transaction) -> Result<Bytes, OutOfMemory>
     }
 }
 
-/// The count of the monitor's starts.
+/// Writes how often the monitor has started.
 pub fn put_boot(tx: &mut Transaction, boot: u64) -> Result<(), OutOfMemory>
     requires { boot ≤ 2 ^ 62 }
     ensures changes { OnOk result (tx.new ≡ tx.old ++ ops_of (Boot boot)) }
@@ -35,7 +35,7 @@ pub fn put_boot(tx: &mut Transaction, boot: u64) -> Result<(), OutOfMemory>
     tx.put_number(Area::Monitor, Key::BootCount, boot)
 }
 
-/// The monitor's epoch.
+/// Writes the monitor's epoch.
 pub fn put_epoch(tx: &mut Transaction, epoch: Epoch) -> Result<(), OutOfMemory>
     ensures changes { OnOk result (tx.new ≡ tx.old ++ ops_of (Epoch epoch)) }
     ensures fit { Fits (Epoch epoch) }
@@ -43,7 +43,7 @@ pub fn put_epoch(tx: &mut Transaction, epoch: Epoch) -> Result<(), OutOfMemory>
     tx.put_number(Area::Monitor, Key::ElectionEpoch, epoch.get())
 }
 
-/// A proposal number that this monitor makes, and so promises.
+/// Writes a proposal number that this monitor makes, and so also promises.
 pub fn put_numbers(tx: &mut Transaction, pn: Pn) -> Result<(), OutOfMemory>
     ensures changes { OnOk result (tx.new ≡ tx.old ++ ops_of (Numbers pn)) }
     ensures fit { Fits (Numbers pn) }
@@ -52,7 +52,7 @@ pub fn put_numbers(tx: &mut Transaction, pn: Pn) -> Result<(), OutOfMemory>
     tx.put_number(Area::Paxos, Key::AcceptedPn, pn.get())
 }
 
-/// A number of another monitor is promised.
+/// Writes the promise of another monitor's proposal number.
 pub fn put_promise(tx: &mut Transaction, pn: Pn) -> Result<(), OutOfMemory>
     ensures changes { OnOk result (tx.new ≡ tx.old ++ ops_of (Promise pn)) }
     ensures fit { Fits (Promise pn) }
@@ -60,7 +60,7 @@ pub fn put_promise(tx: &mut Transaction, pn: Pn) -> Result<(), OutOfMemory>
     tx.put_number(Area::Paxos, Key::AcceptedPn, pn.get())
 }
 
-/// A value is accepted for a version under a number.
+/// Writes that a value is accepted for a version under a proposal number.
 pub fn put_vote(
     tx: &mut Transaction,
     version: Version,
@@ -77,7 +77,7 @@ pub fn put_vote(
     tx.put_number(Area::Paxos, Key::PendingPn, pn.get())
 }
 
-/// A version's record alone.
+/// Writes a version's record, without its changes.
 fn put_record(tx: &mut Transaction, v: u64, value: &Transaction) -> Result<(), OutOfMemory>
     requires { length (text value.now) ≤ most }
     ensures { OnOk result (tx.new ≡ tx.old ++ ops_of (Record v value.now)) }
@@ -86,7 +86,7 @@ fn put_record(tx: &mut Transaction, v: u64, value: &Transaction) -> Result<(), O
     tx.put(Area::Paxos, Key::Version(v), record)
 }
 
-/// A version's value: its record, and its changes.
+/// Writes a version's record, and makes the changes of its value.
 fn put_learn(tx: &mut Transaction, v: u64, value: &Transaction) -> Result<(), OutOfMemory>
     requires { length (text value.now) ≤ most }
     ensures { OnOk result (tx.new ≡ tx.old ++ ops_of (Learn v value.now)) }
@@ -95,7 +95,7 @@ fn put_learn(tx: &mut Transaction, v: u64, value: &Transaction) -> Result<(), Ou
     tx.append(value)
 }
 
-/// An entry of a copy.
+/// Writes one entry that a full synchronization copies.
 fn put_copy(tx: &mut Transaction, entry: &Entry) -> Result<(), OutOfMemory>
     ensures { OnOk result (tx.new ≡ tx.old ++ ops_of (Copy entry.now)) }
 {
@@ -107,7 +107,7 @@ fn put_copy(tx: &mut Transaction, entry: &Entry) -> Result<(), OutOfMemory>
     })
 }
 
-/// The records alone of the versions from `from` on.
+/// Writes the records of the versions from `from` on, without their changes.
 pub fn put_records(
     tx: &mut Transaction,
     from: u64,
@@ -126,7 +126,7 @@ pub fn put_records(
     Ok(())
 }
 
-/// The entries of a copy.
+/// Writes entries that a full synchronization copies.
 pub fn put_copies(tx: &mut Transaction, entries: &[Entry]) -> Result<(), OutOfMemory>
     ensures changes { OnOk result (tx.new ≡ tx.old ++ spelled (copy_changes entries.now)) }
     ensures fit { AllByRecursion Fits (copy_changes entries.now) }
@@ -137,7 +137,8 @@ pub fn put_copies(tx: &mut Transaction, entries: &[Entry]) -> Result<(), OutOfMe
     Ok(())
 }
 
-/// The values of the versions from `from` on: each record with the value's changes. The last version stays.
+/// Writes the records of the versions from `from` on, and makes the changes of their values. It doesn't write the last
+/// committed version.
 pub fn put_learned(
     tx: &mut Transaction,
     from: u64,
@@ -156,7 +157,7 @@ pub fn put_learned(
     Ok(())
 }
 
-/// The last committed version.
+/// Writes the last committed version.
 pub fn put_last(tx: &mut Transaction, version: Version) -> Result<(), OutOfMemory>
     ensures changes { OnOk result (tx.new ≡ tx.old ++ ops_of (Last version)) }
     ensures fit { Fits (Last version) }
@@ -164,8 +165,9 @@ pub fn put_last(tx: &mut Transaction, version: Version) -> Result<(), OutOfMemor
     tx.put_number(Area::Paxos, Key::LastCommitted, version.get())
 }
 
-/// The values of the versions from `from` on are learned, and the last of these versions is the last one from then
-/// on. It returns `Version` if that would pass 2^62. If there are none, nothing is written.
+/// Learns the values of the versions from `from` on: writes their records, makes their changes, and writes the last of
+/// these versions as the last committed one. Returns `Spent` with `Version` if that would pass 2^62. Without values it
+/// writes nothing.
 pub fn learn(tx: &mut Transaction, from: u64, values: &[Transaction]) -> Result<(), RoleStop>
     requires short { AllByRecursion (λ ops. length (text ops) ≤ most) values.now }
     requires from { 1 ≤ from }
@@ -187,7 +189,7 @@ pub fn learn(tx: &mut Transaction, from: u64, values: &[Transaction]) -> Result<
     Ok(())
 }
 
-/// All keys of an area go.
+/// Erases all keys of an area.
 fn erase_all(tx: &mut Transaction, area: Area) -> Result<(), OutOfMemory>
     ensures { OnOk result (tx.new ≡ tx.old ++ erase_all area ∷ []) }
 {
@@ -195,7 +197,7 @@ fn erase_all(tx: &mut Transaction, area: Area) -> Result<(), OutOfMemory>
     tx.push(Op::ErasePrefix { prefix })
 }
 
-/// A number of Paxos stays, if there was one.
+/// Writes a proposal number back after its area was erased, if there was one.
 fn put_back(tx: &mut Transaction, key: Key, pn: Option<Pn>) -> Result<(), OutOfMemory>
     ensures { OnOk result (tx.new ≡ tx.old ++ put_back key pn) }
 {
@@ -205,8 +207,8 @@ fn put_back(tx: &mut Transaction, key: Key, pn: Option<Pn>) -> Result<(), OutOfM
     }
 }
 
-/// A full synchronization begins, which must reach the floor: all that is shared goes, and the own numbers stay that were
-/// there.
+/// Begins a full synchronization, which must reach the version `floor`. It erases all shared areas, and keeps this
+/// monitor's own proposal numbers.
 pub fn put_mark(
     tx: &mut Transaction,
     floor: Version,
@@ -225,7 +227,7 @@ pub fn put_mark(
     put_back(tx, Key::AcceptedPn, promise)
 }
 
-/// A full synchronization is over.
+/// Ends a full synchronization.
 pub fn put_unmark(tx: &mut Transaction) -> Result<(), OutOfMemory>
     ensures { OnOk result (tx.new ≡ tx.old ++ ops_of Unmark) }
 {
