@@ -42,7 +42,7 @@ known c s = known_in (kept_of c s)
 
 -- ---- following
 
--- It is what is read there, the reading reaches the last version, and no full map is newer.
+-- A known map is what is read from the store, the reading reaches the last version, and no full map is newer.
 pub record IsCurrent (w : Readings) (s : Service) (k : Known) : Type 0 where
   pub map_is : k.map ≡ read_map w s
   pub version_is : k.version ≡ service_last w s
@@ -55,7 +55,7 @@ Follows c w = (s : Service) → IfSome (known c s) (IsCurrent w s)
 
 -- ---- reading
 
--- a service that wasn't known is known if its reading reaches the last version and no full map is newer
+-- a service that wasn't known becomes known if its reading reaches the last version and no full map is newer
 abbrev pub known_once_read : Readings → Service → Option Known → Option Known
 known_once_read w s (Some k) = Some k
 known_once_read w s None =
@@ -67,7 +67,8 @@ known_once_read w s None =
 -- During a transaction the cache has, for each service, the version and the map so far, and whether its last version was
 -- written since it rose.
 
--- a put is of the next version's incremental, of the first version, or of the version so far as the last one
+-- a put that can be followed puts the next version's incremental, the first version, or the version so far as the last
+-- one
 abbrev pub after_put : Service → List ℕ → List ℕ → Turn → Option Turn
 after_put s k value t =
     if bytes_eq k (key_text (key.Version (suc t.version)))
@@ -79,7 +80,7 @@ after_put s k value t =
 abbrev pub of_service : Service → List ℕ → Bool
 of_service s prefix = bytes_eq prefix (area_text (area_of s))
 
--- any other change of the service's keys is none that can be followed
+-- no other change of the service's keys can be followed
 abbrev pub after_op : Service → Op → Turn → Option Turn
 after_op s (Put prefix k value) t = if of_service s prefix then after_put s k value t else Some t
 after_op s (Erase prefix k) t = if of_service s prefix then None else Some t
@@ -98,12 +99,12 @@ abbrev pub known_after : Service → List Op → Option Known → Option Known
 known_after s ops k = option_and_then (λ k. option_and_then where_told
     (after_ops s ops (record { version = k.version; map = k.map; told = true }))) k
 
--- by how many versions a service rose that is known before and after
+-- by how many versions a service's known map rose; 0 if it isn't known before and after
 abbrev pub risen : Option Known → Option Known → ℕ
 risen (Some before) (Some now) = now.version - before.version
 risen before now = 0
 
--- a change was followed, or it is none that can be
+-- the changes were followed up to `next`, or one of them can't be followed
 abbrev pub Went : Turn → Option Turn → Bool → Type 0
 Went new next true = next ≡ Some new
 Went new next false = next ≡ None

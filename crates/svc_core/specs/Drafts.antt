@@ -33,7 +33,7 @@ abbrev pub drafted : Bool → Result (List ℕ × ShownMap) CommandRefused → R
 drafted due (Ok (incremental, next)) = Ok (record { incremental = incremental; text = text_if due next })
 drafted due (Err e) = Err e
 
--- no longer than an incremental may be, and than a map's text may be
+-- the incremental and the map's text are no longer than they may be
 pub record IsShort (d : Draft) : Type 0 where
   pub incremental : length d.incremental ≤ most_incremental
   pub text : length d.text ≤ MOST_KV_MAP

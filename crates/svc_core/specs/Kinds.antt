@@ -16,7 +16,7 @@ pub record IsMapOf (s : Service) (m : ShownMap) : Type 0 where
   pub kind_is : kind m ≡ s
   pub short : length (map_text m) ≤ most_map s
 
--- A map took a step, or there was none and it stayed.
+-- A map took a step, or no step was possible and the map stayed.
 abbrev pub Stepped : ShownMap → ShownMap → Option ShownMap → Bool → Type 0
 Stepped old new next true = next ≡ Some new
 Stepped old new next false = (next ≡ None) × (new ≡ old)

@@ -7,7 +7,7 @@ use Rattle.mon_wire.specs.declared.reply.ShownMap.{ShownMap}
 use Rattle.mon_wire.specs.declared.reply.ShownMap.TheVariants as map
 use Rattle.svc_core.specs.declared.outline.Outline.{Outline}
 
--- of a map that holds the key or doesn't, and has no longer text
+-- an outline of a map: whether it holds the key, and an upper bound of the length of its text
 pub record IsOf (k : List ℕ) (o : Outline) (m : kv.Kv) : Type 0 where
   pub held : o.held ≡ contains_key m k
   pub within : length (kv_text.map_text m) ≤ o.most

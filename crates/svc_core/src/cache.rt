@@ -29,17 +29,17 @@ pub(crate) struct Known {
     pub(crate) map: ShownMap,
 }
 
-/// What is kept of a service.
+/// What the cache has of a service.
 #[derive(Drop)]
 pub(crate) enum Kept {
     Nothing,
-    /// What is known of it.
+    /// A known map: it follows the store's transactions.
     Followed(Known),
-    /// A map that was answered and isn't followed.
+    /// A map that was read once, and isn't followed.
     Read(ShownMap),
 }
 
-/// The maps of the services that are known, each with its version.
+/// A cache of the services' maps, each with its version.
 #[derive(Drop)]
 pub struct Cache {
     kv: Kept,
@@ -107,7 +107,8 @@ fn read_kept(alloc: Global, kv: &Kv, service: Service) -> Result<Kept, OutOfMemo
     Ok(Kept::Read(map))
 }
 
-/// What is kept of a service after a transaction, and how many incrementals were applied to what is.
+/// What the cache has of a service after a transaction, and how many incrementals were applied if its map is still
+/// known.
 #[derive(Drop)]
 struct Followed {
     kept: Kept,
@@ -193,7 +194,7 @@ impl Cache {
         self.kept(service).known()
     }
 
-    /// Knows no service any more.
+    /// Forgets every service.
     fn forget(&mut self)
         ensures { (s : services.Service) → known self.new s ≡ None }
     {
@@ -231,7 +232,7 @@ impl Cache {
         }
     }
 
-    /// Keeps this of a service.
+    /// Replaces what the cache has of a service.
     fn keep(&mut self, service: Service, kept: Kept)
         ensures keeps { kept_of self.new service ≡ kept }
         ensures others { (s : services.Service) → (s ≡ service → ⊥) →

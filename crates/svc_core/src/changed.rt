@@ -14,7 +14,7 @@ use mon_msg::{Items, MOST_ITEMS, MOST_TOLD_BYTES, Reply, Service};
 use mon_types::Version;
 use std::alloc::Global;
 
-/// Incrementals in order, and whether one follows.
+/// Incrementals in order of version, and whether more follow.
 #[derive(Drop)]
 struct Changes {
     told: Items<Bytes>,
@@ -54,7 +54,7 @@ fn told_after(alloc: Global, kv: &Kv, service: Service, v: u64) -> Result<Change
     Ok(Changes { told, more: false })
 }
 
-/// A service's whole map as it is read, with the last versions of the log and of the service.
+/// Answers with a service's whole map, the last committed version and the service's last version.
 #[tactic(auto, unfolding(mon_msg::specs::Protocol::Readings::readings_of))]
 pub fn shown(alloc: Global, kv: &Kv, service: Service) -> Result<Reply, OutOfMemory>
     ensures { IfOk result (λ reply. reply ≡ shown (readings_of kv.now) service) }
@@ -67,8 +67,8 @@ pub fn shown(alloc: Global, kv: &Kv, service: Service) -> Result<Reply, OutOfMem
     })
 }
 
-/// What changed a service's map after version `v`: the incrementals from the next version on, as many as one reply
-/// takes, if that version is kept or would be the next one; and the whole map if it isn't kept any more.
+/// Answers what changed a service's map after version `v`. The answer has the incrementals from version `v + 1` on, as
+/// many as one reply takes. It is the whole map if the first version that is kept is above `v + 1`.
 #[tactic(auto, unfolding(mon_msg::specs::Protocol::Reads::since))]
 pub fn since(alloc: Global, kv: &Kv, service: Service, v: u64) -> Result<Reply, OutOfMemory>
     requires { v ≤ 2 ^ 62 }

@@ -33,7 +33,7 @@ pub(crate) struct Draft {
 }
 
 impl Draft {
-    /// An incremental if no full map is due.
+    /// A draft with an incremental alone, for a version without a full map.
     fn bare(alloc: Global, incremental: Bytes) -> Draft
         ensures incremental { result.incremental ≡ incremental }
         ensures text { result.text ≡ [] }
@@ -45,7 +45,7 @@ impl Draft {
     }
 }
 
-/// The incremental of a set that surely fits, or `None` if that can't be known without the map.
+/// The incremental of a set that surely fits, or `None` if only the built map shows whether it fits.
 fn sure_set(alloc: Global, kv: &Kv, command: &Command) -> Result<Option<KvInc>, OutOfMemory>
     ensures made { IfOk result
         (λ made. IfSome made (λ inc. kv_incremental (read_map (readings_of kv.now) Service.Kv) command.now ≡
@@ -70,7 +70,8 @@ fn sure_set(alloc: Global, kv: &Kv, command: &Command) -> Result<Option<KvInc>, 
     }))
 }
 
-/// The incremental of a removal, or `None` if whether the key is there can't be known without building the map.
+/// The incremental of a removal, or `NoSuch` if the key isn't there. `None` if only the built map shows whether it is
+/// there.
 #[tactic(auto, using(crate::proofs::Outlines::removal, crate::proofs::Outlines::no_removal))]
 fn sure_remove(alloc: Global, kv: &Kv, command: &Command) -> Result<Option<KvInc>, CommandRefused>
     ensures made { IfOk result
@@ -192,7 +193,7 @@ fn log_draft(alloc: Global, map: LogMap, inc: LogInc) -> Result<Draft, OutOfMemo
     })
 }
 
-/// What a text makes of the cluster log. The map is read only if a full map is due.
+/// What logging a text makes of the cluster log. The map is read only if a full map is due.
 fn log_made(
     alloc: Global,
     kv: &Kv,

@@ -1,4 +1,4 @@
-//! Which versions of the log go, once there are many.
+//! Trimming the log of Paxos: which versions are erased, and when.
 
 ghost use Rattle.std.specs.Prelude.{◌≡◌, ◌+◌, ◌-◌, ◌<◌, ◌≤◌, ◌^◌, [], ◌++◌, min, IfOk, OnOk};
 ghost use Rattle.mon_msg.specs.Protocol.Rules.{paxos_to, paxos_trim};
@@ -8,7 +8,8 @@ use mon_msg::{PAXOS_DUE, PAXOS_GOES, PAXOS_KEEPS};
 use mon_tx::{Area, Key, Op, Transaction};
 use std::alloc::Global;
 
-/// Appends what trims the log: the versions from the first one on that go, and the first one that is kept.
+/// Appends the changes that trim the log: an erasure from `first` on, and the new first version. Appends nothing if no
+/// trim is due.
 pub(crate) fn push_trim(tx: &mut Transaction, first: u64, last: u64) -> Result<(), OutOfMemory>
     requires first { first ≤ 2 ^ 62 }
     requires last { last ≤ 2 ^ 62 }
@@ -22,9 +23,9 @@ pub(crate) fn push_trim(tx: &mut Transaction, first: u64, last: u64) -> Result<(
     tx.put_number(Area::Paxos, Key::FirstCommitted, to)
 }
 
-/// What trims a log that keeps the versions from `first` to `last`: nothing if 750 of them or fewer lie after the
-/// first one, and otherwise an erasure from `first` on of 500 of them, or of as many as leave 500 after the first one
-/// that is kept, and that number.
+/// The changes that trim a log with the versions `first` to `last`. There are none if at most 750 versions follow
+/// `first`. Otherwise 500 versions from `first` on are erased, or fewer if only 500 versions would follow the new first
+/// one. The new first version is put.
 pub fn trim_ops(alloc: Global, first: u64, last: u64) -> Result<Vec<Op>, OutOfMemory>
     requires first { first ≤ 2 ^ 62 }
     requires last { last ≤ 2 ^ 62 }

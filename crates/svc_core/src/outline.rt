@@ -27,7 +27,7 @@ use std::alloc::Global;
 pub(crate) struct Outline {
     /// Whether it holds the key.
     pub(crate) held: bool,
-    /// No less than the length of its encoding.
+    /// An upper bound of the length of its encoding.
     pub(crate) most: u64,
 }
 

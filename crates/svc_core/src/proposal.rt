@@ -74,10 +74,11 @@ fn value_tx(
     Ok(tx)
 }
 
-/// The value of a command over a store, where `asked` is the monitor that was asked. The service's last version has
-/// to be below 2^62. A command that makes no version is refused: `NoSuch` comes if and only if a key that isn't there
-/// is to be removed; `TooLong` if and only if a value has more than 65,536 bytes or a logged text more than 1,024,
-/// and `MapFull` if and only if the value isn't too long and the map with it would have more than 393,216.
+/// The value of a command over a store. `asked` is the monitor that a client sent the command to. The service's last
+/// version must be below 2^62. A command that makes no version is refused. `NoSuch` is returned if and only if a key
+/// that isn't there is to be removed. `TooLong` is returned if and only if a value has more than 65,536 bytes or a
+/// logged text more than 1,024. `MapFull` is returned if and only if the value isn't too long and the map with it would
+/// have more than 393,216 bytes.
 #[tactic(auto, unfolding(mon_msg::specs::Protocol::Value::value))]
 pub fn value(
     alloc: Global,

@@ -70,7 +70,7 @@ fn spelled_map(
     }
 }
 
-/// The newest full map, unless it is newer than the last version, is none or is too long.
+/// The newest full map, unless it is newer than the last version, invalid or too long.
 fn full_map(alloc: Global, kv: &Kv, service: Service) -> Result<Option<ShownMap>, OutOfMemory>
     ensures map { IfOk result (λ map. map ≡ full_map (readings_of kv.now) service) }
     ensures form { IfOk result (λ map. IfSome map (IsMapOf service)) }
@@ -180,10 +180,10 @@ pub(crate) fn read_whole(alloc: Global, kv: &Kv, service: Service) -> Result<Rea
     Ok(Reading { map, reached })
 }
 
-/// The map that a store keeps of a service: the full map at `full_latest` and the incrementals after it, in order, up
-/// to the last version. The empty map with the incrementals from 1 on takes the place of a full map that isn't there,
-/// is none, is too long or is newer than the last version. It ends before the first incremental that isn't there, is
-/// none or gives too long a map.
+/// Reads the map that a store keeps of a service: the full map at `full_latest` and the incrementals after it, in
+/// order, up to the last version. A full map that is missing, invalid, too long or newer than the last version is
+/// replaced by the empty map, with the incrementals from 1 on. Reading ends before the first incremental that is
+/// missing, is invalid or makes the map too long.
 pub fn read(alloc: Global, kv: &Kv, service: Service) -> Result<ShownMap, OutOfMemory>
     ensures map { IfOk result (λ map. map ≡ read_map (readings_of kv.now) service) }
     ensures form { IfOk result (IsMapOf service) }

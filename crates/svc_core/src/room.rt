@@ -1,7 +1,7 @@
-//! Whether the key-value map surely has room, found without reading it.
+//! Whether the key-value map surely has room, found without building it.
 //!
-//! An incremental makes the map at most as much longer as it is long itself. So the lengths of the newest full map
-//! and of the incrementals after it bound the map's length.
+//! An incremental lengthens the map by at most its own length. So the lengths of the newest full map and of the
+//! incrementals after it bound the map's length.
 
 ghost use Rattle.std.specs.Prelude.{◌≡◌, ◌-◌, ◌≤◌, length, true, IfOk, IfSome};
 ghost use Rattle.mon_bytes.specs.Reading.{IsBytes};
@@ -18,7 +18,7 @@ use std::alloc::Global;
 /// The length of the empty map.
 const EMPTY: u64 = 4;
 
-/// How many bytes there are.
+/// The number of bytes.
 pub(crate) fn length(bytes: &[u8]) -> u64
     ensures value { result ≡ length bytes.now }
     ensures bytes { IsBytes bytes.now }
@@ -26,7 +26,8 @@ pub(crate) fn length(bytes: &[u8]) -> u64
     bytes.len() as u64
 }
 
-/// How long the map may be before the incremental of a version, so that it has at most `room` bytes after it.
+/// How long the map may be before a version's incremental, so that it has at most `room` bytes afterwards. `None` if
+/// the incremental alone is longer.
 fn room_before(kv: &Kv, v: u64, room: u64) -> Option<u64>
     ensures { IfSome result (IsRoom (readings_of kv.now) room 1 v) }
 {
@@ -49,7 +50,7 @@ fn room_before_all(kv: &Kv, from: u64, to: u64, most: u64) -> Option<u64>
     Some(room)
 }
 
-/// No less than the length of the full map and of the empty map.
+/// An upper bound of the lengths of the full map and of the empty map.
 fn most_full(alloc: Global, kv: &Kv, latest: u64) -> Result<u64, OutOfMemory>
     requires { latest ≡ full_latest (readings_of kv.now) Service.Kv }
     ensures least { IfOk result (λ n. 4 ≤ n) }

@@ -1,4 +1,4 @@
-//! How a known map follows the changes of a transaction.
+//! Following the changes of a transaction with a known map.
 
 ghost use Rattle.std.specs.Prelude.{◌≡◌, ◌+◌, ◌<◌, ◌≤◌, ◌^◌, true, Some, IfOk, IsTrue};
 ghost use Rattle.std.specs.Str.{bytes_eq};
@@ -15,13 +15,13 @@ use mon_msg::{Service, ShownMap};
 use mon_tx::{Key, Op};
 use std::alloc::Global;
 
-/// A known map in the course of a transaction.
+/// A known map during a transaction.
 #[derive(Drop)]
 pub(crate) struct Turn {
-    /// Its version so far.
+    /// The map's version after the changes so far.
     pub(crate) version: u64,
     pub(crate) map: ShownMap,
-    /// Whether the last version was written since it rose.
+    /// Whether `last_committed` was put after this version's incremental. True at first.
     pub(crate) told: bool,
 }
 
@@ -42,7 +42,8 @@ fn is_named(key: &[u8], named: Key) -> bool
     key == named.as_bytes()
 }
 
-/// Follows a put of a service's key, and returns whether it could.
+/// Follows a put of a service's key. Returns whether it can be followed: it puts the next version's incremental, the
+/// first version, or this version as the last one.
 fn put(
     alloc: Global,
     service: Service,
@@ -71,7 +72,7 @@ fn put(
     Ok(true)
 }
 
-/// Follows a change, and returns whether it could.
+/// Follows a change, and returns whether it can be followed. An erasure of the service's keys can't be.
 fn change(alloc: Global, service: Service, op: &Op, turn: &mut Turn) -> Result<bool, OutOfMemory>
     requires version { turn.old.version + 1 < 2 ^ 64 }
     requires fits { turn.old.told ≡ true → turn.old.version ≤ 2 ^ 62 }
@@ -93,7 +94,7 @@ fn change(alloc: Global, service: Service, op: &Op, turn: &mut Turn) -> Result<b
     }
 }
 
-/// Follows changes, and returns whether it could.
+/// Follows changes in their order, and returns whether each can be followed.
 pub(crate) fn changes(
     alloc: Global,
     service: Service,
