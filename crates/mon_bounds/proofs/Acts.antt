@@ -80,7 +80,8 @@ all_flat_map : {A B : Type 0} (P : B → Type 0) (Q : A → Type 0) (f : A → L
 all_flat_map P Q f h [] k = tt
 all_flat_map P Q f h (x ∷ xs) k = all_append P (f x) (flat_map f xs) (h x k.0) (all_flat_map P Q f h xs k.1)
 
--- how much may be written before a leader alone begins a value, which it learns at once, and one among others
+-- how many bytes may be written before a leader begins a value: fewer if it is alone, since it then learns the value at
+-- once
 abbrev pub room : Bool → ℕ
 room true = 3000000
 room false = 3600000
@@ -105,7 +106,7 @@ module _ (me : Me) (now : ℕ) where
 
   -- ---- learning
 
-  -- values that take so much are learned; R is of what is remembered, which stays
+  -- learning values writes at most this many bytes more; R is a property of what is remembered, which doesn't change
   pub learn_some : (R : State → Type 0) (b v : ℕ) (value : List Op) (values : List (List Op)) (x : Course) → R x.state → Under me b x
       → Then (λ y. Under me (b + (19 * length (value ∷ values) + 2 * load (value ∷ values)) + 100) y × (v + length values ≤ 2 ^ 62) × R y.state) (learn v (value ∷ values) x)
   unfolding learn
@@ -277,7 +278,8 @@ module _ (me : Me) (now : ℕ) where
   forgets : (x : Course) → OthersIn me x → OthersIn me (forget_clients x)
   forgets x O = record { elector = O.elector; peon = O.peon; clients = record { queue = tt; sessions = tt }; requester = O.requester }
 
-  -- what an act may have written before it begins again: little, or as much as is allowed if the monitor isn't alone
+  -- how many bytes may be written before a monitor begins again: few if it is alone, and otherwise as many as a store
+  -- takes
   abbrev pub Anew : ℕ → Type 0
   Anew b = (b ≤ 2800000) ⊎ ((ltb 1 n ≡ true) × (b ≤ 4194299))
 

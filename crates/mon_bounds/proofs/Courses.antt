@@ -1,5 +1,5 @@
--- An event under way: what it has written so far takes at most this many bytes, what it has said may be sent, and what is
--- remembered may be.
+-- An event under way: what it has written so far takes at most this many bytes, what it has said may be sent, and its
+-- state may be remembered.
 use Rattle.std.proofs.Common.{ℕ, ◌+◌, ◌<◌, ◌≤◌, ◌^◌, ◌&&◌, eqb, leb, List, [], ◌∷◌, ◌++◌, length, map, Some, None, Ok, IfSome, arith}
 use Rattle.std.proofs.lemmas.Bool.{cond_both, and_parts, leb-true}
 use Rattle.std.specs.List.{AllByRecursion}
@@ -119,7 +119,7 @@ module _ (me : Me) where
     pub numbers : AreNumbers w
     pub sends : AllByRecursion (MaySend me) out
 
-  -- the roles' memories but the leader's, and all of them
+  -- what every role but the leader remembers, and what all roles remember
   pub record Others (e : Elector) (q : Peon) (c : Clients) (s : Requester) : Type 0 where
     pub elector : IsElector me.member.monitors me.member.rank e
     pub peon : IsPeon me.member.monitors q
@@ -140,7 +140,7 @@ module _ (me : Me) where
   abbrev pub KeepsIn : Course → Type 0
   KeepsIn x = Keeps x.state.phase x.state.leader x.state.elector x.state.peon x.state.clients x.state.requester
 
-  -- as long as this many bytes aren't passed, and when the event is over
+  -- an event that has written at most b bytes, and one that has written at most as much as a store takes
   abbrev pub Under : ℕ → Course → Type 0
   Under b x = WrittenIn b x × KeepsIn x
 
@@ -194,6 +194,6 @@ module _ (me : Me) where
     pub copying : (more : Requester) → Keeps p l e q c s → IsRequester me.member.monitors more → Keeps p l e q c more
     copying more K h = let O = K.others in record { placed = K.placed; leader = K.leader; others = record { elector = O.elector; peon = O.peon; clients = O.clients; requester = h } }
 
-  -- it is over, if so much was written
+  -- an event may end if it has written at most b bytes, and b is allowed
   pub over : (b : ℕ) (x : Course) → b ≤ most_written → Under b x → Then Over (Ok x)
   over b x h A = done (raise b most_written x.readings x.changes x.out h A.0, A.1)

@@ -38,7 +38,8 @@ IsRequest (request.Log text) = MayAsk (command.Log text)
 IsRequest (request.Show s) = Unit {0}
 IsRequest (request.Since s version) = IsNumber version
 
--- a message that is one and isn't too long, and a request that a client gave a number
+-- an input that may come: a message has the form of messages and isn't too long, and a client's request has a valid
+-- number
 abbrev pub MayCome : Input → Type 0
 MayCome input.Start = Unit {0}
 MayCome (input.Deliver m) = IsMessage m × IsTrue (fits m.monitors m.body)
@@ -47,7 +48,7 @@ MayCome (input.Client session r) = IsNumber session.id × IsRequest r
 
 -- ---- what goes
 
--- an entry of a store, which is found under a prefix and a key
+-- an entry whose prefix and key have their forms
 abbrev pub IsNamed : Entry → Type 0
 IsNamed e = IsTrue (is_prefix e.prefix) × IsTrue (is_name e.key)
 
@@ -57,12 +58,13 @@ entries_in (body.Chunk cookie place values entries done) = entries
 entries_in (body.LastChunk cookie place values entries last) = entries
 entries_in other = []
 
--- it is a message, if the entries of a store in it are named as they must be, and it isn't too long
+-- A message that may be sent isn't too long. It has the form of messages if its entries of a store have prefixes and
+-- keys of their forms.
 pub record MayGo (m : Message) : Type 0 where
   pub form : AllByRecursion IsNamed (entries_in m.body) → IsMessage m
   pub fits : IsTrue (fits m.monitors m.body)
 
--- the message that brings a client its answer, in whatever epoch
+-- the message that carries a client's answer in an epoch
 abbrev pub answer_in : Me → (epoch : ℕ) → Session → Reply → Message
 answer_in me epoch session r = record {
   from = me.member.rank;
@@ -71,7 +73,7 @@ answer_in me epoch session r = record {
   body = body.Reply session.id r;
 }
 
--- a message to a monitor of the map, or an answer
+-- a message to a monitor of the map, or an answer to a client, which may be sent
 abbrev pub MaySend : Me → Sent → Type 0
 MaySend me (sent.Message to m) = (to < me.member.monitors) × MayGo m
 MaySend me (sent.Reply to r) = (epoch : ℕ) → IsNumber epoch → MayGo (answer_in me epoch to r)

@@ -38,7 +38,7 @@ IsNumber n = n ≤ 2 ^ 62
 abbrev pub IsSet : ℕ → List Bool → Type 0
 IsSet n s = (set n).Form s
 
--- who waits for an answer: a client that gave its request a number, or a peon of n monitors that did
+-- who waits for an answer: a client, or a peon among n monitors, each with a valid number of its request
 abbrev pub IsOrigin : ℕ → Origin → Type 0
 IsOrigin n (origin.Session session) = IsNumber session.id
 IsOrigin n (origin.Forwarded rank seq) = (rank < n) × IsNumber seq
@@ -49,7 +49,7 @@ pub record IsWaiting (n : ℕ) (w : Waiting) : Type 0 where
   pub short : text_length w.command ≤ most_text w.command
   pub origin : IsOrigin n w.origin
 
--- a copy's replay ends with a version
+-- a replay's end is a valid number of a version
 abbrev pub EndsWithin : SyncStage → Type 0
 EndsWithin sync.Cookie = Unit {0}
 EndsWithin sync.Chunks = Unit {0}
