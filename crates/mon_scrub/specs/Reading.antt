@@ -15,7 +15,7 @@ use Rattle.mon_scrub.specs.declared.refusal.ReportRefused.TheVariants as refused
 abbrev pub fault : {A : Type 0} → ℕ → Result A ReportRefused
 fault n = Err (refused.Report n)
 
--- What a call returned, seen by view, is what reading gives; and the same of a call that left these bytes.
+-- The result of a call, mapped by `view`, is what reading gives; and the same for a call that leaves bytes unread.
 abbrev pub Is : {X Y : Type 0} → (X → Y) → Result X ReportRefused → Result Y ReportRefused → Type 0
 Is view (Ok x) read = read ≡ Ok (view x)
 Is view (Err e) read = read ≡ Err e

@@ -34,7 +34,7 @@ fn put_mismatch(
     )
 }
 
-/// Writes the line of two parts if they differ. It returns the number of lines.
+/// Writes one line if two parts differ. Returns the number of lines, 0 or 1.
 fn put_part(
     alloc: Global,
     out: &mut String,
@@ -107,9 +107,9 @@ fn put_compared(alloc: Global, out: &mut String, a: &Report, b: &Report) -> Resu
     put_differing(alloc, out, &a.parts, &b.parts)
 }
 
-/// The text that says where two reports differ: one line if they have different numbers of monitors, if one of them
-/// is marked, or if their last versions differ, the first of these that holds; otherwise a line for each part that
-/// differs, and a line with the number of such parts.
+/// The text that says where two reports differ. It is one line if their numbers of monitors differ, if one of them is
+/// marked, or if their last versions differ; the first of these that holds decides. Otherwise it has one line per
+/// differing part, and then one line with the number of differing parts.
 pub fn compare(alloc: Global, a: &Report, b: &Report) -> Result<Vec<u8>, OutOfMemory>
     ensures { IfOk result (λ bytes. bytes.items ≡ compared a.now b.now) }
 {

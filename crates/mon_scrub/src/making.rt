@@ -11,7 +11,7 @@ use mon_bytes::OutOfMemory;
 use mon_kv::{EntryRef, Kv, is_local};
 use mon_types::Member;
 
-/// Counts an entry, unless the monitor keeps it for itself.
+/// Counts an entry, unless it is the monitor's own and not shared.
 fn add_shared(tallies: &mut Tallies, entry: &EntryRef<'_>, last: u64)
     requires fits { EntryFits (entry_of entry.now) }
     requires few { HaveRoom tallies.now }
@@ -23,7 +23,7 @@ fn add_shared(tallies: &mut Tallies, entry: &EntryRef<'_>, last: u64)
     }
 }
 
-/// The parts of the entries that the map shares. Its time is that of one walk over the map, and of the digests.
+/// The parts of the entries that the map shares. Time: one walk over the map, and the digests.
 fn parts_of(kv: &Kv) -> [Part; 3]
     requires { size_of kv.now ≤ most_size }
     ensures { result ≡ parts_of kv.now }

@@ -72,7 +72,7 @@ pub(crate) struct Tallies {
 }
 
 impl Tallies {
-    /// Nothing was counted.
+    /// Tallies of no entries.
     pub(crate) fn new() -> Tallies
         ensures { AllCounted result [] }
     {
@@ -83,7 +83,7 @@ impl Tallies {
         }
     }
 
-    /// Counts an entry under its prefix; an entry under another prefix counts nowhere.
+    /// Counts an entry under its prefix. An entry under another prefix is ignored.
     pub(crate) fn add(&mut self, entry: &EntryRef<'_>)
         requires fits { EntryFits (entry_of entry.now) }
         requires few { HaveRoom self.now }
@@ -98,7 +98,7 @@ impl Tallies {
         }
     }
 
-    /// The parts of what was counted.
+    /// The parts of the counted entries, for `kv`, `logm` and `paxos`.
     pub(crate) fn parts(self) -> [Part; 3]
         ensures { (es : List Entry) → AllCounted self es → result ≡ parts_of_entries es }
     {

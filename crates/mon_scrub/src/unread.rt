@@ -1,4 +1,4 @@
-//! What is left of the text of two reports.
+//! The text of two reports that isn't read yet.
 
 ghost use Rattle.std.specs.Prelude.{◌≡◌, ◌==◌, ◌≤◌, IfOk, length};
 ghost use Rattle.std.specs.Str.{bytes_eq};
