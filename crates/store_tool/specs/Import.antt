@@ -35,7 +35,7 @@ Answers a b (NotEmpty disk) = filled a b ≡ Some disk
 Answers a b DiskFault = Unit {0}
 Answers a b OutOfMemory = Unit {0}
 
--- what stopped the calls: nothing, if a disk isn't empty
+-- the disk's stop in an import: none after Done, or if a disk isn't empty
 abbrev pub stop_in : ImportEnd → Option Stop
 stop_in Done = None
 stop_in (NotEmpty disk) = None
@@ -55,7 +55,7 @@ Whole member m a b = StandsOn A (imported member m) m a b
 abbrev pub ClosedOrWhole : Member → Store → List ℕ → List ℕ → Type 0
 ClosedOrWhole member m a b = ((content a ≡ None) × (content b ≡ None)) ⊎ Whole member m a b
 
--- each disk keeps its images
+-- a crash leaves of each disk what it might have left before
 pub record BothKeep (old_a old_b new_a new_b : Content) : Type 0 where
   pub a : LeavesOnly old_a new_a (images old_a)
   pub b : LeavesOnly old_b new_b (images old_b)
@@ -74,7 +74,7 @@ pub record KeepThenMake (member : Member) (m : Store) (old_a old_b new_a new_b :
 abbrev pub WhileImporting : Member → Store → Content → Content → Content → Content → Type 0
 WhileImporting member m old_a old_b new_a new_b = BothKeep old_a old_b new_a new_b ⊎ KeepThenMake member m old_a old_b new_a new_b
 
--- if disk A reports that more than one call was made on it, a write among them
+-- P holds if disk A reports that more than one call was made on it, so a write was begun
 abbrev pub IfWritten : Option Told → Option Told → Type 0 → Type 0
 IfWritten old new P = IfSome old (λ s. IfSome new (λ t. made_more 1 s t ≡ true → P))
 

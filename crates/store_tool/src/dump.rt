@@ -82,7 +82,7 @@ fn put_ops(out: &mut String, ops: &[Op]) -> Result<(), AllocError>
     Ok(())
 }
 
-/// The version, the number of its changes, and a line for each change.
+/// Writes a line with the version and the number of its changes, and one line per change.
 fn put_transaction(out: &mut String, v: u64, ops: &[Op]) -> Result<(), AllocError>
     ensures { OnOk result (string_bytes out.new ≡ string_bytes out.old
         ++ decimal v ++ 32 ∷ (decimal (length ops.now) ++ 10 ∷ flat_map op_line ops.now)) }
@@ -112,7 +112,7 @@ fn put_version(alloc: Global, out: &mut String, kv: &Kv, v: u64) -> Result<(), O
     }
 }
 
-/// Whether a key may be the decimal number of a version from `from` up to `to`.
+/// Whether a key may be the decimal number of a version from `from` up to but not including `to`.
 fn may_be_within(key: &[u8], from: u64, to: u64) -> bool
     ensures { result ≡ false → (k : ℕ) → from ≤ k → k < to → key.now ≡ decimal_text k → ⊥ }
 {
@@ -131,7 +131,7 @@ fn is_paxos(prefix: &[u8]) -> bool
     prefix == Area::Paxos.as_bytes()
 }
 
-/// Whether an entry may be the record of a version from `from` up to `to`.
+/// Whether an entry may be the record of a version from `from` up to but not including `to`.
 fn may_be_record(entry: &EntryRef<'_>, from: u64, to: u64) -> bool
     ensures { result ≡ false → (k : ℕ) → from ≤ k → k < to → (entry_of entry.now).0 ≡ place Paxos (Version k) → ⊥ }
 {
@@ -141,7 +141,7 @@ fn may_be_record(entry: &EntryRef<'_>, from: u64, to: u64) -> bool
     may_be_within(entry.key, from, to)
 }
 
-/// Whether a version from `from` up to `to` may have a record. Its time is that of one look-up for each key.
+/// Whether a version from `from` up to but not including `to` may have a record. Time: one look-up per key.
 fn may_have_record(kv: &Kv, from: u64, to: u64) -> bool
     ensures { result ≡ false → (k : ℕ) → from ≤ k → k < to → cell kv.now Paxos (Version k) ≡ None }
 {
@@ -158,8 +158,8 @@ fn may_have_record(kv: &Kv, from: u64, to: u64) -> bool
 /// Half of the most versions that are looked up one by one. A wider range is halved.
 const FEW: u64 = 1024;
 
-/// The versions from `from` up to `end`. A part of a wide range that has no records is skipped: its time is that of one
-/// walk over the map, however many versions it has.
+/// Writes the versions from `from` up to but not including `end`. A part of a wide range that has no records is
+/// skipped: it takes one walk over the map, however many versions it has.
 fn put_versions(
     alloc: Global,
     out: &mut String,
@@ -196,9 +196,10 @@ fn put_each(
     Ok(())
 }
 
-/// Each version from `from` to `to`, up to the last that was committed, whose record is there, in ascending order: a line
-/// `VERSION OPS`, and a line for each of its changes; or a line `VERSION none` if the record is no transaction. A record
-/// costs two walks over the map for each halving of the range at most, so a range of 2^62 versions ends soon too.
+/// The versions from `from` up to and with `to` that have a record, in ascending order, but none after the last
+/// committed one. Each has a line `VERSION OPS` and one line per change, or a line `VERSION none` if its record is no
+/// transaction. A record costs at most two walks over the map per halving of the range, so even 2^62 versions take few
+/// walks.
 pub fn dump_paxos(alloc: Global, kv: &Kv, from: u64, to: u64) -> Result<Vec<u8>, OutOfMemory>
     ensures { IfOk result (λ text. text.items ≡ paxos_text kv.now from to) }
 {

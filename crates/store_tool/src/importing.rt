@@ -18,7 +18,7 @@ use std::alloc::Global;
 /// How an import ended.
 #[derive(Clone, Copy, PartialEq, Eq)]
 pub enum ImportEnd {
-    /// The store is there.
+    /// The store was made, and a crash leaves it.
     Done,
     /// This disk isn't empty; disk A is tested first. Nothing was written or synced.
     NotEmpty { disk: Side },
@@ -80,7 +80,7 @@ fn import_on<D: Disk>(alloc: Global, a: &mut D, b: &mut D, member: Member, kv: &
 pub fn import<D: Disk>(alloc: Global, disks: NodeDisks<D>, member: Member, kv: &Kv) -> Imported<D>
     requires { size_of kv.now ≤ most_size }
 
-    // Done comes only if both disks were empty, and NotEmpty names the first that wasn't.
+    // Done is returned only if both disks were empty, and NotEmpty names the first one that wasn't.
     ensures answer { IfSome (D.state disks.a).content.seen
         (λ x. IfSome (D.state disks.b).content.seen (λ y. Answers x y result.end)) }
 
@@ -89,7 +89,7 @@ pub fn import<D: Disk>(alloc: Global, disks: NodeDisks<D>, member: Member, kv: &
     ensures any_moment { WhileImporting member kv.now (D.state disks.a).content (D.state disks.b).content
         (D.state result.disks.a).content (D.state result.disks.b).content }
 
-    // Both were synced if more than one call was made on disk A.
+    // If more than one call was made on disk A, both disks were synced before.
     ensures written { IfWritten (D.state disks.a).told (D.state result.disks.a).told (KeepThenMake member kv.now
         (D.state disks.a).content (D.state disks.b).content (D.state result.disks.a).content
         (D.state result.disks.b).content) }

@@ -78,7 +78,7 @@ fn sync_both<D: Disk>(a: &mut D, b: &mut D) -> Result<(), Stop>
     Ok(())
 }
 
-/// What stopped the calls of a journal on its disk.
+/// The disk's stop for a journal's. The journal's calls here never return NotAStore.
 fn outside(stop: JournalStop) -> Stop
     ensures { IsOutside stop → Some result ≡ stop_in {T = Journal} (Err stop) }
 {

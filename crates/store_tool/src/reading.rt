@@ -35,7 +35,7 @@ fn word_at<'a>(cursor: &mut Cursor<'a>) -> Result<&'a [u8], MapRefused>
     Ok(word)
 }
 
-/// A fault of the header's reader, as one of an export's.
+/// The export's fault for a fault in its member.
 fn form_of(stop: JournalStop) -> MapRefused
     ensures { result ≡ form_of stop }
 {
