@@ -1,4 +1,4 @@
--- Which end comes if nothing fails.
+-- Which end is returned if nothing fails.
 use Rattle.std.specs.Prelude.{◌≡◌, ℕ, List, Some, None, Ok, Err}
 use Rattle.mon_disk.specs.Calls.{DiskState}
 use Rattle.mon_disk.specs.declared.node.NodeDisks.{NodeDisks}
@@ -21,7 +21,7 @@ use Rattle.stopped_stores.specs.declared.end.ToolEnd.{ToolEnd}
 use Rattle.stopped_stores.specs.declared.end.ToolEnd.TheVariants as end
 
 module _ {D : Type 0} (state : D → DiskState) where
-  -- no disk counted a fault
+  -- no fault of a disk was counted
   pub record NoneFailed (old new : NodeDisks D) : Type 0 where
     pub a : ¬ (Rose (state old.a).faults (state new.a).faults)
     pub b : ¬ (Rose (state old.b).faults (state new.b).faults)
@@ -31,23 +31,23 @@ module _ {D : Type 0} (state : D → DiskState) where
     pub on_a : (state disks.a).content.seen ≡ Some a
     pub on_b : (state disks.b).content.seen ≡ Some b
 
--- no source or sink counted one
+-- no fault of a source or a sink was counted
 abbrev pub Unfailed : Stream → Stream → Type 0
 Unfailed before after = ¬ (Rose before.faults after.faults)
 
--- it is this end, unless memory ran out
+-- the end is `wanted`, unless memory ran out
 abbrev pub IsEnd : ToolEnd → ToolEnd → Type 0
 IsEnd wanted end.OutOfMemory = Unit {0}
 IsEnd wanted e = e ≡ wanted
 
--- it says why no store is opened, unless memory ran out
+-- the end says why no store is opened, unless memory ran out
 abbrev pub IsRefusal : Refusal → ToolEnd → Type 0
 IsRefusal refusal end.OutOfMemory = Unit {0}
 IsRefusal refusal (end.NotAStore disk at) = refusal ≡ NotAStore disk at
 IsRefusal refusal (end.Stranger kept asked) = refusal ≡ Stranger (owner_of kept) (owner_of asked)
 IsRefusal refusal other = ⊥
 
--- it names this other member, unless memory ran out
+-- the end names the other member, unless memory ran out
 abbrev pub NamesOther : (kept asked : Member) → ToolEnd → Type 0
 NamesOther kept asked end.OutOfMemory = Unit {0}
 NamesOther kept asked (end.Stranger other member) = (owner_of other ≡ owner_of kept) × (member ≡ asked)

@@ -9,7 +9,7 @@ use mon_link::{Sink, Source, read_all, write_all};
 use mon_scrub::{Report, ReportRefused, compare, parse};
 use std::alloc::Global;
 
-/// One more byte than two reports are read from.
+/// One byte more than an input of two reports may have, so that a longer one is refused.
 pub const MOST_REPORTS_READ: usize = 4097;
 
 fn read_and_compare<S: Source, K: Sink>(alloc: Global, source: &mut S, sink: &mut K) -> ToolEnd
@@ -46,7 +46,7 @@ pub fn compare_reports<S: Source, K: Sink>(alloc: Global, source: &mut S, sink: 
         (record { bytes = K.held sink.old; faults = K.faults sink.old })
         (record { bytes = K.held sink.new; faults = K.faults sink.new }) result }
 
-    // And which end comes, if nothing fails.
+    // Which end is returned if nothing fails.
     ensures complete { Unfailed
         (record { bytes = S.left source.old; faults = S.faults source.old })
         (record { bytes = S.left source.new; faults = S.faults source.new })

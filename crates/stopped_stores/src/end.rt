@@ -6,15 +6,15 @@ use store_tool::ImportEnd;
 /// How a command on a stopped store ended.
 #[derive(Clone, Copy, Debug, PartialEq, Eq)]
 pub enum ToolEnd {
-    /// All was done and written.
+    /// The command did all its work, and wrote its whole text.
     Done,
     /// The source couldn't be read. Nothing was done.
     ReadFault,
-    /// The sink couldn't be written. A prefix of the text is there.
+    /// The sink couldn't be written. It holds a prefix of the text.
     WriteFault,
     /// A disk failed.
     DiskFault,
-    /// That disk holds no store, or none that goes with the other disk, from this byte on.
+    /// `disk` holds no store, or none that fits the other disk's file. The first invalid field begins at `at`.
     NotAStore { disk: Side, at: u64 },
     /// The store, or the export, is another member's.
     Stranger { kept: Member, asked: Member },
@@ -40,7 +40,7 @@ impl ToolEnd {
     ghost use Rattle.std.specs.Prelude.{◌≡◌};
     ghost use Rattle.stopped_stores.specs.Ends.{end_of_opening, end_of_reading, end_of_writing, end_of_import};
 
-    /// Why no store was opened.
+    /// The end for a refused opening.
     pub(crate) fn of_opening(stop: OpenStop) -> ToolEnd
         ensures { result ≡ end_of_opening stop }
     {
@@ -52,7 +52,7 @@ impl ToolEnd {
         }
     }
 
-    /// Why a source wasn't read.
+    /// The end for a source that couldn't be read.
     pub(crate) fn of_reading(stop: Stop) -> ToolEnd
         ensures { result ≡ end_of_reading stop }
     {
@@ -62,7 +62,7 @@ impl ToolEnd {
         }
     }
 
-    /// Why a text wasn't written whole.
+    /// The end for a text that couldn't be written whole.
     pub(crate) fn of_writing(stop: Stop) -> ToolEnd
         ensures { result ≡ end_of_writing stop }
     {

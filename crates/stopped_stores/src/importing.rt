@@ -13,7 +13,7 @@ use mon_types::Member;
 use std::alloc::Global;
 use store_tool::{ExportRefused, import, read_export};
 
-/// One more byte than an export may have.
+/// One byte more than an export may have, so that a longer input is refused.
 pub const MOST_EXPORT_READ: usize = 268_435_472;
 
 fn is_same(a: &Member, b: &Member) -> bool
@@ -73,9 +73,9 @@ fn read_and_import<D: Disk, S: Source>(
     }
 }
 
-/// Reads a member's export and makes a store of its map on two empty disks. Until the export was read whole, and is the
-/// member's, the disks are left alone. After `Done` the store is durable; a crash before leaves what was there, two
-/// closed files or the whole store.
+/// Reads a member's export, and makes a store of its map on two empty disks. No call is made on the disks before the
+/// whole export was read and is the member's. After `Done` the store is durable. A crash before that leaves what the
+/// disks held, two closed files, or the whole store.
 pub fn import_export<D: Disk, S: Source>(
     alloc: Global,
     source: &mut S,
@@ -87,7 +87,7 @@ pub fn import_export<D: Disk, S: Source>(
         (record { bytes = S.left source.old; faults = S.faults source.old })
         (record { bytes = S.left source.new; faults = S.faults source.new }) result.end }
 
-    // And which end comes, if nothing fails.
+    // Which end is returned if nothing fails.
     ensures complete { NoneFailed D.state disks result.disks → Unfailed
         (record { bytes = S.left source.old; faults = S.faults source.old })
         (record { bytes = S.left source.new; faults = S.faults source.new })

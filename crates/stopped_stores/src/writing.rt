@@ -21,9 +21,9 @@ use store_tool::{dump_keys, dump_paxos, export};
 pub enum StoreText {
     /// The report of what the monitor shares with the others.
     Report,
-    /// A line for each key.
+    /// One line per key.
     Keys,
-    /// The versions of Paxos from one to another, up to the last, and their changes.
+    /// The versions of Paxos from `from` up to and with `to`, but none after the last committed one, and their changes.
     Versions { from: u64, to: u64 },
     /// The export of the member and the map.
     Export,
@@ -44,7 +44,7 @@ fn text_of(alloc: Global, what: StoreText, member: &Member, kv: &Kv) -> Result<V
     }
 }
 
-/// Writes a text of the map.
+/// Writes a text of the map to the sink.
 fn write_map<K: Sink>(
     alloc: Global,
     what: StoreText,
@@ -107,7 +107,7 @@ pub fn write_text<D: Disk, K: Sink>(
         (record { bytes = K.held sink.old; faults = K.faults sink.old })
         (record { bytes = K.held sink.new; faults = K.faults sink.new }) what result.end }
 
-    // And which end comes, if nothing fails.
+    // Which end is returned if nothing fails.
     ensures complete { NoneFailed D.state disks result.disks → Unfailed
         (record { bytes = K.held sink.old; faults = K.faults sink.old })
         (record { bytes = K.held sink.new; faults = K.faults sink.new })
