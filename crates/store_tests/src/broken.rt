@@ -12,7 +12,7 @@ use std::test::Fail;
 /// The transaction that puts `kv/b` = `y`.
 const NEXT: &str = "010100000001026b7601620100000079";
 
-/// What a store answers to the transaction.
+/// Applies the transaction `NEXT`, and returns the result as text.
 fn applied<D: Disk>(alloc: Global, store: &mut Store<D>) -> Result<String, Fail>
     requires { IsSound D.state store.old }
     ensures { IsSound D.state store.new }
@@ -23,7 +23,7 @@ fn applied<D: Disk>(alloc: Global, store: &mut Store<D>) -> Result<String, Fail>
     Ok(format!(in alloc; "{answer:?}")?)
 }
 
-/// What it returns to it twice, and then whether its file was begun again, and whether it is broken.
+/// Applies `NEXT` twice and asks for a checkpoint. Returns the three results, and whether the store is broken, as text.
 fn answers<D: Disk>(alloc: Global, store: &mut Store<D>) -> Result<String, Fail>
     requires { IsSound D.state store.old }
 {
@@ -34,7 +34,7 @@ fn answers<D: Disk>(alloc: Global, store: &mut Store<D>) -> Result<String, Fail>
     Ok(format!(in alloc; "{first} {second} {begun:?} {broken}")?)
 }
 
-/// The same of a new store on disks of which A fails from this call on.
+/// The same for a new store whose disk A fails from call number `call` on.
 fn told(alloc: Global, call: u64) -> Result<String, Fail> {
     let member = Member::new(Rank::known(0), 1).ok_or("a member")?;
     let mut a = MemoryDisk::new(alloc);
@@ -53,7 +53,7 @@ fn told(alloc: Global, call: u64) -> Result<String, Fail> {
     }
 }
 
-// The calls 8 to 11 of disk A are those of the first transaction.
+// Calls 8 to 11 of disk A append the first transaction. The calls before create the store.
 #[test]
 fn a_store_whose_disk_failed_is_broken(rt: HostRuntime) -> Result<(), Fail> {
     for (call, wanted) in [

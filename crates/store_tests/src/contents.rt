@@ -2,7 +2,7 @@ use mon_disk::Disk;
 use std::alloc::Global;
 use std::test::Fail;
 
-/// What a disk gives to a reading of all of it.
+/// All bytes of a disk.
 pub(crate) fn contents<D: Disk>(alloc: Global, disk: &mut D) -> Result<Vec<u8>, Fail> {
     let length = disk.len()?;
     let mut bytes = vec![in alloc; 0u8; length as usize]?;

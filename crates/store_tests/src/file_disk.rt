@@ -15,7 +15,7 @@ fn named(rt: &HostRuntime, name: &str) -> Result<FileDisk<HostRuntime>, Fail> {
     Ok(FileDisk::named(rt, String::from_str(rt.alloc(), name)?))
 }
 
-/// Makes three writes.
+/// Makes three writes and a sync.
 fn fill(disk: &mut FileDisk<HostRuntime>) -> Result<(), Stop> {
     disk.write_at(0, b"abc")?;
     disk.write_at(3, b"def")?;
@@ -23,7 +23,7 @@ fn fill(disk: &mut FileDisk<HostRuntime>) -> Result<(), Stop> {
     disk.sync()
 }
 
-/// A disk on a new file, after three writes.
+/// A disk on a new file, after three writes and a sync.
 fn made(rt: &HostRuntime, name: &str) -> Result<FileDisk<HostRuntime>, Fail> {
     let _old = fs::remove_file(rt, name);
     let mut disk = named(rt, name)?;
@@ -36,7 +36,7 @@ fn made(rt: &HostRuntime, name: &str) -> Result<FileDisk<HostRuntime>, Fail> {
     }
 }
 
-/// What another disk on the file reads.
+/// The file's bytes, as a new disk on it reads them.
 fn read_again(rt: &HostRuntime, name: &str) -> Result<Vec<u8>, Fail> {
     let mut disk = named(rt, name)?;
     let bytes = contents(rt.alloc(), &mut disk);
@@ -44,7 +44,7 @@ fn read_again(rt: &HostRuntime, name: &str) -> Result<Vec<u8>, Fail> {
     bytes
 }
 
-/// Whether another disk on the file finds it locked, and is given up once the file is let go.
+/// Whether a second disk on a locked file fails, and still fails after the first disk released the lock.
 fn is_locked(rt: &HostRuntime, name: &str) -> Result<bool, Fail> {
     let mut second = named(rt, name)?;
     let first = made(rt, name)?;
@@ -64,7 +64,7 @@ fn a_file_is_made_and_opened_again(rt: HostRuntime) -> Result<(), Fail> {
     Ok(())
 }
 
-/// Why a file of that name has no length, if it has none.
+/// Why the length of a file of that name can't be read, or `None` if it can.
 fn failure(rt: &HostRuntime, name: &str) -> Result<Option<ErrorKind>, Fail> {
     let mut disk = named(rt, name)?;
     let failed = disk.len() == Err(Stop::Failed);
@@ -85,7 +85,8 @@ fn what_is_no_file_fails(rt: HostRuntime) -> Result<(), Fail> {
     Ok(())
 }
 
-/// The calls so far, a letter each; the number, from 1, of the one that fails; and the bytes of the one file.
+/// The calls so far, one letter per call; the number of the call that fails, counted from 1, or 0 if none fails; and
+/// the file's bytes.
 #[derive(Clone, Copy)]
 struct Asked {
     calls: [u8; 32],
@@ -108,20 +109,20 @@ fn ask(cell: &Cell<Asked>, letter: u8) -> io::Result<Asked> {
     Ok(asked)
 }
 
-/// A system of one file, which a link names. Each read and each write of it moves one byte.
+/// A system with one file, which a link names. Each read and each write moves at most one byte.
 #[derive(Drop)]
 struct Fake {
     asked: Rc<Cell<Asked>>,
 }
 
-/// That file, or its folder.
+/// The file of a `Fake`, or its folder.
 #[derive(Drop)]
 struct FakeFile {
     asked: Rc<Cell<Asked>>,
     folder: bool,
 }
 
-/// No call reads, writes or seeks but at a place.
+/// A `FileDisk` reads and writes at explicit offsets only, so these calls fail.
 impl Read for FakeFile {
     fn read(&mut self, _buf: &mut [u8]) -> io::Result<usize> {
         Err(ErrorKind::Unsupported.into())
@@ -261,16 +262,16 @@ impl Files for Fake {
     }
 }
 
-/// How a length, a write, a sync, a length and a reading of a file went.
+/// The outcome of a length, a write, a sync, a length and a read of a file.
 #[derive(Clone, Copy)]
 struct Went {
     asked: Asked,
     done: bool,
-    /// Whether a further sync failed, and asked nothing.
+    /// Whether a further sync failed without a call of the system.
     given_up: bool,
 }
 
-/// Whether each of these calls went well.
+/// Makes these five calls. Returns whether each of them succeeds with the right result.
 fn done<D: Disk>(disk: &mut D) -> bool {
     if disk.len() != Ok(0) || disk.write_at(0, b"ab").is_err() || disk.sync().is_err() {
         return false;
@@ -293,7 +294,7 @@ fn run_on(alloc: Global, fake: &Fake) -> Result<Went, Fail> {
     })
 }
 
-/// How they go on the file of a system of which the call of that number fails.
+/// The outcome of these calls on a system whose call number `failing` fails; 0: none fails.
 fn run_on_file(alloc: Global, failing: usize) -> Result<Went, Fail> {
     let nothing = Asked {
         calls: [0; 32],

@@ -6,7 +6,7 @@ use std::alloc::Global;
 use std::fmt::Write;
 use std::test::Fail;
 
-/// A transaction that puts keys of three areas, of which one is a monitor's own, and one that puts versions and erases those from 99 to 100.
+/// `FOUR` puts keys of three areas, one of them a monitor's own. `RANGE` puts versions, and erases versions 99 and 100.
 const FOUR: &str = "\
 010400000001057061786f730e6c6173745f636f6d6d697474656408000000010000000000000001076d6f6e69746f720a\
     626f6f745f636f756e7408000000010000000000000001057061786f730131010000007901026b7601610100000078";
@@ -16,14 +16,15 @@ const RANGE: &str = "\
     0000006301057061786f730f66697273745f636f6d6d697474656408000000630000000000000004057061786f7363000000\
     000000006500000000000000";
 
-/// One that puts a value that waits as version 7 under number 201, and the version 9 that a copy must reach.
+/// A transaction that puts a pending value as version 7 under number 201, and version 9 as the one that a full
+/// synchronization must reach.
 const WAITING: &str = "\
 010500000001086d6f6e5f73796e63146c6173745f636f6d6d69747465645f666c6f6f720800000009000000000000000105\
     7061786f73013705000000010000000001057061786f730e6c6173745f636f6d6d697474656408000000060000000000\
     000001057061786f730a70656e64696e675f706e08000000c90000000000000001057061786f730970656e64696e675f\
     76080000000700000000000000";
 
-/// What a transaction leaves of a map of nothing.
+/// The map after a transaction on the empty map.
 fn made(alloc: Global, digits: &str) -> Result<Kv, Fail> {
     let tx = transaction(alloc, digits)?;
     let mut kv = Kv::empty(alloc);
@@ -58,15 +59,15 @@ fn keys(alloc: Global, kv: &Kv) -> Result<String, Fail> {
     Ok(keys)
 }
 
-/// What a map of at most five keys holds: the keys, the size, the value that waits and the version that a copy must
-/// reach.
+/// The keys of a map of at most five keys, its size, its pending value, and the version that a full synchronization
+/// must reach.
 fn summary(alloc: Global, kv: &Kv) -> Result<String, Fail> {
     let keys = keys(alloc, kv)?;
     let (size, pending, floor) = (kv.size(), kv.pending(), kv.floor());
     Ok(format!(in alloc; "{keys}{size} {pending:?} {floor}")?)
 }
 
-/// What is left by a transaction.
+/// The summary of the map after a transaction on the empty map.
 fn left(alloc: Global, digits: &str) -> Result<String, Fail> {
     let kv = made(alloc, digits)?;
     let told = summary(alloc, &kv);
@@ -93,7 +94,7 @@ fn keys_stand_in_order_and_a_range_erases_the_numbers_in_it(rt: HostRuntime) -> 
     Ok(())
 }
 
-/// The keys of a run, and whether it is the last.
+/// The keys of a run, and whether it reaches the end of the map.
 fn told(alloc: Global, run: &KeyRun) -> Result<String, Fail> {
     let mut keys = String::new(alloc);
     for entry in run.entries.iter() {
@@ -102,7 +103,7 @@ fn told(alloc: Global, run: &KeyRun) -> Result<String, Fail> {
     Ok(format!(in alloc; "{keys}{}", run.done)?)
 }
 
-/// The run of shared keys that finds room.
+/// The first run of shared keys of `FOUR` in `room` bytes, with at most `most` entries.
 fn run(alloc: Global, room: usize, most: usize) -> Result<String, Fail> {
     let kv = made(alloc, FOUR)?;
     let run = kv.chunk_from(&KeyPlace::Start, room, most);
@@ -155,7 +156,7 @@ fn stay(kv: &Kv, first: u64, second: u64) -> (bool, bool) {
     (kv.stored(first).is_some(), kv.stored(second).is_some())
 }
 
-// A tree that was a list would be too deep for the stack. No more is seen of its height.
+// If the tree degenerated to a list, its recursion would overflow the stack. The test sees no more of its height.
 #[test]
 fn keys_that_come_in_order_make_no_list(rt: HostRuntime) -> Result<(), Fail> {
     let mut kv = Kv::empty(rt.alloc());

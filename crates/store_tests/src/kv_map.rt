@@ -23,14 +23,14 @@ fn put_all(alloc: Global, map: &mut KvMap, keys: &str) -> Result<(), Fail> {
     Ok(())
 }
 
-/// The size of a map that was given the longest values under keys of one byte, and its second key, or a point for none.
+/// Puts the longest value under each one-byte key. Returns the map's size and its second key, or `.` if it has none.
 fn filled(alloc: Global, map: &mut KvMap, keys: &str) -> Result<String, Fail> {
     put_all(alloc, map, keys)?;
     let second = str::from_utf8(map.key(1).unwrap_or(b"."))?;
     Ok(format!(in alloc; "{} {second}", map.size())?)
 }
 
-/// The same of a new map.
+/// The same for a new map.
 fn told(alloc: Global, keys: &str) -> Result<String, Fail> {
     let mut map = KvMap::new(alloc);
     let told = filled(alloc, &mut map, keys);

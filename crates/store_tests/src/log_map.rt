@@ -10,7 +10,7 @@ fn entry(alloc: Global, byte: u8, length: usize) -> Result<LogInc, Fail> {
     Ok(LogInc { rank, text })
 }
 
-/// How many entries a map has, and its size, once it was given an entry of this length.
+/// Adds an entry with a text of this length. Returns the number of entries and the map's size.
 fn given(alloc: Global, map: &mut LogMap, length: usize) -> Result<(usize, u64), Fail> {
     let entry = entry(alloc, 120, length)?;
     let done = map.apply(&entry);
@@ -19,7 +19,7 @@ fn given(alloc: Global, map: &mut LogMap, length: usize) -> Result<(usize, u64),
     Ok((map.entries().len(), map.size()))
 }
 
-/// The same of four entries, one after the other.
+/// The same for four entries, one after the other.
 fn four_given(alloc: Global, map: &mut LogMap) -> Result<[(usize, u64); 4], Fail> {
     Ok([
         given(alloc, map, 12_279)?,

@@ -1,4 +1,4 @@
-//! Bytes that other programs encoded or spoiled, and what they are.
+//! Bytes that other programs encoded or corrupted, and how they are decoded.
 
 use map_kv::{KvInc, KvMap};
 use map_log::LogMap;
@@ -6,8 +6,8 @@ use mon_bytes::Decode;
 use std::alloc::Global;
 use std::test::Fail;
 
-/// What is read, its bytes in hexadecimal digits, and why they are refused, or `read` if encoding what they are gives
-/// them again.
+/// One row per line: a kind, bytes in hexadecimal digits, and why they are refused, or `read` if decoding and encoding
+/// gives the same bytes.
 const ROWS: &str = "\
 transaction 010200000001026b760161010000007803036c6f67 read\n\
 transaction 010200 Cut { at: 1 }\n\
@@ -96,14 +96,14 @@ fn of_log(alloc: Global, bytes: &[u8]) -> Result<String, Fail> {
     }
 }
 
-/// The row of bytes that are decoded, and then encoded again.
+/// The outcome for decoded bytes: `read` if encoding them gave the same bytes again.
 fn told(alloc: Global, again: Vec<u8>, bytes: &[u8]) -> Result<String, Fail> {
     let alike = again.as_slice() == bytes;
     drop(again);
     Ok(String::from_str(alloc, if alike { "read" } else { "spelled otherwise" })?)
 }
 
-/// What the bytes, given in hexadecimal digits, encode.
+/// The outcome of decoding bytes, given in hexadecimal digits, as a kind.
 fn outcome(alloc: Global, what: &str, digits: &str) -> Result<String, Fail> {
     let bytes = hex::decode(alloc, digits)?;
     let outcome = match what {
@@ -117,7 +117,7 @@ fn outcome(alloc: Global, what: &str, digits: &str) -> Result<String, Fail> {
     outcome
 }
 
-/// Whether the bytes of a row are what it says.
+/// Whether a row's outcome is the one that it names.
 fn is_told(alloc: Global, row: &str) -> Result<bool, Fail> {
     let mut words = row.splitn(3, ' ');
     let (what, digits) = (words.next().unwrap_or(""), words.next().unwrap_or(""));
