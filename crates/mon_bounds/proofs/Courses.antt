@@ -34,7 +34,7 @@ use Rattle.mon_bounds.specs.Remembered.{AreClients, IsElector, IsLeader, IsNumbe
 
 -- ---- what a store's readers return
 
--- numbers that a message can carry
+-- the numbers that the readers return can be carried by a message
 pub record AreNumbers (w : Readings) : Type 0 where
   pub epoch : IsNumber (epoch_of w)
   pub boot : IsNumber w.boot

@@ -25,7 +25,7 @@ use Rattle.mon_wire.specs.declared.request.Request.TheVariants as request
 use Rattle.mon_wire.specs.declared.request.Request.{Request}
 use Rattle.mon_wire.specs.declared.request.Session.{Session}
 
--- ---- what comes
+-- ---- inputs that may come
 
 -- a command as clients ask it, however long its value or text is
 abbrev pub MayAsk : Command → Type 0
@@ -46,7 +46,7 @@ MayCome (input.Deliver m) = IsMessage m × IsTrue (fits m.monitors m.body)
 MayCome (input.Timer t) = Unit {0}
 MayCome (input.Client session r) = IsNumber session.id × IsRequest r
 
--- ---- what goes
+-- ---- messages that may be sent
 
 -- an entry whose prefix and key have their forms
 abbrev pub IsNamed : Entry → Type 0

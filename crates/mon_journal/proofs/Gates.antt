@@ -1,4 +1,4 @@
--- What a write at a gate and after one leaves of a file: what is before the gate, the gate, and what follows it.
+-- A file after a write at a gate or after it: what is before the gate, the gate, and what follows it.
 use Rattle.std.proofs.Common.{◌≡◌, ◌≢◌, ◌⊎◌, ℕ, ◌+◌, min, List, [], ◌∷◌, ◌++◌, length, take, drop, get_or, inl, inr, refl, sym, ap, subst, ◌∙◌, append_assoc, length-append, arith}
 use Rattle.std.proofs.lemmas.List.{take_at, drop_at, take-append-drop}
 use Rattle.std.proofs.Math.Seq.{get_or-append_seam}
@@ -33,14 +33,14 @@ module _ (before : List ℕ) (gate : ℕ) (behind : List ℕ) where
       let first : take (at + 1) c ≡ before ++ gate ∷ [] = subst (λ (n : ℕ). take n c ≡ take (at + 1) file) least torn.before ∙ front in
       sym (take-append-drop (at + 1) c) ∙ ap (λ (l : List ℕ). l ++ drop (at + 1) c) first ∙ append_assoc before (gate ∷ []) (drop (at + 1) c)
 
-  -- and one that isn't
+  -- and a write after the gate that is whole
   pub written_behind : (bytes : List ℕ) → overwritten (at + 1) bytes file ≡ before ++ gate ∷ (bytes ++ drop (at + 1 + length bytes) file)
   written_behind bytes =
       ap (λ (l : List ℕ). l ++ bytes ++ drop (at + 1 + length bytes) file) front
       ∙ ap (λ (l : List ℕ). l ++ drop (at + 1 + length bytes) file) (append_assoc before (gate ∷ []) bytes)
       ∙ append_assoc before (gate ∷ bytes) (drop (at + 1 + length bytes) file)
 
-  -- the gate that is written
+  -- a write of the gate that is whole
   pub written_gate : (byte : ℕ) → overwritten at (byte ∷ []) file ≡ before ++ byte ∷ behind
   written_gate byte =
       ap (λ (l : List ℕ). l ++ (byte ∷ []) ++ drop (at + 1) file) (take_at before (gate ∷ behind) at refl)

@@ -62,7 +62,7 @@ module _ (at gate : ℕ) (file : List ℕ) (first : drop at file ≡ gate ∷ dr
     no_length few = let cut : ltb (length rest) 4 ≡ true = lt-ltb _ _ few in faulty (NotAStore (at + 1)) (rw cut refl)
 
     module _ (n : ℕ) (enough : 4 ≤ length rest) (number : n ≡ little_number 4 (take 4 rest)) where
-      -- too few bytes for so long a payload
+      -- too few bytes for a payload of this length
       pub no_payload : length rest < n + 4 → records_at (left_at at file) ≡ Err (NotAStore (at + 5))
       unfolding payload_at
       no_payload few =

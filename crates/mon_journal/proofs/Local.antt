@@ -64,7 +64,7 @@ front_local k c x e =
           rw (there, first, behind) refl;
     })
 
--- what is known before takes nothing
+-- a reader that returns a known value takes no bytes
 pub ok_local : {A : Type 0} (a : A) → IsLocal (λ c. Ok (a, c))
 ok_local {A = A} a c x e =
     subst (λ (p : A × Reading). Local (λ c. Ok (a, c)) c p.0 p.1) (ok_is (a, c) x e)
@@ -73,12 +73,12 @@ ok_local {A = A} a c x e =
 pub fault_local : {A : Type 0} (fault : Reading → JournalStop) → IsLocal {A = A} (λ c. Err (fault c))
 fault_local fault c x e = absurd cc
 
--- a test of what is known before
+-- a test of what is known before reading
 pub either_local : {A : Type 0} (b : Bool) (one two : Reading → Result (A × Reading) JournalStop) → IsLocal one → IsLocal two → IsLocal (λ c. cond b (one c) (two c))
 either_local true one two l m c x e = l c x e
 either_local false one two l m c x e = m c x e
 
--- one reader after the other; the second may know where the first began
+-- one reader after another; the second may depend on the place where the first began
 pub then_local : {A B : Type 0} (read : Reading → Result (A × Reading) JournalStop) (f : ℕ → A × Reading → Result (B × Reading) JournalStop)
     → IsLocal read → ((at : ℕ) (a : A) → IsLocal (λ c. f at (a, c))) → IsLocal (λ c. read c >>= f c.at)
 then_local read f one two c x e =

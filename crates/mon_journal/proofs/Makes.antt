@@ -21,14 +21,14 @@ closed_short (gate ∷ []) short = refl
 closed_short (gate ∷ byte ∷ bytes) short = absurd (omega arith)
 
 module _ (head : List ℕ) (Q : List ℕ → Type 0) (is_made : (tail : List ℕ) → Q (1 ∷ (head ++ tail))) (most : ℕ) (long : most ≡ 1 + length head) (old : Content) (reads : (file : List ℕ) → old.seen ≡ Some file → images old file) where
-  -- it isn't opened yet
+  -- the new file isn't open yet: an image from before, or a closed file
   abbrev pub Shut : List ℕ → Type 0
   Shut c = images old c ⊎ ClosedFrom old most c
 
   abbrev R : List ℕ → Type 0
   R c = images old c ⊎ ClosedFrom old most c ⊎ Q c
 
-  -- the new file if the gate is open and it was begun to be opened
+  -- the new file if its gate is open and the write of the open gate was begun; otherwise `Shut`
   abbrev pub Opens : Bool → List ℕ → Type 0
   Opens opening c = ByTest (eqb (get_or c 0 0) 1 && opening) (Q c) (Shut c)
 

@@ -56,12 +56,12 @@ ok_steady {A = A} a = record {
 fault_steady : {A : Type 0} (e : JournalStop) → Steady {A = A} 0 (λ c. Err e)
 fault_steady e = record { moves = λ c x is. absurd cc; same = λ c others le. refl }
 
--- a test of what is known before
+-- a test of what is known before reading
 either_steady : {A : Type 0} (k : ℕ) (b : Bool) (one two : Reading → Result (A × Reading) JournalStop) → Steady k one → Steady k two → Steady k (λ c. cond b (one c) (two c))
 either_steady k true one two l m = record { moves = l.moves; same = l.same }
 either_steady k false one two l m = record { moves = m.moves; same = m.same }
 
--- one reader after the other; the second may know where the first began
+-- one reader after another; the second may depend on the place where the first began
 then_steady : {A B : Type 0} (j k : ℕ) (read : Reading → Result (A × Reading) JournalStop) (f : ℕ → A × Reading → Result (B × Reading) JournalStop)
     → Steady j read → ((at : ℕ) (a : A) → Steady k (λ c. f at (a, c))) → Steady (j + k) (λ c. read c >>= f c.at)
 then_steady {A = A} {B = B} j k read f one two = record {

@@ -78,7 +78,7 @@ slot-append at op (o ∷ ops) =
 
 -- ---- a put in the place of another of its key
 
--- two puts of a key put the same keys, and take nothing away
+-- two puts of a key put the same places, and erase nothing
 alike : (p q : Place) (a b : Op) → puts p a ≡ true → puts p b ≡ true → (puts q a ≡ puts q b) × (takes_away q a ≡ takes_away q b)
 alike p q (Put c d v) (Put e f w) h g = (ap (eq_by_cmp place_cmp q) (sym (same_place p (c, d) h) ∙ same_place p (e, f) g), refl)
 alike p q (Put c d v) (Erase e f) h g = cc
@@ -95,7 +95,7 @@ both_true false b h = cc
 abbrev Same : Place → Op → List Op → ℕ → Type 0
 Same q new ops k = (list_any (takes_away q) (set ops k new) ≡ list_any (takes_away q) ops) × (slot q (set ops k new) ≡ slot q ops)
 
--- the list with a put of the key there takes away and has slots as before
+-- replacing a put by another put of its key changes no slot, and not what is erased
 set-slots : (p q : Place) (new : Op) (ops : List Op) (k : ℕ) → slot p ops ≡ Some k → puts p new ≡ true → Same q new ops k
 set-slots p q new [] k h g = cc
 set-slots p q new (op ∷ ops) k h g =
@@ -122,7 +122,7 @@ itself : (b : Bool) → erased b ≡ erased (is_some (erased b))
 itself true = refl
 itself false = refl
 
--- what takes keys away decides so
+-- an erasing change decides a place if and only if it erases it
 taking : (at : Place) (op : Op) → is_taking op ≡ true → (puts at op ≡ false) × (decided op at ≡ erased (takes_away at op))
 taking at (Put p k v) h = cc
 taking at (Erase p k) h = (refl, itself (eq_by_cmp place_cmp at (p, k)))

@@ -12,7 +12,7 @@ abbrev pub slot_before : Bool → Option ℕ → Option ℕ
 slot_before here (Some k) = Some (suc k)
 slot_before here None = if here then Some 0 else None
 
--- the index in a list of the latest put of a key after which nothing removes the key
+-- the index of the last put of a key in a list, if no later change erases the key
 abbrev pub slot : Place → List Op → Option ℕ
 slot at [] = None
 slot at (op ∷ ops) = slot_before (puts at op && not (list_any (takes_away at) ops)) (slot at ops)

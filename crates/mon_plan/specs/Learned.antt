@@ -13,7 +13,8 @@ abbrev pub learned : (v : ℕ) → List (List Op) → List Change
 learned v [] = []
 learned v (value ∷ values) = learn_changes v (value ∷ values) ++ Last (v + length values) ∷ []
 
--- a call that appends these changes does what the protocol's act does, or names the number that runs out; or memory ran out
+-- A call that appends these changes does what the protocol's act does. Otherwise it names the number that runs out, or
+-- memory ran out.
 abbrev pub Learns : (v : ℕ) → List (List Op) → Result Unit RoleStop → Type 0
 Learns v values (Ok done) = (x : Course) → learn v values x ≡ Ok (changed (learned v values) x)
 Learns v values (Err stop.OutOfMemory) = Unit {0}

@@ -30,7 +30,7 @@ use Rattle.mon_wire.specs.declared.phase.Timer.{Timer}
 
 -- ---- the parts of a plan
 
--- if there are none, nothing is done
+-- without changes or messages nothing is done
 abbrev pub changed : List Change → Course → Course
 changed [] x = x
 changed (c ∷ cs) x = change_all (c ∷ cs) x

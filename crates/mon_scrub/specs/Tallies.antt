@@ -9,7 +9,7 @@ use Rattle.mon_scrub.specs.declared.tally.Tally.{Tally}
 use Rattle.mon_scrub.specs.declared.tally.Tallies.{Tallies}
 use Rattle.mon_scrub.specs.Parts.{under}
 
--- these entries
+-- the tally is of these entries
 pub record Counted (t : Tally) (es : List Entry) : Type 0 where
   pub keys : t.keys ≡ length es
   pub hashed : Holds256 t.hasher (flat_map entry_text es)

@@ -65,7 +65,7 @@ pub record IsReport (f : Fields) : Type 0 where
 
 -- ---- where two reports differ
 
--- two reports that can't be compared part by part
+-- the line of two reports that can't be compared part by part
 abbrev pub apart_text : List ℕ → List ℕ → List ℕ → List ℕ
 apart_text what a b = what ++ (a ++ 32 ∷ (b ++ codes "\n"))
 
@@ -77,7 +77,7 @@ mismatch_text prefix a b =
     codes "mismatch " ++ (prefix ++ (codes " keys=" ++ (decimal a.keys ++ 44 ∷ (decimal b.keys
     ++ (codes " sha256=" ++ (encode_lower a.digest ++ 44 ∷ (encode_lower b.digest ++ codes "\n")))))))
 
--- a line for each part that differs
+-- one line per differing part
 abbrev pub mismatches_text : List (List ℕ) → List Part → List Part → List ℕ
 mismatches_text (prefix ∷ others) (a ∷ as_) (b ∷ bs) =
     (if differs a b then mismatch_text prefix a b else []) ++ mismatches_text others as_ bs
@@ -93,8 +93,8 @@ end_text count = codes "end mismatches=" ++ (decimal count ++ codes "\n")
 abbrev pub differing_text : List Part → List Part → List ℕ
 differing_text as_ bs = mismatches_text prefixes as_ bs ++ end_text (count_differing as_ bs)
 
--- The first condition that holds decides: the numbers of monitors differ; one of the two is marked; the last versions differ. If none
--- holds, each part that differs has its line, and the last line has their number.
+-- The first condition that holds decides: the numbers of monitors differ; one of the two is marked; the last versions
+-- differ. If none holds, there is one line per differing part, and then one line with their number.
 abbrev pub compared : Report → Report → List ℕ
 compared a b =
     if not (a.member.monitors == b.member.monitors) then apart_text (codes "monitors differ ") (decimal a.member.monitors) (decimal b.member.monitors)

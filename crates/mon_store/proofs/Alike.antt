@@ -23,22 +23,22 @@ use Rattle.mon_store.specs.Opening.{held_in, named, Tells, AlikePair, Alike, Set
 use Rattle.mon_store.specs.Stood.{opens_as}
 use Rattle.mon_store.proofs.Moments.{first_goes, both_go}
 
--- what is found goes by what they hold and how long they are
+-- what is found depends only on the files' contents and lengths
 pub alike_found : (c d e f : List ℕ) → content c ≡ content e → length c ≡ length e → content d ≡ content f → length d ≡ length f → found c d ≡ found e f
 unfolding found
 alike_found c d e f same_a long_a same_b long_b = rw (same_a, same_b, long_a, long_b) refl
 
--- what two images represent goes by what they hold and how long they are
+-- what two images represent depends only on their contents and lengths
 pub alike_stands : (c d e f : List ℕ) → content c ≡ content e → length c ≡ length e → content d ≡ content f → length d ≡ length f → stands c d ≡ stands e f
 unfolding stands found
 alike_stands c d e f same_a long_a same_b long_b = rw (same_a, same_b, long_a, long_b) refl
 
--- and so does what a member opens
+-- and so does what a member opens on them
 pub alike_opens : (member : Member) (c d e f : List ℕ) → content c ≡ content e → length c ≡ length e → content d ≡ content f → length d ≡ length f → opens_as member c d ≡ opens_as member e f
 unfolding opened found
 alike_opens member c d e f same_a long_a same_b long_b = rw (same_a, same_b, long_a, long_b) refl
 
--- each holds what it held
+-- two images with the contents and lengths of earlier ones are alike
 pub alike_pair : (member : Member) (a b : Content) (c d : List ℕ) → AlikeFrom a c → AlikeFrom b d → AlikePair member a b false c d
 alike_pair member a b c d g h = record {
   on_a = g.0;
@@ -98,7 +98,7 @@ pub when_some : {X : Type 0} (s : Option X) (P : Type 0) → is_some s ≡ true 
 when_some None P some h = absurd cc
 when_some (Some x) P some h = h
 
--- opening a closed disk makes one
+-- opening a closed disk makes one call
 pub one_call : (most : ℕ) (seen : Option (List ℕ)) (told now : Option Told) → is_some seen ≡ true → IfSome seen (λ file. (content file ≡ None) × (length file ≤ most)) → IfSome seen (λ file. Makes (open_calls (content file)) None told now)
     → is_some told ≡ true → (count now ≡ count told + 1) × (is_some now ≡ true)
 one_call most None told now some closed made there = absurd cc
@@ -117,14 +117,14 @@ pub holds : (on : OnDisk) (s : Option (List ℕ)) (known : ℕ) (new : Content) 
 holds (disk.Closed len) s known new x is h side = ap (held_on side) (at_some s x (λ file. (content file ≡ None) × (len ≡ length file)) is h.3).0
 holds (disk.Live journal payloads) s known new x is h side = ap (held_on side) (at_some s x (λ file. content file ≡ Some (Ok (held_by journal payloads))) is h.1)
 
--- disk A's refusal is that of the two
+-- a refusal of disk A refuses the two disks
 pub refused_a : (e : JournalStop) (s t : Option (List ℕ)) (known : ℕ) (new : Content) → Opens s known new (Err e) → IfSome s (λ x. IfSome t (λ y. Tells (named A e) (found x y)))
 unfolding found
 refused_a journal.DiskFault s t known new h = each_told s t (λ x y. Tells DiskFault (found x y)) (λ x y p q. tt)
 refused_a journal.OutOfMemory s t known new h = each_told s t (λ x y. Tells OutOfMemory (found x y)) (λ x y p q. tt)
 refused_a (journal.NotAStore at) s t known new h = each_told s t (λ x y. found x y ≡ Err (NotAStore A at)) (λ x y p q. rw (at_some s x (λ file. content file ≡ Some (Err (journal.NotAStore at))) p h.2) refl)
 
--- and so is disk B's, if disk A has none
+-- a refusal of disk B refuses the two disks, if disk A isn't refused
 pub refused_b : (e : JournalStop) (on : OnDisk) (s t : Option (List ℕ)) (known_a known : ℕ) (new_a new : Content) → Opens s known_a new_a (Ok on) → Opens t known new (Err e) → IfSome s (λ x. IfSome t (λ y. Tells (named B e) (found x y)))
 unfolding found
 refused_b journal.DiskFault on s t known_a known new_a new h k = each_told s t (λ x y. Tells DiskFault (found x y)) (λ x y p q. tt)

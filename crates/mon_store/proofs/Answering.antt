@@ -30,7 +30,7 @@ tells_on OutOfMemory part whole h step = tt
 tells_on (stop.NotAStore side at) part whole h step = step _ h
 tells_on (stop.Stranger kept asked) part whole h step = step _ h
 
--- what a member doesn't find it doesn't open
+-- if reading the disks is refused, so is opening them
 unopened : (member : Member) (e : OpenStop) (x y : List ℕ) → Tells e (opened (owner_of member) x y) → Tells e (opens_as member x y)
 unopened member e x y h = tells_on e (opened (owner_of member) x y) (opens_as member x y) h (λ r is. ap (λ (o : Result (Found × Store) Refusal). o >>= (λ it. Ok (standing_of member it.0 it.1))) is)
 
@@ -51,7 +51,7 @@ answers_err member e s t result is h = subst (λ (r : Result Standing OpenStop).
     by (Some x) None h = tt
     by (Some x) (Some y) h = unopened member e x y h
 
--- where a store is, is determined by its fields
+-- a `Standing` is determined by its fields
 made : (r : Standing) (side : Side) (journal : Journal) (m : Store) → r.side ≡ side → r.journal ≡ journal → r.kv ≡ m → record { side = side; journal = journal; kv = m } ≡ r
 made r side journal m is_side is_journal is_map =
     ap (λ (x : Side). record { side = x; journal = journal; kv = m }) (sym is_side)
@@ -83,7 +83,7 @@ module _ (a b : OnDisk) (s t : Option (List ℕ)) (known_a known_b : ℕ) (new_a
   unfolding opened
   opened_is place is x y p q = ap (λ f. f >>= taken (owner_of member)) (found_is a b s t known_a known_b new_a new_b x y p q h k ∙ is)
 
-  -- and as what it is opened
+  -- and what the member opens
   opens_is : (place : Found) (m : Store) (r : Standing) → chosen (held_in a) (held_in b) (len_of a) (len_of b) ≡ Ok place → standing_of member place m ≡ r → taken (owner_of member) place ≡ Ok (place, m) → (x y : List ℕ) → s ≡ Some x → t ≡ Some y
       → opens_as member x y ≡ Ok r
   opens_is place m r is same takes x y p q = ap (λ (o : Result (Found × Store) Refusal). o >>= (λ it. Ok (standing_of member it.0 it.1))) (opened_is place is x y p q ∙ takes) ∙ ap (λ (r : Standing). Ok r) same

@@ -23,7 +23,7 @@ at_told : (s : Option Told) (P : Type 0) → is_some s ≡ true → IfSome s (λ
 at_told None P some h = absurd cc
 at_told (Some t) P some h = h
 
--- the outside refused a journal's call if it refused the store
+-- the disks' stop is the same for a journal's stop and for the store's
 pub stop_named : (T U : Type 0) (side : Side) (e : JournalStop) → stop_in {T = U} (Err (named side e)) ≡ of_journal {T = T} (Err e)
 stop_named T U side journal.DiskFault = refl
 stop_named T U side (journal.NotAStore at) = refl
@@ -95,12 +95,12 @@ still_b T ((B, call) ∷ calls) a b new_a new_b result some (inl m) = ap is_some
 still_b T ((B, call) ∷ calls) a b new_a new_b result some (inr (inl m)) = ap is_some m.2 ∙ still_told call b some
 still_b T ((B, call) ∷ calls) a b new_a new_b result some (inr (inr m)) = still_b T calls a (and_made call b) new_a new_b result (still_told call b some) m.1
 
--- running out of memory comes at any point
+-- memory may run out before any call
 no_memory : (U : Type 0) (calls : List (Side × DiskCall)) (a b : Option Told) → MakesBoth {T = U} calls a b a b (Err OutOfMemory)
 no_memory U [] a b = (refl, refl, λ h. absurd cc)
 no_memory U ((side, call) ∷ calls) a b = inl (refl, refl, refl)
 
--- some calls that end with a refusal, after which none comes
+-- some calls that end with a refusal, after which no call is made
 pub both_stop : (T U : Type 0) (e : OpenStop) (calls more : List (Side × DiskCall)) (a b new_a new_b : Option Told) → ((e ≡ OutOfMemory → ⊥) → (e ≡ DiskFault → ⊥) → more ≡ []) → MakesBoth {T = T} calls a b new_a new_b (Err e)
     → MakesBoth {T = U} (calls ++ more) a b new_a new_b (Err e)
 both_stop T U e [] more a b new_a new_b none m = by e none m.2

@@ -25,12 +25,12 @@ use Rattle.mon_store.proofs.Rereading.{stands_still}
 same_live : (s t : Side) (x y : Held) → ◌≡◌ {A = Result Found Refusal} (Ok (Live s x)) (Ok (Live t y)) → (s ≡ t) × (x ≡ y)
 same_live s t x y is = let a : s ≡ t = cc in let b : x ≡ y = cc in (a, b)
 
--- a disk that doesn't count beside a live one
+-- a disk that isn't live beside a file of this generation: it is closed, or its generation is lower
 abbrev pub IsOther : ℕ → OnDisk → Type 0
 IsOther generation (disk.Closed len) = Unit {0}
 IsOther generation (disk.Live journal payloads) = journal.generation < generation
 
--- the live disk was found with this, and the other one doesn't count
+-- the live disk was found to hold this, and the other one isn't live
 pub record Chosen (side : Side) (held : Held) (a b : OnDisk) : Type 0 where
   pub live : held_in (of_live side a b) ≡ Some held
   pub other : IsOther held.header.generation (of_live (other_side side) a b)
@@ -87,7 +87,7 @@ chosen_new (disk.Live j p) (disk.Live k q) h = absurd (none (eqb j.generation k.
     none false true h = cc
     none false false h = cc
 
--- ---- how the live disk stands, and the other
+-- ---- the live disk and the other one after an opening
 
 same_held : (j k : Journal) (p q : List (List ℕ)) → held_by j p ≡ held_by k q → (r : List (List ℕ)) → held_by j r ≡ held_by k r
 same_held j k p q is r = ap (λ (h : Held). record { header = h.header; payloads = r; next_gate = h.next_gate }) is
@@ -137,7 +137,7 @@ sound_open on other j payloads m s t known known_other x y is less map small h k
     record { stands_live = live.0; only_other = aside.0; below = aside.1; map = map; size = small }
 
 module _ {D : Type 0} (state : D → DiskState) (a b : OnDisk) (on_a on_b : D) (s t : Option (List ℕ)) (j : Journal) (payloads : List (List ℕ)) (h : Opens s (state on_a).known (state on_a).content (Ok a)) (k : Opens t (state on_b).known (state on_b).content (Ok b)) where
-  -- by the side of the live one
+  -- the same, whichever disk is live
   sound_live : (side : Side) (m : Store) → Chosen side (held_by j payloads) a b → IfSome (state (of_live side on_a on_b)).content.seen (λ file. map_of (payloads_of file) ≡ Ok m) → size_of m ≤ most_size
       → Sound j m (state (of_live side on_a on_b)).known (state (of_live side on_a on_b)).content (state (of_live (other_side side) on_a on_b)).content
   sound_live A m is map small = sound_open a b j payloads m s t (state on_a).known (state on_b).known (state on_a).content (state on_b).content is.live is.other map small h k
@@ -161,7 +161,7 @@ module _ {D : Type 0} (state : D → DiskState) (a b : OnDisk) (on_a on_b : D) (
           size = sound.size;
         })
 
-    -- whatever restoring it returns
+    -- the same for every result of restoring the map
     pub sound_restored : IfOk result (λ r. r.side ≡ side) → IfOk result (λ r. r.journal ≡ j) → IfOk result (λ r. IfSome (state (of_live side on_a on_b)).content.seen (λ file. map_of (payloads_of file) ≡ Ok r.kv)) → IfOk result (λ r. size_of r.kv ≤ most_size)
         → OnOk result (j.next_gate < (state (of_live side new_a new_b)).known)
         → IfOk result (λ r. Sound r.journal r.kv (state (of_live r.side new_a new_b)).known (state (of_live r.side new_a new_b)).content (state (of_live (other_side r.side) new_a new_b)).content)

@@ -15,7 +15,7 @@ of_calls c = (c.faults, c.wants)
 pub none_counts : (d : DiskState) → Counts None d d
 none_counts d = (refl, refl)
 
--- disk A goes on
+-- further calls on disk A alone
 pub then_a : (stop : Option Stop) (a b mid_a new_a new_b : DiskState) → BothCount None a b mid_a new_b → Counts stop mid_a new_a → BothCount stop a b new_a new_b
 then_a stop a b mid_a new_a new_b both next = by both
   where
@@ -26,7 +26,7 @@ then_a stop a b mid_a new_a new_b both next = by both
     by (inl c) = inl (joined c.0, c.1)
     by (inr c) = inl (joined c.0, c.1)
 
--- whatever is answered after them without a disk's fault
+-- the counts fit every later result that is no disk's fault
 pub whatever : (U : Type 0) (result : Result U OpenStop) (a b new_a new_b : DiskState) → IfErr result IsNoFault → BothCount None a b new_a new_b → BothCount (stop_in result) a b new_a new_b
 whatever U (Ok x) a b new_a new_b other both = both
 whatever U (Err DiskFault) a b new_a new_b other both = absurd other

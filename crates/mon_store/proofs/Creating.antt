@@ -28,7 +28,7 @@ use Rattle.mon_store.proofs.Sizes.{size_empty}
 use Rattle.mon_store.proofs.Moments.{weaker, then_first}
 use Rattle.mon_store.proofs.Alike.{alike_found, alike_pair, is_alike, opened_b}
 
--- on two closed disks that a creation may begin on nothing is found
+-- nothing is found on two closed disks on which a store may be created
 empty_found : (c d : List ℕ) → content c ≡ None → length c ≤ 26 → content d ≡ None → length d ≡ 0 → found c d ≡ Ok Create
 unfolding found
 empty_found c d none_c short none_d nothing =
@@ -45,12 +45,12 @@ empty_pair c d nothing = ap (λ f. f >>= map_found) nothing
 abbrev new_store : Member → Standing
 new_store member = record { side = A; journal = created member 1 None; kv = empty }
 
--- and it creates it on them
+-- and opens on two disks on which nothing is found
 empty_opens : (member : Member) (c d : List ℕ) → found c d ≡ Ok Create → opens_as member c d ≡ Ok (new_store member)
 unfolding opened
 empty_opens member c d nothing = ap (λ f. (f >>= taken (owner_of member)) >>= (λ it. Ok (standing_of member it.0 it.1))) nothing
 
--- what a closed disk holds that a crash leaves alone
+-- a closed disk of at most `most` bytes, of which a crash leaves nothing else
 pub record Closed (before now : Content) (most : ℕ) : Type 0 where
   pub only : Only now
   pub same : now.seen ≡ before.seen
@@ -80,7 +80,7 @@ module _ (member : Member) (a a1 a2 b b1 : Content) (la : LeavesOnly a a1 (Alike
       let none = closed_now b b1 0 kb d there in
       empty_found x d closed.0 closed.1 none.0 (omega (arith, none.1))
 
-  -- each image of the empty map is like a pair from before
+  -- a pair of images with the empty map is like a pair from before the call
   empty_then : (x : List ℕ) → images a1 x → (opening : Bool) (c d : List ℕ) → images b1 d → stands c d ≡ Ok empty → opens_as member c d ≡ Ok (new_store member) → content c ≡ first_content member opening x (Ok Create) → AlikePair member a b opening c d
   empty_then x left opening c d there is opens holds =
       let g = alike_a x left in
@@ -102,7 +102,7 @@ module _ (member : Member) (a a1 a2 b b1 : Content) (la : LeavesOnly a a1 (Alike
       same_first true x y same = refl
       same_first false x y same = same
 
-  -- what is left of the file
+  -- what a crash leaves during the creation
   during : (x : List ℕ) → images a1 x → (opening : Bool) (c d : List ℕ) → ByTest opening (Holds (created member 1 None) [] c) (images a1 c ⊎ ClosedFrom a1 26 c) → images b1 d → AlikePair member a b opening c d
   during x read true c d holds there =
       let none = closed_now b b1 0 kb d there in
@@ -152,7 +152,7 @@ module _ (member : Member) (a a1 a2 b b1 : Content) (la : LeavesOnly a a1 (Alike
       let left : Made a1 (created member 1 None) [] (made_more 5 s t) (t.settles t.made) = subst (λ (b : Bool). Made a1 (created member 1 None) [] b (t.settles t.made)) same made in
       during x.0 x.1 (eqb (slice_index_or (t.settles t.made) 0 0) 1 && made_more 5 s t) (t.settles t.made) (u.settles u.made) left there
 
-  -- and where it is
+  -- the created store is on its disks
   pub sound_c : (known : ℕ) (m : Rattle.mon_tx.specs.Map.Store) → m ≡ empty → Keeps (created member 1 None) [] known a2 → Sound (created member 1 None) m known a2 b1
   sound_c known m is keeps = record {
     stands_live = keeps.stands;
@@ -170,7 +170,7 @@ module _ (member : Member) (a a1 a2 b b1 : Content) (la : LeavesOnly a a1 (Alike
       by None h = tt
       by (Some file) h = ap map_of h ∙ map_nothing ∙ ap (λ n. Ok n) (sym is)
 
--- whatever the creation answers
+-- the same for every result of the creation
 pub sound_new : {D : Type 0} (state : D → DiskState) (member : Member) (before_a before_b : Content) (on_a mid_a on_b : D) → LeavesOnly before_a (state mid_a).content (AlikeFrom before_a) → LeavesOnly before_b (state on_b).content (AlikeFrom before_b)
     → Closed before_a (state mid_a).content 26 → Closed before_b (state on_b).content 0 → (result : Result Standing OpenStop) → IfOk result (λ s. s.side ≡ A) → IfOk result (λ s. s.journal ≡ created member 1 None) → IfOk result (λ s. s.kv ≡ empty)
     → IfOk result (λ s. Keeps s.journal [] (state on_a).known (state on_a).content)

@@ -21,7 +21,7 @@ use Rattle.mon_store.proofs.Moments.{first_goes, second_goes}
 use Rattle.mon_store.proofs.Keeping.{holds_now}
 use Rattle.mon_store.proofs.Applying.{told_map, is_told, stands_now}
 
--- what is left of a file with a checkpoint
+-- what a crash may leave of a file while a checkpoint is written
 pub as_begins : (x : Content) (journal : Journal) (m : Store) → HasCheckpoint m → (c : List ℕ) → CreatedFrom x journal (checkpoint_text m ∷ []) c → Begins x journal m c
 as_begins x journal m form c (inl left) = inl left
 as_begins x journal m form c (inr (inl closed)) = inr (inl closed)
@@ -35,7 +35,7 @@ not_begun x journal m told left = few 4 told told x (BegunAs x journal m) (omega
     by true c there = inl there
     by false c there = inl there
 
--- and the calls that a journal made there
+-- the calls that began a journal on the other disk
 pub has_begun : (x : Content) (journal : Journal) (m : Store) (old new : Option Told) → HasCheckpoint m → IfSome old (λ s. IfSome new (λ t. Made x journal (checkpoint_text m ∷ []) (made_more 4 s t) (t.settles t.made)))
     → IfSome old (λ s. IfSome new (λ t. BegunAs x journal m (made_more 4 s t) (t.settles t.made)))
 has_begun x journal m None new form made = tt
@@ -119,7 +119,7 @@ turned_other A live other = refl
 turned_other B live other = refl
 
 module _ {D : Type 0} (state : D → DiskState) (live old new : D) (Q : List ℕ → Type 0) (P : List ℕ → List ℕ → Type 0) (l : LeavesOnly (state old).content (state new).content Q) where
-  -- the other disk goes on
+  -- calls on the other disk alone
   pub other_goes : (side : Side) → ((c d : List ℕ) → images (state live).content c → Q d → P (of_a side c d) (of_b side c d))
       → Meanwhile (state (of_a side live old)).content (state (of_b side live old)).content (state (of_a side live new)).content (state (of_b side live new)).content P
   other_goes A h = second_goes (state live).content (state old).content (state new).content Q P l h
@@ -130,7 +130,7 @@ module _ {D : Type 0} (state : D → DiskState) (live old new : D) (Q : List ℕ
   turned_round A h = other_goes A h
   turned_round B h = other_goes B h
 
-  -- and then is live
+  -- the same, and then the other disk is live
   pub other_takes : (side after : Side) (x y : D) → x ≡ new → y ≡ live → after ≡ other_side side → ((c d : List ℕ) → images (state live).content c → Q d → P (of_a side c d) (of_b side c d))
       → Meanwhile (state (of_a side live old)).content (state (of_b side live old)).content (state (of_a after x y)).content (state (of_b after x y)).content P
   other_takes side after x y is_new is_live is_turned h = rw (is_new, is_live, is_turned) (turned_round side h)

@@ -26,14 +26,15 @@ from_found m place None found = none (entries_after m place) found
     none (e ∷ es) h = absurd cc
 from_found m place (Some e) found = sym (entries_after-tail m place e (sym found))
 
--- an entry that was found has the form of one
+-- an entry that was found has a prefix and a key of their forms
 abbrev pub IsFormed : Option EntryRef → Type 0
 IsFormed next = IfSome next (λ e. IsTrue (is_prefix e.prefix.now) × IsTrue (is_name e.key.now))
 
 abbrev pub left : Store → Option EntryRef → List Entry
 left m next = from m (option_map entry_of next)
 
--- What a walk leaves: no more than there was, and where each entry that is left has the form of one, each has.
+-- The entries from `next` on are no larger than the map. If each of them has the form of an entry, then so has each
+-- entry of the map.
 pub record Walks (m : Store) (next : Option EntryRef) : Type 0 where
   pub size : sum_by entry_size (left m next) ≤ size_of m
   pub each : AllByRecursion EntryFits (left m next) → AllByRecursion EntryFits (entries m)

@@ -27,13 +27,13 @@ value_at c = do
   n ← fitted (number 4 c)
   fitted (front n.0 n.1)
 
--- a prefix that isn't below the one before it; one that is has its fault where its bytes begin
+-- a prefix that isn't below the one before it; if it is, the fault is where its bytes begin
 unfoldable pub prefix_at : List ℕ → Reading → Result (List ℕ × Reading) MapRefused
 prefix_at before c = do
   prefix ← word_at MOST_PREFIX c
   if is_lt (slice_cmp nat_cmp prefix.0 before) then Err (Form (c.at + 1)) else Ok prefix
 
--- a key that with its prefix is above the place before it; one that isn't has its fault where its bytes begin
+-- a key that is, with its prefix, above the place before it; if it isn't, the fault is where its bytes begin
 unfoldable pub key_at : Place → List ℕ → Reading → Result (List ℕ × Reading) MapRefused
 key_at before prefix c = do
   key ← word_at MOST_NAME c
@@ -63,7 +63,7 @@ map_at c = do
     entries ← entries_at count.0 ([], []) count.1
     Ok (from_sorted entries.0, entries.1)) else Err (Form c.at)
 
--- the same, if nothing is left
+-- the map of a checkpoint, after which no byte follows
 unfoldable pub checkpoint_of : Reading → Result Store MapRefused
 checkpoint_of c = do
   map ← map_at c

@@ -53,18 +53,20 @@ NamesOther kept asked end.OutOfMemory = Unit {0}
 NamesOther kept asked (end.Stranger other member) = (owner_of other ≡ owner_of kept) × (member ≡ asked)
 NamesOther kept asked other = ⊥
 
--- A text is written of disks that represent the member's store, or on which one is created; otherwise the end says why not.
+-- If the disks represent the member's store, or one is created on them, the text is written. Otherwise the end says why
+-- not.
 pub record TextCompletes (member : Member) (a b : List ℕ) (e : ToolEnd) : Type 0 where
   pub stands : (stood : Stood) → opens_as member a b ≡ Ok stood → IsEnd end.Done e
   pub refused : (refusal : Refusal) → opens_as member a b ≡ Err refusal → IsRefusal refusal e
 
--- Two reports are compared; of other bytes, however many, the end has the line at fault.
+-- Two reports are compared. For other bytes of any length the end has the line at fault.
 pub record ComparisonCompletes (bytes : List ℕ) (e : ToolEnd) : Type 0 where
   pub compared : (x : Fields × Fields) → reports_at bytes ≡ Ok x → IsEnd end.Done e
   pub refused : (line : ℕ) → reports_at bytes ≡ Err (report.Report line) → IsEnd (end.Report line) e
 
--- The member's export is imported on empty disks. Of other bytes, however many, the end has the place at fault; then the size of a map that
--- is too large; then the member of another's export; then the first disk that isn't empty.
+-- The member's export is imported on empty disks. For other bytes of any length the end has the place at fault. For an
+-- export it has the size of a map that is too large, or the other member whose export it is, or the first disk that
+-- isn't empty.
 pub record ImportCompletes (member : Member) (bytes a b : List ℕ) (e : ToolEnd) : Type 0 where
   pub refused : (at : ℕ) → export_of bytes ≡ Err (export.At at) → IsEnd (end.Export at) e
   pub too_large : (would_be : ℕ) → export_of bytes ≡ Err (export.Full would_be) → IsEnd (end.Full would_be) e

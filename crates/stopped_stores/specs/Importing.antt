@@ -27,12 +27,12 @@ pub record IsExport (member : Member) (m : Store) (bytes : List ℕ) : Type 0 wh
   pub form : HasExport (owner_of member) m
   pub text : bytes ≡ export_text (owner_of member) m
 
--- they are an export of the member
+-- the bytes are an export of the member, with any map
 pub record IsExportOf (member : Member) (bytes : List ℕ) : Type 0 where
   pub map : Store
   pub export : IsExport member map bytes
 
--- What reading a member's export gives: its map; or the end that comes instead.
+-- Reading a member's export returns its map, or the end for which there is none.
 abbrev pub ReadsMap : Member → Stream → Stream → Result Store ToolEnd → Type 0
 ReadsMap member before after (Ok m) = ReadAll MOST_EXPORT_READ before after (IsExport member m)
 ReadsMap member before after (Err end.ReadFault) = Rose before.faults after.faults × ConsumesFront MOST_EXPORT_READ before.bytes after.bytes
@@ -44,8 +44,8 @@ ReadsMap member before after (Err end.OutOfMemory) = ConsumesFront MOST_EXPORT_R
 ReadsMap member before after (Err other) = ⊥
 
 module _ {D : Type 0} (state : D → DiskState) (member : Member) (old new : NodeDisks D) where
-  -- An import of a member's map ended so. Done comes only if both disks were empty; a crash leaves what was there, two closed files or the
-  -- whole map; after Done it leaves the map.
+  -- An import of a member's map ended with `e`. Done is returned only if both disks were empty. A crash leaves what the
+  -- disks held, two closed files, or the whole map. After Done it leaves the map.
   pub record Imports (m : Store) (e : ImportEnd) : Type 0 where
     pub answer : IfSome (state old.a).content.seen (λ a. IfSome (state old.b).content.seen (λ b. Answers a b e))
     pub any_moment : WhileImporting member m (state old.a).content (state old.b).content (state new.a).content (state new.b).content
@@ -70,7 +70,8 @@ module _ {D : Type 0} (state : D → DiskState) (member : Member) (old new : Nod
   abbrev pub ReadThenImports : Stream → Stream → ImportEnd → Type 0
   ReadThenImports before after e = ReadAll MOST_EXPORT_READ before after (IsImported e)
 
-  -- The cause of each end: an import of the map that was read; or what came instead of the map, when the disks were left alone.
+  -- The cause of each end: an import of the map that was read; or a failure to read a map, after which the disks are
+  -- unchanged.
   abbrev pub ImportsExport : Stream → Stream → ToolEnd → Type 0
   ImportsExport before after end.Done = ReadThenImports before after import.Done
   ImportsExport before after (end.NotEmpty disk) = ReadThenImports before after (import.NotEmpty disk)

@@ -13,9 +13,9 @@ use Rattle.mon_tx.specs.Map.{Store}
 use Rattle.mon_types.specs.declared.member.Member.{Member}
 
 module _ {D : Type 0} (state : D → DiskState) where
-  -- A member opened its store on two disks, or this is why it opened none. What is on them is what they held, and a refusal
-  -- has its cause there. A crash leaves what they held, and after Ok it leaves the store. Opening's own writes and syncs were
-  -- made, and no others: a store of an earlier format stays as it is.
+  -- A member opened its store on two disks, or was refused. The opened store is what the disks held, or a new one; a
+  -- refusal has its cause there. A crash leaves disks that represent the same as before the call, and after Ok it
+  -- leaves the store. Only the opening's writes and syncs were made, so a store of an earlier format stays as it is.
   pub record Opens (member : Member) (old new : NodeDisks D) (result : Result Stood OpenStop) : Type 0 where
     pub answer : IfSome (state old.a).content.seen (λ a. IfSome (state old.b).content.seen (λ b. Answers member a b result))
     pub alike : IsTrue (is_some (state old.a).content.seen) → IsTrue (is_some (state old.b).content.seen)
@@ -26,7 +26,7 @@ module _ {D : Type 0} (state : D → DiskState) where
         (state old.b).told (state new.a).told (state new.b).told result
     pub counts : BothCount (stop_in result) (state old.a) (state old.b) (state new.a) (state new.b)
 
-  -- a store was opened, and its map has this fact
+  -- a store was opened, and the fact holds of its map
   pub record Opened (member : Member) (old new : NodeDisks D) (fact : Store → Type 0) : Type 0 where
     pub stood : Stood
     pub opens : Opens member old new (Ok stood)

@@ -12,11 +12,11 @@ use Rattle.stopped_stores.specs.declared.comparing.TheConstants.{MOST_REPORTS_RE
 use Rattle.stopped_stores.specs.declared.end.ToolEnd.{ToolEnd}
 use Rattle.stopped_stores.specs.declared.end.ToolEnd.TheVariants as end
 
--- the source was read to its end, or up to the most that is read and no further, and the bytes have this fact
+-- the source was read to its end, but at most `most` bytes, and the fact holds of the bytes
 abbrev pub OfRead : (most : ℕ) → Stream → Stream → (List ℕ → Type 0) → Type 0
 OfRead most before after fact = (bytes : List ℕ) × (length bytes ≤ most) × ReadsWhole most before.bytes after.bytes bytes × fact bytes
 
--- the source was read to its end, if it reports what it has left
+-- the same, and the source is at its end, if it reports its remaining bytes
 abbrev pub ReadAll : (most : ℕ) → Stream → Stream → (List ℕ → Type 0) → Type 0
 ReadAll most before after fact = IsAtEnd after.bytes × OfRead most before after fact
 
@@ -25,19 +25,19 @@ pub record AreReports (a b : Report) (bytes : List ℕ) : Type 0 where
   pub text : bytes ≡ report_text a ++ report_text b
   pub read : reports_at bytes ≡ Ok (fields_of a, fields_of b)
 
--- the bytes are two reports, which have this fact
+-- the bytes are two reports, of which the fact holds
 pub record HaveReports (fact : Report → Report → Type 0) (bytes : List ℕ) : Type 0 where
   pub a : Report
   pub b : Report
   pub are : AreReports a b bytes
   pub holds : fact a b
 
--- two reports were read, and they have this fact
+-- two reports were read, of which the fact holds
 abbrev pub ReadReports : Stream → Stream → (Report → Report → Type 0) → Type 0
 ReadReports before after fact = ReadAll MOST_REPORTS_READ before after (HaveReports fact)
 
--- The cause of each end of a comparison: the source had two reports, and what is written is where they differ, whole or a prefix; or the
--- first line at fault has this number; or reading failed.
+-- The cause of each end of a comparison. The source had two reports, and the text that says where they differ was
+-- written, whole or a prefix; or the first line at fault has this number; or reading failed.
 abbrev pub Compares : (source_before source_after sink_before sink_after : Stream) → ToolEnd → Type 0
 Compares before after old new end.Done = ReadReports before after (λ a b. Appends old.bytes new.bytes (compared a b))
 Compares before after old new (end.Report line) = OfRead MOST_REPORTS_READ before after (λ bytes. reports_at bytes ≡ Err (refused.Report line)) × (new ≡ old)

@@ -44,8 +44,8 @@ module _ {D : Type 0} (state : D → DiskState) (member : Member) (old new : Nod
   abbrev pub Refuses : OpenStop → Type 0
   Refuses why = Opens state member old new (Err why) × (after ≡ before)
 
-  -- The cause of each end: the whole text of the opened store's map was written to the sink; or a prefix of it, as writing failed or memory
-  -- ran out; or no store was opened.
+  -- The cause of each end. The whole text of the opened store's map was written to the sink; or a prefix of it, since
+  -- writing failed or memory ran out; or no store was opened.
   abbrev pub WritesText : StoreText → ToolEnd → Type 0
   WritesText what end.Done = Opened state member old new (λ m. Appends before.bytes after.bytes (text_of what member m))
   WritesText what end.WriteFault =

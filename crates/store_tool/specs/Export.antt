@@ -38,8 +38,8 @@ word_at c = do
   word ← fitted (front 8 c)
   if bytes_eq word.0 export_word then Ok word else Err (map.Form c.at)
 
--- The rank and the number of monitors are read as in the header of a store's file, with their fault at its place. Nothing else comes of
--- their reader.
+-- The rank and the number of monitors are read as in the header of a store's file, with their fault at its place. Their
+-- reader never returns DiskFault.
 abbrev pub form_of : JournalStop → MapRefused
 form_of (journal.NotAStore at) = map.Form at
 form_of journal.DiskFault = map.OutOfMemory
@@ -56,7 +56,7 @@ fields_of c = do
   m ← checkpoint_of owner.1
   Ok (owner.0, m)
 
--- The map is small enough for a store; a fault has its place.
+-- The map must be small enough for a store; a checkpoint's fault keeps its place.
 abbrev pub judged : Result (Owner × Store) MapRefused → Result (Owner × Store) ExportRefused
 judged (Ok x) = if nat_lt most_size (size_of x.1) then Err (Full (size_of x.1)) else Ok x
 judged (Err (map.Form at)) = Err (At at)

@@ -22,13 +22,13 @@ use Rattle.mon_store.specs.Sound.{of_live, StandsOn}
 use Rattle.store_tool.specs.declared.importing.ImportEnd.{ImportEnd}
 use Rattle.store_tool.specs.declared.importing.ImportEnd.TheVariants.{Done, NotEmpty, DiskFault, OutOfMemory}
 
--- ---- which end comes
+-- ---- which end is returned
 
 -- the first disk that isn't empty
 abbrev pub filled : List ℕ → List ℕ → Option Side
 filled a b = if length a == 0 then (if length b == 0 then None else Some B) else Some A
 
--- Done comes only if both disks were empty, and NotEmpty only if that disk is the first that wasn't.
+-- Done is returned only if both disks were empty, and NotEmpty only if its disk is the first one that wasn't.
 abbrev pub Answers : List ℕ → List ℕ → ImportEnd → Type 0
 Answers a b Done = filled a b ≡ None
 Answers a b (NotEmpty disk) = filled a b ≡ Some disk
@@ -60,8 +60,9 @@ pub record BothKeep (old_a old_b new_a new_b : Content) : Type 0 where
   pub a : LeavesOnly old_a new_a (images old_a)
   pub b : LeavesOnly old_b new_b (images old_b)
 
--- Both disks were synced at the time `synced` of disk A. Up to then each disk keeps its images, and disk B goes on doing so.
--- From then on both are closed, or they represent the whole map.
+-- Both disks were synced at the point `synced` of disk A. Before that a crash leaves of each disk what it might have
+-- left before the call. From then on it leaves two closed files, or the store of the whole map. Disk B keeps its images
+-- throughout.
 pub record KeepThenMake (member : Member) (m : Store) (old_a old_b new_a new_b : Content) : Type 0 where
   pub a : Lasts old_a new_a
   pub b : LeavesOnly old_b new_b (images old_b)
@@ -92,8 +93,8 @@ unless_filled (Some disk) calls = []
 abbrev pub import_calls : Owner → Store → List ℕ → List ℕ → List (Side × DiskCall)
 import_calls owner m a b = unless_filled (filled a b) (making_calls owner m)
 
--- Which of these calls were made, in this order, on two disks that report theirs: each of them, if none failed; or those up to the first
--- that failed, which is when Failed comes; or those before memory ran out.
+-- Which of these calls were made, in this order, on two disks that report their calls: each of them, if none failed; or
+-- those up to the first that failed, and then the stop is Failed; or those before memory ran out.
 abbrev pub MakesOn : List (Side × DiskCall) → Option Told → Option Told → Option Told → Option Told → Option Stop → Type 0
 MakesOn [] a b new_a new_b stop = (new_a ≡ a) × (new_b ≡ b) × (stop ≡ Some disk_stop.Failed → ⊥)
 MakesOn ((side, call) ∷ calls) a b new_a new_b stop =

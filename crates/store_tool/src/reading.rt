@@ -91,7 +91,7 @@ pub fn read_export(alloc: Global, bytes: &[u8]) -> Result<(Member, Kv), ExportRe
     ensures only { (owner : Owner) (m : Store) → HasExport owner m → bytes.now ≡ export_text owner m
         → Gives {Y = Owner × Store} (λ x. (owner_of x.0, x.1)) result (Ok (owner, m)) }
 
-    // Which fault comes, and its place.
+    // Which fault is returned, and its place.
     ensures exact { Gives (λ x. (owner_of x.0, x.1)) result (export_of bytes.now) }
 {
     read(alloc, bytes)
