@@ -19,7 +19,7 @@ pub is_short : (first : Option (Bor (List ℕ))) → ForSome first (λ payload. 
 is_short None short payload e = absurd cc
 is_short (Some bytes) short payload e = let same : bytes.now ≡ payload = cc in subst (λ (l : List ℕ). length l < 2 ^ 32) same (short bytes refl)
 
--- as a disk reads is one of its images
+-- what a disk reads as is one of its images
 pub reads_of : (x : Content) → IfSome x.seen (images x) → (file : List ℕ) → x.seen ≡ Some file → images x file
 reads_of x h file e = subst (λ (t : Option (List ℕ)). IfSome t (images x)) e h
 

@@ -142,7 +142,7 @@ pub not_short : (s : Option (List ℕ)) (journal : Journal) (end : ℕ) (P : Typ
 not_short s journal end P holds long short = both_files s (λ file. Holds journal (payloads_of file) file) (λ file. end ≡ length file) (λ file. P)
     (λ file here is. absurd (let there = within file journal (payloads_of file) here in omega (arith, there, is, short))) holds long
 
--- zero at the first closed gate of a store's file leaves the store
+-- writing zero at the first closed gate of a store's file doesn't change its content
 holds_seen : (journal : Journal) (payloads : List (List ℕ)) (s s1 : Option (List ℕ)) → IfSome s (Holds journal payloads) → s1 ≡ written journal.next_gate (0 ∷ []) s → IfSome s1 (Holds journal payloads)
 holds_seen journal payloads None s1 holds is = subst (λ (t : Option (List ℕ)). IfSome t (Holds journal payloads)) (sym is) tt
 holds_seen journal payloads (Some file) s1 holds is = subst (λ (t : Option (List ℕ)). IfSome t (Holds journal payloads)) (sym is) (zeroed_holds file journal payloads holds)
@@ -169,7 +169,7 @@ module _ (journal : Journal) (payloads : List (List ℕ)) where
 
 -- ---- the head of a file, as far as it is read
 
--- whether it is closed shows in its first bytes
+-- whether a file is closed is seen from its first 25 bytes
 pub closed_head : (n : ℕ) (file : List ℕ) → n ≡ min (length file) 25 → is_closed (take n file) ≡ is_closed file
 closed_head n [] is = ap is_closed (take_all n [] (omega arith))
 closed_head n (gate ∷ []) is = ap is_closed (take_all n (gate ∷ []) (omega (arith, is)))
@@ -197,7 +197,7 @@ held_header file = each (whole (number 1 (from 0 file)))
     each (Ok x) = refl
     each (Err e) = refl
 
--- and so does its header
+-- an open file's header is seen from its first 25 bytes
 pub same_header : (n : ℕ) (file : List ℕ) → n ≡ min (length file) 25 → is_closed file ≡ false → header_of_file file ≡ behind (drop n file) (header_of_file (take n file))
 same_header n file is is_open =
     let b = begins_open file is_open in

@@ -1,4 +1,4 @@
--- What it means to be on a disk, from what the disk holds, and back.
+-- `Stands` and `Keeps` from what a disk holds, and what it holds from these.
 use Rattle.std.proofs.Common.{◌≡◌, ◌≢◌, ℕ, ◌<◌, ◌∷◌, ◌++◌, List, Option, Some, None, Result, get_or, sym, ap, subst, ◌∙◌}
 use Rattle.std.specs.Prelude.{IfSome}
 use Rattle.mon_disk.specs.Images.{Content, Only}

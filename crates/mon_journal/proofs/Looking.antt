@@ -22,7 +22,7 @@ then_reads stop old mid new first second = record {
 pub without : (old new : DiskState) → OnlyReads None old new → OnlyReads (Some OutOfMemory) old new
 without old new r = record { call = without_memory (images old.content) r.call; seen = r.seen }
 
--- a piece is one of the disk that holds the same
+-- a piece of a disk's file is also a piece of it after a call that changes nothing
 pub still_piece : (old new : DiskState) (piece : PieceState) → new.content.seen ≡ old.content.seen → new.known ≡ old.known → IsPieceOf old piece → IsPieceOf new piece
 still_piece old new piece seen known is = record {
   known = known ∙ is.known;

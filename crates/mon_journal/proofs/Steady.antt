@@ -15,7 +15,7 @@ use Rattle.mon_journal.specs.Content.{header_at}
 use Rattle.mon_journal.proofs.Local.{from, bind_ok, whole_ok}
 use Rattle.mon_journal.proofs.Parts.{header_by}
 
--- with others after what is left
+-- the same result, with other bytes after the unread ones
 abbrev pub behind : {A : Type 0} → List ℕ → Result (A × Reading) JournalStop → Result (A × Reading) JournalStop
 behind others (Ok x) = Ok (x.0, from x.1.at (x.1.rest ++ others))
 behind others (Err e) = Err e

@@ -23,9 +23,9 @@ use std::marker::Model;
 pub struct Stored<'a> {
     kv: &'a Kv,
     ops: &'a [Op],
-    /// What the changes put and don't take away again.
+    /// What the changes put and don't erase again.
     put: Kv,
-    /// The changes that take keys away.
+    /// The changes that erase keys.
     taken: Vec<Op>,
 }
 
@@ -87,7 +87,7 @@ fn covers(from: u64, to: u64, key: Key) -> bool
     }
 }
 
-/// Whether a change takes a named key away, whose prefix and text are known.
+/// Whether a change erases the named key `at`.
 #[tactic(auto, using(crate::proofs::Standing::erase_takes, crate::proofs::Standing::prefix_takes, crate::proofs::Standing::range_takes))]
 fn takes_away(op: &Op, at: &At<'_>) -> bool
     requires { IsAt at.now }
@@ -104,7 +104,7 @@ fn takes_away(op: &Op, at: &At<'_>) -> bool
     }
 }
 
-/// Whether one of the changes takes a named key away.
+/// Whether one of the changes erases the named key `at`.
 fn is_taken(ops: &[Op], at: &At<'_>) -> bool
     requires { IsAt at.now }
     ensures { result ≡ list_any (takes_away (at.now.prefix.now, at.now.text.now)) ops.now }
@@ -117,7 +117,7 @@ fn is_taken(ops: &[Op], at: &At<'_>) -> bool
     false
 }
 
-/// What a map holds at a named key, unless one of the changes takes the key away.
+/// The value that a map holds at a named key, or `None` if one of the changes erases the key.
 fn still_there<'k>(kv: &'k Kv, taken: &[Op], at: &At<'_>) -> Option<&'k [u8]>
     requires { IsAt at.now }
     ensures { option_copied result ≡ if list_any (takes_away (at.now.prefix.now, at.now.text.now)) taken.now then None else get kv.now (at.now.prefix.now, at.now.text.now) }

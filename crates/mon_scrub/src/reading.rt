@@ -102,10 +102,10 @@ fn read(bytes: &[u8]) -> Result<(Report, Report), ReportRefused>
 
 /// Two reports, from their texts one after the other. It takes no memory, and never returns `OutOfMemory`.
 pub fn parse(bytes: &[u8]) -> Result<(Report, Report), ReportRefused>
-    // What is read is the texts of the two reports.
+    // If reading succeeds, the bytes are the texts of the two reports.
     ensures found { IfOk result (λ x. bytes.now ≡ report_text x.0 ++ report_text x.1) }
 
-    // Which two they are, or the first line at fault.
+    // The result is the two reports, or the first line at fault.
     ensures exact { Is (λ x. (fields_of x.0, fields_of x.1)) result (reports_at bytes.now) }
 {
     read(bytes)

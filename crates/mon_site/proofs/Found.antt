@@ -75,7 +75,7 @@ newer_is x y place e = by (x.header.generation == y.header.generation) (nat_lt y
     by false true e = record { side = A; held = x; is = refl }
     by false false e = record { side = B; held = y; is = refl }
 
--- What opening finds: a new store, if both disks are closed, or one that is there.
+-- Opening creates a new store if both disks are closed, and otherwise finds one.
 pub data Finds (x y : Content) (place : Result Found Refusal) : Type 0 where
   IsNew : (x ≡ None) → (y ≡ None) → (place ≡ Ok Create) → Finds x y place
   WasThere : (is_created (files_with x y) ≡ true) → IsThere place → Finds x y place
@@ -110,7 +110,7 @@ module _ (owner : Owner) (a b : ℕ) where
   b_with (Some (Ok x)) (Some (Err y)) place e = absurd (no_refusal B y place (λ hy. chosen (Some x) hy a b) e)
   b_with (Some (Err x)) y place e = absurd (no_refusal A x place (λ hx. held_on B y >>= λ hy. chosen hx hy a b) e)
 
-  -- how many they are
+  -- the number of these calls
   count_a : (x y : Content) (place : Found) → found_with x y a b ≡ Ok place → opening_count A (files_with x y) ≡ 1 + length (guarded (writes_a owner x y))
   count_a None None place e = refl
   count_a None (Some (Ok y)) place e = refl

@@ -120,7 +120,7 @@ neither : (b : Bool) → (b && false) ≡ false
 neither true = refl
 neither false = refl
 
--- its gate is open, and was begun to be opened
+-- the gate of a new file is open, and the write that opens it was begun
 pub create_gate : (image done : ℕ) (owner : Owner) (generation : ℕ) (first : Option (List ℕ)) (file : List ℕ) → done < 6
     → (is_opened (cut_short image done (create_writes owner generation first) file) 0 && nat_le 4 done) ≡ (nat_le 4 done && image == 1)
 create_gate image zero owner generation first file le = neither (is_opened (placed 0 (part image (0 ∷ [])) file) 0)
@@ -135,7 +135,7 @@ create_gate image (suc (suc (suc (suc (suc zero))))) owner generation first file
     ∙ opening image 0 (overwritten 1 (head_bytes owner generation first) (begun_file file)) (headed_shut (head_bytes owner generation first) file)
 create_gate image (suc (suc (suc (suc (suc (suc n)))))) owner generation first file le = absurd (omega (arith, le))
 
--- ---- what else is left of it
+-- ---- a new file whose gate wasn't opened
 
 closed : (file : List ℕ) → is_opened file 0 ≡ false → file_in file ≡ None
 unfolding journal.content
@@ -167,7 +167,7 @@ closing image file most = closed_by (image == 0) (image == 1) (image == 2) (imag
 headed_by : (image : ℕ) (head file : List ℕ) → file_in (placed 1 (part image head) (begun_file file)) ≡ None
 headed_by image head file = closed (placed 1 (part image head) (begun_file file)) (ap (λ (b : ℕ). b == 1) (before_placed 1 (part image head) (begun_file file) 0 (omega arith)) ∙ begun_shut file)
 
--- if its gate wasn't opened: the file from before, or none
+-- what is left: the file from before, or none
 pub create_left : (image done : ℕ) (owner : Owner) (generation : ℕ) (first : Option (List ℕ)) (file : List ℕ) → done < 6 → image ≤ 3 → (nat_le 4 done && image == 1) ≡ false
     → file_in (cut_short image done (create_writes owner generation first) file) ≡ (if closes_gate 1 (suc done) image then None else file_in file)
 create_left image zero owner generation first file le most shut = closing image file most

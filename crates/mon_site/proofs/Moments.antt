@@ -79,11 +79,12 @@ module _ (member : Member) (side : Side) (j : Journal) (m : Store) (ops : List O
   either true a b s = inr (opens_on member side (appended j (text ops)) (apply ops m) a b own form s)
   either false a b s = inl (opens_on member side j m a b own form s)
 
--- the file of a journal is below each later one
+-- a journal's file is below each greater generation
 below_next : (j : Journal) (payloads : List (List ℕ)) (file : List ℕ) (generation : ℕ) → journal.Holds j payloads file → j.generation < generation → IsBelow generation (journal.content file)
 below_next j payloads file generation holds lower = subst (λ (x : Option (Result Held JournalStop)). IsBelow generation x) (sym holds) lower
 
--- An image of the live disk from before its record was written goes with one of the other disk from after that.
+-- A pair of images in which the live disk's is from before its record was written, and the other disk's from after
+-- that, holds a store too.
 crossed : (side : Side) (j k : Journal) (m n : Store) (live now other later : List ℕ) → k.generation ≡ j.generation
     → StandsOn side j m (of_a side live other) (of_b side live other) → ThisOrNext side k n (of_a side now later) (of_b side now later)
     → StandsOn side j m (of_a side live later) (of_b side live later)
@@ -146,7 +147,7 @@ module _ (member : Member) (j k : Journal) (m n : Store) (ops : List Op)
         (second.each s (content now).moment c (seen_of now.life) from to (omega arith) (omega arith) on_a (as_read now));
   }
 
--- two disks, of which one is as it was
+-- two disks, one of which is `now`
 module _ (x y : Content) (P : List ℕ → List ℕ → Type 0) (a b now : MemoryState) where
   by_side : (side : Side) → of_live side a b ≡ now → Meanwhile x y (content a) (content b) P
       → Meanwhile x y (content (of_a side now (of_live (other_side side) a b))) (content (of_b side now (of_live (other_side side) a b))) P
@@ -179,7 +180,7 @@ module _ (member : Member) (m : Store) (f : Files) (ops : List Op) (old mid : In
         either member old.side old.journal old.kv ops runs.owner runs.form (slice_index_or (of_live old.side c d) old.journal.next_gate 0 == 1) c d (written.each s t c d from to from_b to_b on_a on_b);
   })
 
-  -- and what is due then
+  -- the checkpoint that is due after the transaction
   pub while_applied : (g : Files) (new : InUse) → Runs member (apply ops m) g mid → mid.journal ≡ journal_after old.journal ops → disk_of mid.side new ≡ mid.live
       → Meanwhile (content (disk_a mid)) (content (disk_b mid)) (content (disk_a new)) (content (disk_b new)) (ThisOrNext mid.side mid.journal mid.kv) → either_map m new
   while_applied g new here journal untouched renewed =

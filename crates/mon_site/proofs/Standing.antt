@@ -23,7 +23,7 @@ use Rattle.mon_site.specs.Disks.{file_of, file_in, files_in, content}
 abbrev pub file_by : Journal → File
 file_by j = record { generation = j.generation; gate = j.next_gate }
 
--- the files, of which this one is live
+-- two disks' files, if this is the live one and that the other disk's
 abbrev pub files_with : Side → File → Option File → Files
 files_with side live other = record { a = of_a side (Some live) other; b = of_b side (Some live) other }
 
@@ -77,7 +77,7 @@ module _ (side : Side) (live other : MemoryState) (j : Journal) (m : Store) (kno
   pub other_seen : settled other.life ≡ seen_of other.life
   other_seen = let h : Some (seen_of other.life) ≡ Some (settled other.life) = sound.only_other (settled other.life) (settles other) in cc
 
--- of the disks by their names, and by which is live
+-- a function of each disk, for disks A and B, and for the live one and the other
 pub by_name_a : {X Y : Type 0} (f : X → Y) (side : Side) (live other : X) → f (of_a side live other) ≡ of_a side (f live) (f other)
 by_name_a f A live other = refl
 by_name_a f B live other = refl

@@ -13,7 +13,7 @@ use Rattle.mon_journal.proofs.Keeping.{seen_holds}
 use Rattle.mon_store.specs.Sound.{WithChange}
 
 module _ (journal : Journal) (known : ℕ) (x : Content) (stands : Stands journal known x) where
-  -- what a crash may leave now is the journal's
+  -- each image that a crash may leave holds the journal and its payloads
   pub holds_now : (c : List ℕ) → images x c → Holds journal (payloads_seen x) c
   holds_now c left = by x.seen (seen_holds journal known x stands) (stands.only c left)
     where

@@ -15,7 +15,7 @@ use Rattle.mon_store.specs.Checkpoint.{Entry}
 use Rattle.mon_store.specs.Decode.{word_at, value_at, prefix_at, key_at, entry_at, entries_at}
 use Rattle.mon_store.proofs.Order.{entries-empty}
 
--- what was read before, and what is still read
+-- the entries that were read before, and then those that are read from here on
 abbrev pub with_front : List Entry → Result (List Entry × Reading) MapRefused → Result (List Entry × Reading) MapRefused
 with_front front read = read >>= λ x. Ok (front ++ x.0, x.1)
 

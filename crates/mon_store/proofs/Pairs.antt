@@ -44,7 +44,7 @@ unfolding found
 found_live A live other held is below = rw is (found_a held (content other) (length live) (length other) below)
 found_live B live other held is below = rw is (found_b held (content other) (length other) (length live) below)
 
--- they represent what the payloads of the live one make
+-- two images represent the map that the live file's payloads make
 pub stands_live : (side : Side) (live other : List ℕ) (held : Held) → content live ≡ Some (Ok held) → IsBelow held.header.generation (content other) → stands (of_a side live other) (of_b side live other) ≡ on side (map_of held.payloads)
 unfolding stands
 stands_live side live other held is below = ap (λ f. f >>= map_found) (found_live side live other held is below)
@@ -52,7 +52,7 @@ stands_live side live other held is below = ap (λ f. f >>= map_found) (found_li
 pub stands_for : (side : Side) (live other : List ℕ) (held : Held) (m : Store) → content live ≡ Some (Ok held) → IsBelow held.header.generation (content other) → map_of held.payloads ≡ Ok m → stands (of_a side live other) (of_b side live other) ≡ Ok m
 stands_for side live other held m is below map = stands_live side live other held is below ∙ ap (on side) map
 
--- and they are opened by the owner of the live one
+-- the owner of the live file opens the two images
 owned_own : (owner : Owner) (side : Side) (held : Held) (m : Store) → held.header.owner ≡ owner → owned owner (Live side held) m ≡ Ok (Live side held, m)
 owned_own owner side held m is =
     let rank : eqb held.header.owner.rank owner.rank ≡ true = grind (arith, nat_tests, ap (λ (o : Owner). o.rank) is) in
@@ -66,7 +66,7 @@ opened_live owner side live other held m is below map own =
     ap (λ r. r >>= taken owner) (found_live side live other held is below)
     ∙ (ap (λ (r : Result Store JournalStop). on side r >>= owned owner (Live side held)) map ∙ owned_own owner side held m own)
 
--- as that one
+-- the owner opens the live file's journal and map
 pub opens_live : (member : Member) (side : Side) (live other : List ℕ) (held : Held) (m : Store) → content live ≡ Some (Ok held) → IsBelow held.header.generation (content other) → map_of held.payloads ≡ Ok m → held.header.owner ≡ owner_of member
     → opens_as member (of_a side live other) (of_b side live other) ≡ Ok (standing_of member (Live side held) m)
 opens_live member side live other held m is below map own = ap (λ r. r >>= (λ it. Ok (standing_of member it.0 it.1))) (opened_live (owner_of member) side live other held m is below map own)

@@ -19,7 +19,7 @@ use Rattle.mon_store.specs.Opening.{stop_in, Counts, BothCount, Rereads}
 
 -- ---- of one disk
 
--- what a crash leaves afterwards it might have left before
+-- a crash after a read leaves only what it might have left before
 left_before : (stop : Option Stop) (old new : DiskState) → OnlyReads stop old new → (c : List ℕ) → images new.content c → images old.content c
 left_before stop old new r = now old.content new.content (images old.content) r.call.any_moment
 
@@ -100,7 +100,7 @@ module _ (x y : Content) (P : List ℕ → List ℕ → Type 0) where
     | inr g ↦ subst (λ (d : DiskState). Meanwhile x y d.content (state b1).content P) (sym g.0) (on_b (state a).content (state b).content (state b1).content m g.1.call.any_moment)
   ]
 
--- what they counted
+-- what the two disks counted
 read_counts : (s : Option Stop) (first mid last : DiskState) → Counts None first mid → OnlyReads s mid last → Counts s first last
 read_counts s first mid last c r = (r.call.faults ∙ ap (faults_after s) c.0, subst (λ (n : ℕ). MayWant s n last.wants) c.1 r.call.wants)
 

@@ -84,7 +84,7 @@ fn read(alloc: Global, bytes: &[u8]) -> Result<(Member, Kv), ExportRefused>
 /// The member and the map that an export holds. `At` names the first place of the first field at fault, and `Full` a map
 /// that is too large for a store. Memory is taken for the entries that are there, whatever count the bytes claim.
 pub fn read_export(alloc: Global, bytes: &[u8]) -> Result<(Member, Kv), ExportRefused>
-    // What is read is the export of what it gives.
+    // If reading succeeds, the bytes are the export of the member and the map.
     ensures found { IfOk result (λ x. HasExport (owner_of x.0) x.1 × (bytes.now ≡ export_text (owner_of x.0) x.1)) }
 
     // An export is read, unless memory runs out.

@@ -90,8 +90,8 @@ impl Kept {
     }
 }
 
-/// What is kept of a service once it was read: it is known if its reading reaches the last version and no full map is
-/// newer.
+/// Reads a service, and returns what the cache then has of it. The map is known if its reading reaches the last version
+/// and no full map is newer.
 fn read_kept(alloc: Global, kv: &Kv, service: Service) -> Result<Kept, OutOfMemory>
     ensures known { IfOk result (λ kept. known_in kept ≡ known_once_read (readings_of kv.now) service None) }
     ensures map { IfOk result (λ kept. map_in kept ≡ Some (read_map (readings_of kv.now) service)) }

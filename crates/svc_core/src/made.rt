@@ -162,8 +162,8 @@ fn kv_full(alloc: Global, kv: &Kv, command: &Command) -> Result<Draft, CommandRe
     Ok(kv_draft(alloc, map, inc)?)
 }
 
-/// What a command makes of the key-value map. The map is built if a full map is due, and if the incremental can't be
-/// known without it.
+/// What a command makes of the key-value map. The map is built only if a full map is due, or if the incremental can't
+/// be known without it.
 fn kv_made(alloc: Global, kv: &Kv, command: &Command, due: bool) -> Result<Draft, CommandRefused>
     requires { IsOfKv command.now }
     ensures made { (asked : ℕ) →
