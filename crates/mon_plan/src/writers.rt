@@ -207,8 +207,8 @@ fn put_back(tx: &mut Transaction, key: Key, pn: Option<Pn>) -> Result<(), OutOfM
     }
 }
 
-/// Begins a full synchronization, which must reach the version `floor`. It erases all shared areas, and keeps this
-/// monitor's own proposal numbers.
+/// Begins a full synchronization, which must reach the version `floor`. It erases all shared areas, and writes the two
+/// proposal numbers of this monitor back if they were there.
 pub fn put_mark(
     tx: &mut Transaction,
     floor: Version,

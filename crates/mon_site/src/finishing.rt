@@ -21,7 +21,7 @@ use quorum_model::APPEND;
 enum Kept {
     /// No call for it failed.
     Whole,
-    /// A call for it failed. `kept`: whether its record survives.
+    /// A call for it failed. `kept` is whether its record survives.
     Cut { kept: bool },
 }
 

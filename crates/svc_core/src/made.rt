@@ -45,7 +45,8 @@ impl Draft {
     }
 }
 
-/// The incremental of a set that surely fits, or `None` if only the built map shows whether it fits.
+/// The incremental of a set that surely fits. `None` for other commands, and if the map must be built to know whether
+/// it fits.
 fn sure_set(alloc: Global, kv: &Kv, command: &Command) -> Result<Option<KvInc>, OutOfMemory>
     ensures made { IfOk result
         (λ made. IfSome made (λ inc. kv_incremental (read_map (readings_of kv.now) Service.Kv) command.now ≡
@@ -70,8 +71,8 @@ fn sure_set(alloc: Global, kv: &Kv, command: &Command) -> Result<Option<KvInc>, 
     }))
 }
 
-/// The incremental of a removal, or `NoSuch` if the key isn't there. `None` if only the built map shows whether it is
-/// there.
+/// The incremental of a removal, or `NoSuch` if the key isn't there. `None` for other commands, and if the map must be
+/// built to know whether the key is there.
 #[tactic(auto, using(crate::proofs::Outlines::removal, crate::proofs::Outlines::no_removal))]
 fn sure_remove(alloc: Global, kv: &Kv, command: &Command) -> Result<Option<KvInc>, CommandRefused>
     ensures made { IfOk result

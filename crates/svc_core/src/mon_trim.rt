@@ -24,8 +24,8 @@ pub(crate) fn push_trim(tx: &mut Transaction, first: u64, last: u64) -> Result<(
 }
 
 /// The changes that trim a log with the versions `first` to `last`. There are none if at most 750 versions follow
-/// `first`. Otherwise 500 versions from `first` on are erased, or fewer if only 500 versions would follow the new first
-/// one. The new first version is put.
+/// `first`. Otherwise 500 versions from `first` on are erased, or fewer, so that at least 500 versions follow the new
+/// first one. The new first version is put.
 pub fn trim_ops(alloc: Global, first: u64, last: u64) -> Result<Vec<Op>, OutOfMemory>
     requires first { first ≤ 2 ^ 62 }
     requires last { last ≤ 2 ^ 62 }
