@@ -77,7 +77,7 @@ may_meet n w (plain.Deliver message at) fits h = delivers n at w.messages messag
 may_meet n w (plain.Timer rank kind at) fits h = record { rank = fits; comes = tt }
 may_meet n w (plain.Client rank at session asked) fits h = record { rank = fits.0; comes = fits.1 }
 
--- ---- where a disk fails
+-- ---- if a disk fails
 
 pub record IsUpsetBy (n : ℕ) (disk : Side) (call image : ℕ) (p : Plain) : Type 0 where
   pub may : MayBe (record { disk = disk; call = call; image = image })

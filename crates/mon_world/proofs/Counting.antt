@@ -1,4 +1,4 @@
--- From where the calls of a failing disk are counted, and what is left if it fails.
+-- The call from which those of a failing disk are counted, and what remains if it fails.
 use Rattle.std.proofs.Common.{◌≡◌, ℕ, ◌-◌, ◌≤◌, ◌<◌, false, Option, Some, None, Result, Ok, refl, sym, ap, subst, ◌∙◌, arith}
 use Rattle.mon_disk.specs.MemoryDisk.{MemoryState}
 use Rattle.mon_msg.specs.Protocol.Reaction.{Reaction}

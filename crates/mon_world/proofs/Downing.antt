@@ -1,4 +1,4 @@
--- What is left of a monitor in whose event a disk failed, once it is down.
+-- What a monitor represents after a disk failed in its event: it is down.
 use Rattle.std.proofs.Common.{◌≡◌, ℕ, Bool, true, false, List, Option, Some, None, Result, Ok, refl, sym, ap, subst, ◌∙◌}
 use Rattle.std.specs.Prelude.{if◌then◌else◌}
 use Rattle.mon_disk.specs.MemoryDisk.{MemoryState}

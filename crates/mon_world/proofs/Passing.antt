@@ -188,7 +188,7 @@ still_passes me m n s f x y stands same =
     subst (λ (z : Monitor). PassesAt (OpensEither me.member m n) x z) (sym same)
     (passes_as (OpensMap me.member m) (OpensEither me.member m n) _ _ _ _ (λ c d h. inl h) (rest_passes me.member m f (a_of x.kept) (b_of x.kept) rest))
 
--- it starts, and does what it does then
+-- it opens its store, and reacts to the start
 pub started_passes : (me : Me) (m : Store) (old mid new : Monitor) (result : Result Turn WorldStop) → PassesAt (OpensMap me.member m) old mid
     → IfOk result (λ turn. PassesAt (OpensEither me.member m (apply turn.reaction.tx m)) mid new)
     → IfOk result (λ turn. PassesAt (OpensEither me.member m (apply turn.reaction.tx m)) old new)

@@ -1,4 +1,4 @@
--- What is left of a monitor in whose event a disk fails.
+-- What remains of a monitor in whose event a disk fails.
 use Rattle.std.specs.Prelude.{◌≡◌, ℕ, ◌+◌, ◌≤◌, Bool, true, false, List, Option, Some, None, Result, Ok, Err, is_err, if◌then◌else◌}
 use Rattle.mon_disk.specs.MemoryDisk.{MemoryState}
 use Rattle.mon_kv.specs.Readers.{is_marked, size_of, most_size}
@@ -29,17 +29,18 @@ use Rattle.mon_world.specs.declared.stop.WorldStop.TheVariants.{OutOfMemory, Spe
 use Rattle.mon_world.specs.Monitor.{Stands}
 use Rattle.mon_world.specs.Stops.{Stops, IsntKept}
 
--- what the model says of it
+-- a fault as the model has it
 abbrev pub upset_of : Upset → model.Upset
 upset_of u = record { disk = u.disk; call = u.call; image = u.image }
 
--- It is one that an event of a schedule may have: its call is counted from 1, and there are four images.
+-- A fault that the code takes: its call is counted from 1 and has 16 bits, and its image is one of four.
 pub record MayBe (u : Upset) : Type 0 where
   pub first : 1 ≤ u.call
   pub most : u.call ≤ 65535
   pub image : u.image ≤ 3
 
--- A start's failing call is counted from its opening on, and that of another input after an opening of this many calls.
+-- The fault with its call counted from the first call of the opening. An event counts a start's failing call so, and
+-- that of another input from the end of the opening, which has this many calls.
 abbrev pub counted : Upset → Input → ℕ → Upset
 counted u input.Start opening = u
 counted u other opening = record { disk = u.disk; call = u.call + opening; image = u.image }
@@ -55,7 +56,7 @@ written_if kept m = if kept then Some (written m) else None
 abbrev pub WithFault : Upset → kept.Store MemoryState → Type 0
 WithFault u store = (member : Member) × (m : Store) × (f : Files) × HasFault u.disk u.call u.image member m f store
 
--- It has room, and it is kept or lost. The disks settle.
+-- A transaction in which a disk fails: the map has room for it, and it is kept or lost. The disks settle.
 pub record Settled (u : Upset) (member : Member) (m : Store) (f : Files) (ops : List Op)
     (remains : Remains) : Type 0 where
   pub room : size_of (apply ops m) ≤ most_size
@@ -67,14 +68,14 @@ abbrev pub EndsWith : Upset → Member → Store → Files → List Op → Resul
 EndsWith u member m f ops (Ok remains) = Settled u member m f ops remains
 EndsWith u member m f ops (Err e) = IsntKept ops m e
 
--- what a monitor does, over a store that is open, is kept or lost
+-- the same of a core's reaction over an open store, or the reaction stops the run
 abbrev pub Ends : Upset → Member → Store → Files → Result Reaction Which → Result Remains WorldStop → Type 0
 Ends u member m f r (Ok remains) = (x : Reaction) × (r ≡ Ok x) × Settled u member m f x.transaction remains
 Ends u member m f r (Err e) = Stops e (unless_stopped m r)
 
 -- ---- as the model says, if the monitor's reaction to an input is this
 
--- whether it is kept
+-- whether its transaction is kept
 unfoldable pub keeps : Upset → Store → Files → Input → Result Reaction Which → Bool
 keeps u m f came r = crash_keeps f m (opening_of came u.disk f) (upset_of u) r
 
@@ -85,18 +86,18 @@ map_left u m f came r = if keeps u m f came r then apply (ops_of r) m else m
 unfoldable pub files_left : Upset → Store → Files → Input → Result Reaction Which → Files
 files_left u m f came r = files_cut f m (opening_of came u.disk f) (upset_of u) (ops_of r)
 
--- what is kept doesn't stop the run
+-- a reaction whose transaction is kept doesn't stop the run
 abbrev pub GoesOn : Upset → Store → Files → Input → Result Reaction Which → Type 0
 GoesOn u m f came r = keeps u m f came r ≡ true → is_err (unless_stopped m r) ≡ false
 
--- and the disks settle
+-- What remains of the monitor is as the model says, and its disks settle.
 pub record IsLeft (u : Upset) (member : Member) (m : Store) (f : Files) (came : Input) (r : Result Reaction Which)
     (remains : Remains) : Type 0 where
   pub goes_on : GoesOn u m f came r
   pub kept : remains.kept ≡ written_if (keeps u m f came r) (apply (ops_of r) m)
   pub rests : Rests member (map_left u m f came r) (files_left u m f came r) remains.disks.a remains.disks.b
 
--- what stops the run counts as kept
+-- unless memory ran out, the model's run stops at the same number or size, and its transaction counts as kept
 abbrev pub StopsKept : WorldStop → Bool → Result Reaction Stop → Type 0
 StopsKept OutOfMemory kept wanted = Unit {0}
 StopsKept (Spent which) kept wanted = (kept ≡ true) × Stops (Spent which) wanted
@@ -110,7 +111,7 @@ Crashes u member m f came r (Err e) = StopsKept e (keeps u m f came r) (unless_s
 abbrev pub marked_if : Bool → Store → Option Bool
 marked_if kept m = if kept then Some (is_marked m) else None
 
--- the monitor is down
+-- The monitor is down, with the map and the files that the model says.
 pub record IsDown (u : Upset) (me : Me) (m : Store) (f : Files) (came : Input) (r : Result Reaction Which)
     (told : Option Bool) (new : Monitor) : Type 0 where
   pub goes_on : GoesOn u m f came r

@@ -1,4 +1,4 @@
--- What comes of an input at a monitor that may be down.
+-- The result of an input at a monitor that may be down.
 use Rattle.std.specs.Prelude.{◌≡◌, ℕ, Option, Some, None, Result, Ok, Err}
 use Rattle.mon_kv.specs.Readers.{is_marked}
 use Rattle.mon_msg.specs.Protocol.Reaction.{Reaction, reaction}
@@ -38,7 +38,8 @@ abbrev pub Turns : Me → (now : ℕ) → Store → State → Files → Option S
 Turns me now m s f before came new (Ok t) = IsTurn me now m s f before came t new
 Turns me now m s f before came new (Err e) = Stops e (does me now m s came)
 
--- nothing, if the monitor is down and doesn't start
+-- The result of an input: nothing if the monitor is down and doesn't start, otherwise its reaction or why the run
+-- stops.
 abbrev pub Meets : Me → (now : ℕ) → Store → Option State → Files → Input → Monitor →
     Result (Option Turn) WorldStop → Type 0
 Meets me now m s f came new (Ok None) = (state_at me.member.rank s came ≡ None) × Stands me m s f new
@@ -48,9 +49,9 @@ Meets me now m s f came new (Ok (Some t)) =
 Meets me now m s f came new (Err e) =
     (before : State) × (state_at me.member.rank s came ≡ Some before) × Stops e (does me now m before came)
 
--- ---- where a disk fails
+-- ---- if a disk fails
 
--- it is down, and what it wrote is kept or lost
+-- The monitor is down, and what it wrote is kept or lost.
 pub record IsCrash (u : Upset) (me : Me) (m : Store) (f : Files) (came : Input) (r : Result Reaction Which) (crash : Crash)
     (new : Monitor) : Type 0 where
   pub down : IsDown u me m f came r crash.kept new

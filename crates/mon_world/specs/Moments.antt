@@ -18,14 +18,15 @@ use Rattle.mon_world.specs.declared.monitor.Monitor.{Monitor}
 use Rattle.mon_world.specs.declared.stop.WorldStop.{WorldStop}
 use Rattle.mon_world.specs.declared.world.World.{World}
 
--- From two times of the disks to two others, a crash leaves two images that have P, whichever of these times they were at.
+-- A crash leaves two images that have P, whichever time disk A is at from `from.0` to `to.0`, and disk B from `from.1`
+-- to `to.1`.
 pub record Between (P : List ℕ → List ℕ → Type 0) (a b : Content) (from to : ℕ × ℕ) : Type 0 where
   pub a_later : from.0 ≤ to.0
   pub b_later : from.1 ≤ to.1
   pub each : (s t : ℕ) (c d : List ℕ) → from.0 ≤ s → s ≤ to.0 → from.1 ≤ t → t ≤ to.1 → a.images_at s c →
       b.images_at t d → P c d
 
--- The same by way of other times, in order.
+-- The same from one pair of times to the next, in order.
 abbrev pub Through : (List ℕ → List ℕ → Type 0) → Content → Content → (from : ℕ × ℕ) → List (ℕ × ℕ) →
     (to : ℕ × ℕ) → Type 0
 Through P a b from [] to = Between P a b from to
@@ -40,7 +41,7 @@ pub record Passes (P : List ℕ → List ℕ → Type 0) (old_a old_b new_a new_
   pub through : Through P (content new_a) (content new_b) ((content old_a).moment, (content old_b).moment) way
       ((content new_a).moment, (content new_b).moment)
 
--- ---- a monitor's
+-- ---- the disks of a monitor
 
 abbrev pub a_of : Kept → MemoryState
 a_of (Down disks) = disks.a
@@ -53,7 +54,7 @@ b_of (Up running) = disk_b running.store
 abbrev pub PassesAt : (List ℕ → List ℕ → Type 0) → (old new : Monitor) → Type 0
 PassesAt P old new = Passes P (a_of old.kept) (b_of old.kept) (a_of new.kept) (b_of new.kept)
 
--- what they go through while it meets an input
+-- A crash at any time while a monitor takes an input leaves the map from before it or from after it.
 abbrev pub PassesTurn : Member → Store → Result (Option Turn) WorldStop → (old new : Monitor) → Type 0
 PassesTurn member m (Ok None) old new = new ≡ old
 PassesTurn member m (Ok (Some t)) old new = PassesAt (OpensEither member m (apply t.reaction.tx m)) old new

@@ -33,14 +33,15 @@ use Rattle.mon_world.specs.Stops.{Stops, IsntKept}
 
 -- ---- a monitor
 
--- A monitor that is up: its store runs, and it remembers this. What it knows of the services' maps follows its store.
+-- A monitor that is up: its store runs, its core has this state, and the core's cache of the services' maps follows the
+-- store.
 pub record IsUp (me : Me) (m : Store) (s : State) (f : Files) (r : Running) : Type 0 where
   pub runs : Runs me.member m f r.store
   pub me_is : r.core.me ≡ me
   pub state : r.core.state ≡ s
   pub follows : Follows r.core.cache (readings_of m)
 
--- One that is down remembers nothing, and its disks rest.
+-- What a monitor keeps represents a map, a state and files. One that is down has no state, and its disks rest.
 abbrev pub Holds : Me → Store → Option State → Files → Kept → Type 0
 Holds me m None f (Down disks) = Rests me.member m f disks.a disks.b
 Holds me m (Some s) f (Up running) = IsUp me m s f running
@@ -50,7 +51,7 @@ Holds me m s f kept = ⊥
 abbrev pub IsHeld : Me → Kept → Type 0
 IsHeld me kept = (m : Store) × (s : Option State) × (f : Files) × Holds me m s f kept
 
--- A monitor represents a store, for what it remembers while it is up, and for its files.
+-- A monitor represents a map, the state of its core if it is up, and files.
 pub record Stands (me : Me) (m : Store) (s : Option State) (f : Files) (monitor : Monitor) : Type 0 where
   pub me_is : monitor.me ≡ me
   pub last : monitor.last ≡ last_of m
@@ -60,7 +61,7 @@ pub record Stands (me : Me) (m : Store) (s : Option State) (f : Files) (monitor 
 abbrev pub Standing : Monitor → Type 0
 Standing monitor = (me : Me) × (m : Store) × (s : Option State) × (f : Files) × Stands me m s f monitor
 
--- and is up
+-- of monitors that are up
 abbrev pub IsRunning : Running → Type 0
 IsRunning r = (me : Me) × (m : Store) × (s : State) × (f : Files) × IsUp me m s f r
 
@@ -73,23 +74,23 @@ InUse store = (member : Member) × (m : Store) × (f : Files) × Runs member m f
 
 -- ---- what becomes of it
 
--- what a monitor remembers: nothing, if it is down
+-- the state of the core that is taken of a monitor: that of a new core, if the monitor is down
 abbrev pub remembered : Me → Option State → State
 remembered me None = booting me.member.rank
 remembered me (Some s) = s
 
--- its disks rest, and its core follows its store
+-- What is taken of a monitor: its disks rest, and its core's cache follows the map on them.
 pub record Takes (me : Me) (m : Store) (s : Option State) (f : Files) (taken : Taken) : Type 0 where
   pub rests : Rests me.member m f taken.disks.a taken.disks.b
   pub me_is : taken.core.me ≡ me
   pub state : taken.core.state ≡ remembered me s
   pub follows : Follows taken.core.cache (readings_of m)
 
--- what a transaction over a map leaves of the files, with the checkpoint after it, if one is due
+-- the files after a transaction over a map was kept, and after the checkpoint, if one is due
 unfoldable pub files_kept : Store → Files → List Op → Files
 files_kept m f ops = after_checkpoint (apply ops m) (after_append ops f)
 
--- what becomes of a store that makes a transaction's changes
+-- the store after a transaction was kept, or why it isn't kept
 abbrev pub Keeps : Member → Store → Files → List Op → kept.Store MemoryState → Result Unit WorldStop → Type 0
 Keeps member m f ops store (Ok done) =
     (size_of (apply ops m) ≤ most_size) × Runs member (apply ops m) (files_kept m f ops) store
@@ -99,7 +100,7 @@ Keeps member m f ops store (Err e) = IsntKept ops m e
 unfoldable pub does : Me → (now : ℕ) → Store → State → Input → Result Reaction Stop
 does me now m s came = unless_stopped m (reaction me now m s came)
 
--- It does what the protocol says. What it writes isn't too long, and what it sends may go.
+-- The reaction is the protocol's. Its transaction isn't too long, and what it sends may be sent.
 pub record IsDone (me : Me) (now : ℕ) (m : Store) (s : State) (came : Input) (state : State)
     (r : core.Reaction) : Type 0 where
   pub does_so : does me now m s came ≡ Ok (record { transaction = r.tx; sends = r.out; state = state })
@@ -107,7 +108,7 @@ pub record IsDone (me : Me) (now : ℕ) (m : Store) (s : State) (came : Input) (
   pub may_go : AllByRecursion (MaySend me) r.out
   pub named : AllByRecursion TellsNamed r.out
 
--- a monitor that is up did so, and what it wrote is kept
+-- a monitor that is up reacted so and its transaction is kept, or the run stops as the model's
 abbrev pub Reacts : Me → (now : ℕ) → Store → State → Files → Input → Running → Result core.Reaction WorldStop → Type 0
 Reacts me now m s f came new (Ok r) =
     (state : State) × IsDone me now m s came state r

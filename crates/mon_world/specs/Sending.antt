@@ -1,4 +1,4 @@
--- What goes out of what a monitor sent.
+-- What one reaction of a monitor sends.
 use Rattle.std.specs.Prelude.{◌≡◌, ℕ, suc, List, [], ◌∷◌, ◌++◌, length, map}
 use Rattle.mon_msg.specs.declared.plan.Sent.{Sent}
 use Rattle.quorum_model.specs.Clients.{messages_of}

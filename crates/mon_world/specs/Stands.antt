@@ -32,7 +32,7 @@ use Rattle.mon_world.specs.Events.{scheduled_of}
 use Rattle.mon_world.specs.Monitor.{Stands}
 use Rattle.mon_world.specs.Stops.{Stops}
 
--- as the model has a message and what comes
+-- a message, and below an arrival, as the model has them
 abbrev pub envelope_of : Envelope → model.Envelope
 envelope_of e = record { to = e.to; message = e.message }
 
@@ -49,7 +49,7 @@ abbrev pub StandsAt : Monitors → List Monitor → ℕ → Store → Option Sta
 StandsAt ms monitors i m s f = (me : Me) (monitor : Monitor) → me_of ms i ≡ Some me →
     slice_get monitors i ≡ Some monitor → Stands me m s f monitor
 
--- each represents that of the scene
+-- each monitor represents its store, state and files of the scene
 abbrev pub EachStands : Monitors → List Monitor → Scene → Type 0
 EachStands ms monitors c = (i : ℕ) → StandsAt ms monitors i (c.world.store i) (c.world.state i) (c.files i)
 
@@ -72,19 +72,19 @@ pub record StandsForRun (ms : Monitors) (events : List model.Event) (world : Wor
   pub goes_on : (ran ms events).stop ≡ None
   pub stands : StandsFor ms world c
 
--- such a list with an event of a schedule after it, in the scene to which it leads
+-- a list of events with one of a schedule after it, which happens in this scene
 abbrev pub and_event : Monitors → List model.Event → Scene → Event → List model.Event
 and_event ms events c e = events ++ event_in ms c (scheduled_of e) ∷ []
 
--- An event may happen to n monitors: at one of them, by an input that may come to it. Any number of a message may be
--- delivered.
+-- An event that may happen to n monitors: its rank is that of one of them, and its request may come. The number of a
+-- message may be any.
 abbrev pub FitsPlain : ℕ → Plain → Type 0
 FitsPlain n (plain.Start rank at) = rank < n
 FitsPlain n (plain.Deliver message at) = Unit {0}
 FitsPlain n (plain.Timer rank kind at) = rank < n
 FitsPlain n (plain.Client rank at session request) = (rank < n) × MayCome (input.Client session request)
 
--- and a disk may fail in it: in one of the first thousand calls of its monitor, which leave one of four images
+-- the same of an event in which a disk fails: in one of its first thousand calls, with one of four images
 abbrev pub FitsUpset : ℕ → (call image : ℕ) → Plain → Type 0
 FitsUpset n call image p = (1 ≤ call) × (call ≤ 1000) × (image ≤ 3) × FitsPlain n p
 
@@ -93,7 +93,8 @@ Fits n (events.Plain p) = FitsPlain n p
 Fits n (events.Crash disk call image p) = FitsUpset n call image p
 Fits n (events.Fail disk call image p) = FitsUpset n call image p
 
--- A call answered an event's lines, and this holds of the scene then; or the run stops as it should.
+-- A call returned the lines of the model's step, and `there` holds of the scene after it; or the run stops as the
+-- model's.
 abbrev pub Leads : (Scene → Type 0) → Result StepLine WorldStop → Result (Scene × StepLine) happens.Stop → Type 0
 Leads there (Ok line) wanted = (next : Scene) × (wanted ≡ Ok (next, line)) × there next
 Leads there (Err e) wanted = Stops e wanted

@@ -43,7 +43,7 @@ abbrev pub state_if_up : Store → Option State → Option StateLine
 state_if_up m None = None
 state_if_up m (Some s) = Some (state_of m s)
 
--- what was before an event; a start forgets it
+-- the state before an event, to which the new one is compared; a start has none
 abbrev pub state_before : Store → Option State → Input → Option StateLine
 state_before m s input.Start = None
 state_before m s other = state_if_up m s
@@ -58,7 +58,7 @@ replied rank [] = []
 replied rank (sent.Reply to reply ∷ sends) = record { rank = rank; session = to; reply = reply } ∷ replied rank sends
 replied rank (sent.Message to message ∷ sends) = replied rank sends
 
--- how long the log is once a map is kept
+-- the log's length after a map is kept; a marked map leaves it unchanged
 abbrev pub log_after : ℕ → Store → ℕ
 log_after n m = if is_marked m then n else max n (last_of m)
 
@@ -72,7 +72,7 @@ ran_line w rank came r = record {
   replies = replied rank r.sends;
 }
 
--- one line, after which nothing follows
+-- the lines of an event of which the outcome alone is reported
 abbrev pub still_line : Outcome → StepLine
 still_line what = record { outcome = what; ops = 0; state = None; sent = []; replies = [] }
 
@@ -88,7 +88,7 @@ with_line line (Err stop) = Err stop
 
 -- ---- with crashes
 
--- a monitor that meets something in which its disk fails sends nothing, and what it writes is kept or lost
+-- the lines of an event in which a disk of its monitor fails: nothing is sent, and what it writes is kept or lost
 abbrev pub upset_line : Scene → Upset → (Bool → Outcome) → Meeting → StepLine
 upset_line c u how (Reacts rank came result) = still_line (how (kept_at c u (Reacts rank came result)))
 upset_line c u how other = met_line c.world other

@@ -12,7 +12,7 @@ use Rattle.quorum_model.specs.Happens as happens
 use Rattle.mon_world.specs.declared.stop.WorldStop.{WorldStop}
 use Rattle.mon_world.specs.declared.stop.WorldStop.TheVariants.{OutOfMemory, Spent, Full}
 
--- how a core's stop and a store's stop the world
+-- the world's stop for a core's, and for a store's
 abbrev pub core_stop : RoleStop → WorldStop
 core_stop core.OutOfMemory = OutOfMemory
 core_stop (core.Spent which) = Spent which
@@ -21,19 +21,19 @@ abbrev pub stop_of : StoreStop → WorldStop
 stop_of (store.Full would_be) = Full would_be
 stop_of other = OutOfMemory
 
--- a store that is in use has no room, or no memory
+-- the stops that a store in use may have: the map would be too large, or memory ran out
 abbrev pub CanStop : StoreStop → Type 0
 CanStop (store.Full would_be) = Unit {0}
 CanStop store.OutOfMemory = Unit {0}
 CanStop other = ⊥
 
--- the run stops as it should, unless memory ran out
+-- unless memory ran out, the model's run stops at the same number or size
 abbrev pub Stops : {Y : Type 0} → WorldStop → Result Y Stop → Type 0
 Stops OutOfMemory wanted = Unit {0}
 Stops (Spent which) wanted = wanted ≡ Err (happens.Spent which)
 Stops (Full would_be) wanted = wanted ≡ Err (happens.Full would_be)
 
--- a transaction that isn't kept leaves its map too large, unless memory ran out
+-- a transaction isn't kept only if it would make its map too large, or if memory ran out
 abbrev pub IsntKept : List Op → Store → WorldStop → Type 0
 IsntKept ops m OutOfMemory = Unit {0}
 IsntKept ops m (Spent which) = ⊥

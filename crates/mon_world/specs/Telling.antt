@@ -31,22 +31,23 @@ turn_line rank n t = record {
   replies = replied rank t.reaction.out;
 }
 
--- what it sent goes out, and the log grows by what it keeps
+-- The world after the reaction of the monitor of a rank: its messages are appended, and the log's length counts what it
+-- kept. The line reports the reaction.
 pub record Tells (rank : ℕ) (t : Turn) (old new : World) (line : StepLine) : Type 0 where
   pub monitors : new.monitors.items ≡ old.monitors.items
   pub messages : map envelope_of new.messages.items ≡ map envelope_of old.messages.items ++ messages_of t.reaction.out
   pub log : (m : Store) → t.last ≡ last_of m → t.marked ≡ is_marked m → new.log ≡ log_after old.log m
   pub line_is : line ≡ turn_line rank (length old.messages.items) t
 
--- ---- where a disk fails
+-- ---- if a disk fails
 
--- the outcome, if that of a monitor that stopped is this one
+-- the outcome that the trace reports; `how` gives that of a monitor that stopped
 abbrev pub outcome_of : (Bool → Outcome) → FaultOutcome → Outcome
 outcome_of how fault_outcome.NoMessage = outcome.NoMessage
 outcome_of how fault_outcome.Down = outcome.Down
 outcome_of how (fault_outcome.Stopped kept) = how kept
 
--- how a monitor is to end: what is reported if it stopped, and the event that says so
+-- by the kind of fault: the outcome of a monitor that stopped, and below the event that injects the fault
 abbrev pub stopped_as : Fault → Bool → Outcome
 stopped_as fault.Crash = outcome.Crashed
 stopped_as fault.Fail = outcome.Failed
@@ -55,12 +56,12 @@ abbrev pub faulty_event : Fault → Upset → Plain → Event
 faulty_event fault.Crash u p = events.Crash u.disk u.call u.image p
 faulty_event fault.Fail u p = events.Fail u.disk u.call u.image p
 
--- the log grows by what a stopped monitor wrote, if that is kept
+-- the log's length counts what a stopped monitor wrote, if that is kept
 abbrev pub GrowsIf : Option Bool → (last old new : ℕ) → Type 0
 GrowsIf None last old new = new ≡ old
 GrowsIf (Some marked) last old new = (m : Store) → last ≡ last_of m → marked ≡ is_marked m → new ≡ log_after old m
 
--- nothing else comes of it
+-- Noting a crash changes the log's length at most. The outcome says whether the transaction is kept.
 pub record Leaves (crash : Crash) (old new : World) (told : FaultOutcome) : Type 0 where
   pub monitors : new.monitors.items ≡ old.monitors.items
   pub messages : new.messages.items ≡ old.messages.items

@@ -41,7 +41,7 @@ pub(crate) struct Remains {
     pub(crate) kept: Option<Written>,
 }
 
-/// What a transaction leaves if it is kept.
+/// The last version and the mark that the store's map would have after a transaction.
 fn written_by(
     alloc: Global,
     store: &Store<MemoryDisk>,
@@ -57,8 +57,8 @@ fn written_by(
     })
 }
 
-/// Makes a transaction's changes over an open store, as far as its disks let it. Then the store is closed, and its
-/// disks settle.
+/// Applies a transaction and the due checkpoint to an open store until the injected fault. Then the store is closed,
+/// and its disks settle.
 fn end_with(
     alloc: Global,
     store: Store<MemoryDisk>,
@@ -80,8 +80,8 @@ fn end_with(
     }
 }
 
-/// The core reacts over an open store, and its transaction is made as far as the disks let it. The failing call is
-/// counted after the opening.
+/// Lets the core react over an open store, and applies its transaction until the injected fault. The failing call is
+/// counted from the end of the opening.
 fn end(
     alloc: Global,
     store: Store<MemoryDisk>,
@@ -100,8 +100,8 @@ fn end(
     end_with(alloc, store, &reaction.tx, upset)
 }
 
-/// The failing call of a start is counted from its opening on, and that of any other input after an opening of
-/// `opening` calls.
+/// The fault with its call counted from the first call of the opening. An event counts a start's failing call so, and
+/// that of any other input from the opening's end, after `opening` calls.
 fn counted_from(upset: Upset, input: &Input, opening: u64) -> Upset
     requires may { MayBe upset }
     requires opening { opening ≤ FIRST_OPENING }

@@ -7,7 +7,7 @@ use mon_msg::Items;
 use std::alloc::Global;
 use trace_text::{Outcome, Replies, StateLine, StepLine};
 
-/// The state, after a start and if it isn't what it was before.
+/// The state that is reported: `now` after a start or if it differs from `before`, otherwise none.
 pub(crate) fn told(before: Option<StateLine>, now: StateLine) -> Option<StateLine>
     ensures { result ≡ told before now }
 {
@@ -21,7 +21,7 @@ pub(crate) fn told(before: Option<StateLine>, now: StateLine) -> Option<StateLin
     }
 }
 
-/// The lines of an event with one outcome, after which nothing follows.
+/// The lines of an event of which the outcome alone is reported: no state, no message and no reply.
 pub(crate) fn still(alloc: Global, outcome: Outcome) -> StepLine
     ensures { result ≡ still_line outcome }
 {

@@ -1,4 +1,4 @@
-//! What a monitor does at an input. It may be down.
+//! How a monitor that may be down takes an input.
 
 ghost use Rattle.std.specs.Prelude.{◌≡◌, ◌↔◌, Option, None, Some, IfOk, IsTrue};
 ghost use Rattle.mon_bounds.specs.Fitting.{MayCome};
@@ -25,7 +25,7 @@ use trace_text::StateLine;
 #[derive(Drop)]
 pub(crate) struct Turn {
     pub(crate) reaction: Reaction,
-    /// Its state, after a start and if it changed.
+    /// Its new state, if the trace reports it: after a start, or if the state changed.
     pub(crate) told: Option<StateLine>,
     /// The last committed version of its map then.
     pub(crate) last: Version,
@@ -42,14 +42,14 @@ pub(crate) struct Crash {
     pub(crate) last: Version,
 }
 
-/// Whether it is a start.
+/// Whether the input is a start.
 fn is_start(input: &Input) -> bool
     ensures { IsTrue result ↔ (input.now ≡ Start) }
 {
     matches!(input, Input::Start)
 }
 
-/// What a monitor that is up does at an input. `before` is its earlier state.
+/// Lets a monitor that is up take an input. `before` is its state before the event, or `None` if it starts.
 fn take_turn(
     monitor: &mut Monitor,
     before: Option<StateLine>,
@@ -90,7 +90,7 @@ fn start(monitor: &mut Monitor, input: &Input, at: Moment) -> Result<Turn, World
     take_turn(monitor, None, input, at)
 }
 
-/// What a monitor does at an input: nothing, if it is down and doesn't start.
+/// Lets a monitor take an input. Returns `None`, and changes nothing, if it is down and the input isn't a start.
 pub(crate) fn meet(
     monitor: &mut Monitor,
     input: &Input,

@@ -64,14 +64,15 @@ pub(crate) struct Monitor {
     kept: Kept,
 }
 
-/// What is taken of a monitor: its disks, its store closed, and its core.
+/// What is taken of a monitor: its disks, after its store was closed, and its core.
 #[derive(Drop)]
 struct Taken {
     disks: NodeDisks<MemoryDisk>,
     core: Core,
 }
 
-/// Takes the disks and the core. One that is down remembers nothing. Two empty disks are left in its place.
+/// Takes the disks and the core, and leaves two empty disks in their place. A monitor that is down has no core, so a
+/// new one is booted.
 fn take(alloc: Global, me: &Me, kept: &mut Kept) -> Taken
     ensures takes { (m : Map) (s : Option State) (f : Files) → Holds me.now m s f kept.old → Takes me.now m s f result }
     ensures a { result.disks.a ≡ a_of kept.old }
@@ -129,7 +130,7 @@ fn crash_within(
     remains
 }
 
-/// A monitor keeps something else from then on.
+/// Replaces what a monitor keeps, and drops what it kept before.
 fn put(kept: &mut Kept, next: Kept)
     ensures { kept.new ≡ next }
 {
@@ -143,7 +144,7 @@ fn last_of(kv: &Kv) -> Version
     Version::known(kv.last_committed())
 }
 
-/// Makes a transaction's changes, and then the checkpoint that is due, if one is.
+/// Keeps a transaction: makes its changes, and then the checkpoint, if one is due.
 fn keep(store: &mut Store<MemoryDisk>, tx: &Transaction) -> Result<(), WorldStop>
     requires runs { InUse store.old }
     requires short { length (text tx.now) ≤ most }
@@ -160,7 +161,7 @@ fn keep(store: &mut Store<MemoryDisk>, tx: &Transaction) -> Result<(), WorldStop
 }
 
 impl Running {
-    /// What the monitor does at an input. Its transaction is kept.
+    /// Lets the core react to an input, keeps the transaction, and returns the reaction.
     fn react(&mut self, alloc: Global, input: &Input, now: Moment) -> Result<Reaction, WorldStop>
         requires up { IsRunning self.old }
         requires comes { MayCome input.now }
@@ -221,7 +222,7 @@ impl Monitor {
         self.last
     }
 
-    /// Whether the map of a monitor that is up is marked.
+    /// Whether the map of a monitor that is up is marked: a full synchronization is under way.
     pub(crate) fn is_marked(&self) -> bool
         requires { StandingUp self.now }
         ensures { (me : Me) (m : Map) (s : State) (f : Files) → Stands me m (Some s) f self.now → result ≡ is_marked m }
@@ -232,7 +233,7 @@ impl Monitor {
         }
     }
 
-    /// Opens the store on the disks, and forgets all that it doesn't keep.
+    /// Opens the store on the disks, and boots a new core. All that the store doesn't hold is forgotten.
     pub(crate) fn start(&mut self) -> Result<(), OutOfMemory>
         requires { Standing self.old }
         ensures stands { (me : Me) (m : Map) (s : Option State) (f : Files) → Stands me m s f self.old
@@ -251,7 +252,7 @@ impl Monitor {
         Ok(())
     }
 
-    /// What a monitor that is up does at an input. Its transaction is kept.
+    /// Lets a monitor that is up react to an input, keeps the transaction, and returns the reaction.
     pub(crate) fn react(&mut self, input: &Input, now: Moment) -> Result<Reaction, WorldStop>
         requires up { StandingUp self.old }
         requires comes { MayCome input.now }
@@ -270,8 +271,8 @@ impl Monitor {
         }
     }
 
-    /// Lets a disk fail while the monitor takes this input. The monitor is down then. It returns whether its map is
-    /// marked, if its transaction is kept.
+    /// Lets a disk fail while the monitor takes this input, after which it is down. Returns whether its map is marked
+    /// if the transaction is kept, and `None` if it is lost.
     pub(crate) fn crash(
         &mut self,
         upset: Upset,

@@ -1,4 +1,4 @@
-//! What goes out of what a monitor sent.
+//! Sends the messages and replies of a monitor's reaction: the world keeps the messages, and the trace reports both.
 
 ghost use Rattle.std.specs.Prelude.{◌≡◌, ℕ, suc, ◌≤◌, List, [], ◌∷◌, ◌++◌, length, map, IfOk, OnOk};
 ghost use Rattle.mon_msg.specs.declared.plan.Sent.TheVariants.{Message as message_to};
@@ -20,14 +20,14 @@ pub(crate) struct Envelope {
     pub(crate) message: Message,
 }
 
-/// What went out: messages with their numbers, and replies.
+/// What one reaction sent: its messages with their numbers, and its replies.
 #[derive(Drop)]
 pub(crate) struct Gone {
     pub(crate) sent: Items<Numbered>,
     pub(crate) replies: Replies,
 }
 
-/// A copy of the message that went out last.
+/// A copy of the last message, of which there is at least one.
 fn last_copy(alloc: Global, messages: &[Envelope]) -> Result<Message, OutOfMemory>
     requires { 1 ≤ length messages.now }
     ensures { (before : List Envelope) (last : Envelope) → messages.now ≡ before ++ last ∷ []
@@ -38,7 +38,7 @@ fn last_copy(alloc: Global, messages: &[Envelope]) -> Result<Message, OutOfMemor
     last.message.copy(alloc)
 }
 
-/// A message is sent. It is kept first, and then reported as a copy.
+/// Appends a message to those of the world, and a copy of it with its number to what is reported.
 fn send_message(
     alloc: Global,
     messages: &mut Vec<Envelope>,
@@ -59,7 +59,7 @@ fn send_message(
     Ok(())
 }
 
-/// A message or a reply of the monitor of this rank goes out.
+/// Sends one message or reply of the monitor of this rank.
 fn send_one(
     alloc: Global,
     messages: &mut Vec<Envelope>,
@@ -79,7 +79,7 @@ fn send_one(
     }
 }
 
-/// What the monitor of this rank sent goes out, in order.
+/// Sends all messages and replies of the monitor of this rank, in order, and returns what is reported of them.
 pub(crate) fn send(
     alloc: Global,
     messages: &mut Vec<Envelope>,

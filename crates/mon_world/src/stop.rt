@@ -7,7 +7,8 @@ use mon_store::StoreStop;
 use mon_types::Which;
 use thiserror::Error;
 
-/// Why a run stops. What stops it at a number or a size leaves the event undone. The world isn't used again.
+/// Why a run stops. The model's run stops before an event that has `Spent` or `Full`. After any stop the world isn't
+/// used again.
 #[derive(Clone, Copy, Debug, PartialEq, Eq, Error)]
 pub enum WorldStop {
     /// An allocation was refused.
@@ -46,8 +47,8 @@ impl From<CoreStop> for WorldStop {
     }
 }
 
-/// How a store's stop stops the world. No reaction has a text that is too long, and no disk fails unless an event says
-/// so.
+/// The world's stop for a store's. The other stops can't happen: no reaction's transaction is too long, and no disk
+/// fails unless an event injects a fault.
 pub(crate) fn stop_of(stop: StoreStop) -> WorldStop
     requires { CanStop stop }
     ensures { result ≡ stop_of stop }

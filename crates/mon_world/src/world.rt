@@ -87,7 +87,8 @@ impl FaultOutcome {
     }
 }
 
-/// An injected fault, as an event gives it.
+/// The fault that an event injects: the disk, the number of its failing call from 1, and which of four images it
+/// leaves.
 fn upset_at(disk: Side, call: u16, image: u8) -> Upset
     ensures { result ≡ record { disk = disk; call = call; image = image } }
 {
@@ -107,7 +108,7 @@ pub struct World {
     log: u64,
 }
 
-/// The input of the sent message of this number, counted from 1, if there are that many.
+/// The arrival of the sent message of this number, counted from 1. It is `None` if no message has the number.
 fn delivered(
     alloc: Global,
     messages: &[Envelope],
@@ -162,14 +163,15 @@ fn arriving(
     }
 }
 
-/// How long the log is once a map with this last version is kept.
+/// The log's length after a map with this last version is kept. A map that is marked, since a full synchronization is
+/// under way, leaves the length unchanged.
 fn grown(log: u64, last: Version, marked: bool) -> u64
     ensures { (m : Map) → last ≡ last_of m → marked ≡ is_marked m → result ≡ log_after log m }
 {
     if marked { log } else { log.max(last.get()) }
 }
 
-/// What the monitor of a rank does at an input.
+/// Lets the monitor of a rank take an input. Returns `None` if it is down and the input isn't a start.
 fn meet_at(
     monitors: &mut Vec<Monitor>,
     rank: Rank,
@@ -269,7 +271,7 @@ impl World {
         self.monitors[rank.get() as usize].last()
     }
 
-    /// What the monitor of a rank did is kept and sent, and reported.
+    /// Records the log's new length, sends what the monitor of a rank sent, and returns the trace lines.
     fn tell(&mut self, rank: Rank, turn: Turn) -> Result<StepLine, OutOfMemory>
         requires { length (text turn.reaction.tx) ≤ most }
         ensures { IfOk result (λ line. Tells rank turn self.old self.new line) }
@@ -310,7 +312,7 @@ impl World {
         Ok(self.tell(arrival.rank, turn)?)
     }
 
-    /// A plain event, and its lines of the trace.
+    /// Makes a plain event happen, and returns its trace lines.
     fn plain(&mut self, event: &Plain) -> Result<StepLine, WorldStop>
         requires world { IsWorld self.old }
         requires fits { FitsPlain (length self.old.monitors.items) event.now }
@@ -329,7 +331,7 @@ impl World {
         }
     }
 
-    /// Records the log's new length, and returns whether the transaction survived.
+    /// Records the log's new length if the transaction is kept, and returns whether it is.
     fn note_crash(&mut self, crash: Crash) -> FaultOutcome
         ensures { Leaves crash self.old self.new result }
     {
