@@ -219,7 +219,7 @@ stood_then me t now is = by t.came is
     by (Ok None) is = let same : t.serving ≡ now = cc in sym (ap (λ (n : Serving). n.node.store) same)
     by (Err e) is = absurd cc
 
--- ---- turn after turn
+-- ---- iteration after iteration
 
 module _ (me : Me) (first : ℕ) (s : Serving) (d e : Disks) (a : Lasts d.a e.a) (b : Lasts d.b e.b) where
   abbrev At : Disks → (mid to : ℕ × ℕ) → Turn → Type 0

@@ -147,7 +147,7 @@ pub record IsGiven (next : Option (Timer × ℕ)) (g : Given) (o : Outside) : Ty
   pub began : IsReading o.clock g.began
   pub rest : AreAsked (due_by g.began next) g (clock_read o)
 
--- ---- what is answered and left is what should be heard, unless memory runs out
+-- ---- the result and the outside are those of what should be heard, unless memory runs out
 
 abbrev pub Hears : Heard → Result (Option TimedInput) NodeEnd → Outside → Type 0
 Hears h (Ok came) o = h ≡ record { came = Ok came; outside = o }

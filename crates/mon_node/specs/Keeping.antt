@@ -12,7 +12,7 @@ use Rattle.mon_types.specs.Sides.{other as other_side}
 use Rattle.mon_node.specs.declared.end.NodeEnd.TheVariants as end
 use Rattle.mon_node.specs.declared.end.NodeEnd.{NodeEnd}
 
--- where a store is after a transaction was applied: an empty one has no record
+-- where a store is after a transaction was applied: an empty transaction has no record
 abbrev pub changed : List Op → Stood → Stood
 changed ops s = record { side = s.side; journal = journal_after s.journal ops; kv = apply ops s.kv }
 
@@ -40,7 +40,7 @@ IsOfDisk end.DiskFault = Unit {0}
 IsOfDisk end.OutOfMemory = Unit {0}
 IsOfDisk other = ⊥
 
--- a fault of one of two disks is counted if that is the end, and otherwise nothing
+-- if the end is a disk's fault, one of the two disks counts it; otherwise neither counts anything
 abbrev pub DisksCountAt : NodeEnd → (old_a old_b new_a new_b : ℕ) → Type 0
 DisksCountAt end.DiskFault old_a old_b new_a new_b =
     ((new_a ≡ risen old_a) × (new_b ≡ old_b)) ⊎ ((new_a ≡ old_a) × (new_b ≡ risen old_b))

@@ -11,7 +11,7 @@ use Rattle.mon_store.specs.Whole.{disk_a, disk_b}
 use Rattle.mon_store.specs.declared.store.Store.{Store}
 
 pub record Node : Type 0 where
-  -- what its core remembers
+  -- the state of its core
   pub state : State
   -- where its store is, with the map
   pub store : Stood

@@ -23,21 +23,21 @@ use Rattle.mon_node.specs.declared.end.NodeEnd.{NodeEnd}
 abbrev pub to_peer : Peer → List ℕ → Outgoing
 to_peer to bytes = record { to = to; bytes = bytes }
 
--- what is sent, with the bytes of the whole message: an answer goes to its client in a message of this monitor's epoch
+-- a message or a reply as bytes for its receiver: a reply goes to its client in a message with this epoch
 abbrev pub letter : Me → (epoch : ℕ) → Sent → Outgoing
 letter me e (sent.Message to m) = to_peer (Monitor to) (text m)
 letter me e (sent.Reply to r) = to_peer (Client to.client) (text (answer_in me e to r))
 
--- a message that is longer than a datagram has a number, which no other one has
+-- the number that is next after a message of this length: one that is longer than a datagram uses its number up
 abbrev pub next_behind : (next : ℕ) → (len : ℕ) → ℕ
 next_behind next len = if nat_lt DATAGRAM len then next + 1 else next
 
--- the number that is next once these are sent
+-- the number that is next after all of these were sent
 abbrev pub next_after : ℕ → List Outgoing → ℕ
 next_after next [] = next
 next_after next (l ∷ letters) = next_after (next_behind next (length l.bytes)) letters
 
--- the datagrams of one, and of all in order
+-- the datagrams of one message, and of all in order
 abbrev pub datagrams_of : (boot next : ℕ) → Outgoing → List Outgoing
 datagrams_of boot next l = map (to_peer l.to) (pieces_of l.bytes boot next)
 
@@ -46,14 +46,14 @@ datagrams boot next [] = []
 datagrams boot next (l ∷ letters) =
     datagrams_of boot next l ++ datagrams boot (next_behind next (length l.bytes)) letters
 
--- the messages up to the first that is longer than a datagram and finds no number
+-- the messages before the first that is longer than a datagram and for which no number is left
 abbrev pub with_number : (next : ℕ) → List Outgoing → List Outgoing
 with_number next [] = []
 with_number next (l ∷ letters) =
     if nat_lt (2 ^ 62 + 1) (next_behind next (length l.bytes)) then []
     else l ∷ with_number (next_behind next (length l.bytes)) letters
 
--- a store's epoch, and how often its monitor was started
+-- the messages and replies as bytes, with the epoch of a store; and how often its monitor was started
 abbrev pub letters : Me → Store → List Sent → List Outgoing
 letters me m out = map (letter me (epoch m)) out
 
@@ -76,7 +76,7 @@ abbrev pub SendsBy : {T E : Type 0} → List Outgoing → Result T E → Option 
 SendsBy ds (Ok x) old new = SendsAll ds old new
 SendsBy ds (Err e) old new = SendsFront ds old new
 
--- All of these datagrams were sent, or a prefix of them before an end. No fault is counted.
+-- All of these datagrams were sent, or a prefix of them if the node ended. No fault is counted.
 pub record Posts {T E : Type 0} (ds : List Outgoing) (result : Result T E) (old new : LinkState) : Type 0 where
   pub told : SendsBy ds result old.told new.told
   pub faults : new.faults ≡ old.faults

@@ -23,7 +23,7 @@ Has (Err e) P = ⊥
 
 -- ---- the input of an iteration, if it has one
 
--- the core reacts to it
+-- a value of the core's reaction, and this one if a number is spent
 abbrev pub of_input : {A : Type 0} → A → (Reaction → A) → Result Reaction Which → A
 of_input none some (Ok r) = some r
 of_input none some (Err spent) = none
@@ -36,16 +36,16 @@ of_came me n none some (Err e) = none
 abbrev pub of_turn : {A : Type 0} → Me → Turn → A → (Reaction → A) → A
 of_turn me t none some = of_came me t.serving.node none some t.came
 
--- the same, if its transaction can be kept: one that would make the map too large never is
+-- the same, and this one too if the transaction would make the map too large: it is never kept
 abbrev pub of_kept : {A : Type 0} → Me → Turn → A → (Reaction → A) → A
 of_kept me t none some =
     of_turn me t none (λ r. if nat_lt most_size (size_of (map_after t.serving.node r)) then none else some r)
 
--- what it sends once its transaction is kept, up to the first message that finds no number
+-- what an iteration sends after its transaction was kept: its messages before the first for which no number is left
 abbrev pub sends_of : Me → Turn → List Outgoing
 sends_of me t = of_kept me t [] (numbered_by me t.serving.node)
 
--- it has one, and the core reacts so
+-- the iteration has an input, and the core's reaction to it has P
 abbrev pub OfInput : Me → Node → (Reaction → Type 0) → Result (Option TimedInput) NodeEnd → Type 0
 OfInput me n P (Ok (Some it)) = Has (reaction_to me n it) P
 OfInput me n P (Ok None) = ⊥
@@ -64,8 +64,8 @@ Causes me t end.LinkFault = ended_turn me t ≡ Err end.LinkFault
 Causes me t (end.Full would_be) = ended_turn me t ≡ Err (end.Full would_be)
 Causes me t (end.Spent spent) = ended_turn me t ≡ Err (end.Spent spent)
 
--- What the link was asked to send at the iteration: nothing, unless memory ran out, or the number of one of its messages.
--- Then it is a prefix of what was to be sent before that message.
+-- What the link was asked to send at the iteration at which the node ended: nothing, unless memory ran out or a number
+-- was spent. Then it is a prefix of what the iteration sends.
 abbrev pub SendsAtEnd : Me → Turn → NodeEnd → Option Told → Type 0
 SendsAtEnd me t end.OutOfMemory link = SendsFront (sends_of me t) t.serving.outside.link link
 SendsAtEnd me t (end.Spent spent) link = SendsFront (sends_of me t) t.serving.outside.link link

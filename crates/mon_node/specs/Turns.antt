@@ -21,15 +21,15 @@ use Rattle.mon_node.specs.declared.hearing.TimedInput.{TimedInput}
 
 -- ---- an input
 
--- the map with its transaction
+-- the map after the transaction of a reaction
 abbrev pub map_after : Node → Reaction → Store
 map_after n r = apply r.transaction n.store.kv
 
--- what goes out once that is kept
+-- the datagrams of a reaction whose transaction is kept
 abbrev pub sent_by : Me → Node → Reaction → List Outgoing
 sent_by me n r = datagrams (boot_in (map_after n r)) n.next (letters me (map_after n r) r.sends)
 
--- and up to the first message that finds no number
+-- those of its messages before the first for which no number is left
 abbrev pub numbered_by : Me → Node → Reaction → List Outgoing
 numbered_by me n r =
     datagrams (boot_in (map_after n r)) n.next (with_number n.next (letters me (map_after n r) r.sends))
@@ -43,14 +43,14 @@ done me s r = record {
   outside = record s.outside { link = option_map (and_sent (sent_by me s.node r)) s.outside.link };
 }
 
--- The map of a store has a bound, and so has the number of a message that is longer than a datagram.
+-- The result of a reaction: the map has a bound, and so has the number of a message that is longer than a datagram.
 abbrev pub done_within : Me → Serving → Reaction → Result Serving NodeEnd
 done_within me s r =
     if nat_lt most_size (size_of (map_after s.node r)) then Err (end.Full (size_of (map_after s.node r)))
     else if nat_lt (2 ^ 62 + 1) (next_number me s.node r) then Err (end.Spent which.Seq)
     else Ok (done me s r)
 
--- what the core does at it
+-- the core's reaction to an input
 abbrev pub reaction_to : Me → Node → TimedInput → Result Reaction Which
 reaction_to me n it = reaction me it.at n.store.kv n.state it.input
 
@@ -64,12 +64,12 @@ input_taken me s (Some it) = reacted me s (reaction_to me s.node it)
 
 -- ---- the iterations
 
--- an iteration, after its result is known
+-- an iteration that heard this, before the core takes it
 pub record Turn : Type 0 where
   pub came : Result (Option TimedInput) NodeEnd
   pub serving : Serving
 
--- and to its end
+-- the state after the iteration, or its end
 unfoldable pub ended_turn : Me → Turn → Result Serving NodeEnd
 ended_turn me t = t.came >>= input_taken me t.serving
 
@@ -85,12 +85,12 @@ start first s = record {
   serving = record s { outside = clock_read s.outside };
 }
 
--- The last of these iterations, after its result is known. What each was given is listed newest first, and the start comes
--- before all of them.
+-- The last of these iterations, before the core takes what it heard. What each was given is listed newest first, and
+-- the start comes before all of them.
 abbrev pub last_turn : Me → (first : ℕ) → Serving → List Given → Result Turn NodeEnd
 last_turn me first s [] = Ok (start first s)
 last_turn me first s (g ∷ earlier) = (last_turn me first s earlier >>= ended_turn me) >>= λ now. Ok (turn me g now)
 
--- their results
+-- the state after all of these iterations, or the end
 abbrev pub served : Me → (first : ℕ) → Serving → List Given → Result Serving NodeEnd
 served me first s given = last_turn me first s given >>= ended_turn me

@@ -22,7 +22,7 @@ pub enum NodeEnd {
     /// The store's map would have the size `would_be`, above 268,435,456.
     #[error("the map would count with {would_be}")]
     Full { would_be: u64 },
-    /// That number would pass 2^62. `Seq` is also that under which the node sends a message longer than a datagram.
+    /// A number of this kind would pass 2^62. `Seq` is also the kind of the numbers of messages longer than a datagram.
     #[error("a number is spent")]
     Spent { which: Which },
     #[error("out of memory")]

@@ -1,4 +1,4 @@
-//! The result of an iteration.
+//! What an iteration hears: a timer that is due, or what the link returns.
 
 ghost use Rattle.std.specs.Prelude.{◌≡◌, ℕ, Result, IfOk, IfSome, OnOk};
 ghost use Rattle.mon_bounds.specs.Fitting.{MayCome};
@@ -29,7 +29,7 @@ pub struct TimedInput {
     pub at: Moment,
 }
 
-/// The timer that is due by a time.
+/// The timer that comes next, if it is due by `now`.
 fn due_by(now: Moment, next: &Option<(Timer, Moment)>) -> Option<Timer>
     ensures { result ≡ due_by now next.now }
 {
@@ -45,7 +45,7 @@ fn due_by(now: Moment, next: &Option<(Timer, Moment)>) -> Option<Timer>
     }
 }
 
-/// How long to wait for the link, in milliseconds: up to the timer that comes next.
+/// How long to wait for the link, in milliseconds: up to the timer that comes next, and at most a second.
 fn wait_until(now: Moment, next: &Option<(Timer, Moment)>) -> u64
     ensures { result ≡ wait_until now next.now }
 {
@@ -109,7 +109,8 @@ fn ask<L: Link, C: Clock>(
     }
 }
 
-/// What comes: the timer that comes next, if it is due, and otherwise what the link gives.
+/// Returns the timer that comes next if it is due, and otherwise asks the link. `None` if nothing came that is an
+/// input.
 pub(crate) fn hear<L: Link, C: Clock>(
     alloc: Global,
     monitors: u8,

@@ -1,4 +1,4 @@
-//! What the core writes is kept.
+//! Keeps the transaction of a core's reaction in the store.
 
 ghost use Rattle.std.specs.Prelude.{◌≡◌, ◌≤◌, ◌<◌, ◌⊎◌, false, length, OnOk, IfErr};
 ghost use Rattle.mon_kv.specs.Readers.{size_of};

@@ -1,4 +1,4 @@
-//! How what a core sends goes out.
+//! Sends what a core's reaction asks for, as datagrams.
 
 ghost use Rattle.std.specs.Prelude.{◌≡◌, ◌≤◌, ◌<◌, ◌+◌, ◌^◌, [], ◌∷◌, length, map, IfOk, IfErr, OnOk};
 ghost use Rattle.std.specs.List.{AllByRecursion};
@@ -40,7 +40,8 @@ fn send_each<L: Link>(link: &mut L, to: &Peer, datagrams: &[Bytes]) -> Result<()
     Ok(())
 }
 
-/// The number under which a message of `len` bytes goes out, if it is longer than a datagram. It is the next one.
+/// The next number, which a message of `len` bytes uses up if it is longer than a datagram. In that case a number above
+/// 2^62 is refused.
 fn numbered(next: &mut u64, len: usize) -> Result<u64, NodeEnd>
     requires { next.old ≤ 2 ^ 62 + 1 }
     ensures number { IfOk result (λ number. number ≡ next.old) }
@@ -101,7 +102,7 @@ fn text_of(alloc: Global, message: &Message) -> Result<Bytes, OutOfMemory>
     Ok(Bytes::new(message.encode(alloc)?))
 }
 
-/// The message that brings a client its answer.
+/// The message with a client's answer.
 fn answer_in(me: &Me, epoch: Epoch, id: u64, reply: Reply) -> Message
     ensures { result ≡
         record { from = me.now.member.rank; monitors = me.now.member.monitors; epoch = epoch; body = body.Reply id reply } }
@@ -114,7 +115,7 @@ fn answer_in(me: &Me, epoch: Epoch, id: u64, reply: Reply) -> Message
     }
 }
 
-/// What is sent, with the bytes of its message.
+/// A message or a reply that is sent: its receiver, and the bytes of its message.
 fn letter(alloc: Global, me: &Me, epoch: Epoch, sent: Sent) -> Result<Outgoing, OutOfMemory>
     requires may { MaySend me.now sent }
     requires named { TellsNamed sent }
@@ -137,8 +138,8 @@ fn letter(alloc: Global, me: &Me, epoch: Epoch, sent: Sent) -> Result<Outgoing, 
     }
 }
 
-/// Sends all of it, in order, as a monitor with this map. It ends before the first message that is longer than a datagram
-/// and finds no number.
+/// Sends all of these in order, with the epoch and the boot count of this map. It ends before the first message that is
+/// longer than a datagram and for which no number is left.
 pub(crate) fn send_all<L: Link>(
     alloc: Global,
     link: &mut L,

@@ -20,7 +20,7 @@ fn is_request(body: &Body) -> bool
     matches!(body, Body::Request { .. })
 }
 
-/// A client asks. Nothing else comes from one.
+/// The input of a client's message: a request. Any other message of a client is dropped.
 fn from_client(client: u32, message: Message) -> Option<Input>
     requires { HasText message }
     ensures input { result ≡ from_client client message.body }
@@ -35,7 +35,7 @@ fn from_client(client: u32, message: Message) -> Option<Input>
     }
 }
 
-/// A monitor sends only in its own name, and asks for nothing.
+/// The input of a monitor's message. One that names another sender, or is a client's request, is dropped.
 fn from_monitor(rank: Rank, message: Message) -> Option<Input>
     requires { HasText message }
     ensures input { result ≡ from_monitor rank message }
@@ -50,7 +50,7 @@ fn from_monitor(rank: Rank, message: Message) -> Option<Input>
     }
 }
 
-/// The input that a message from a peer is, in a quorum map of `monitors` monitors, if it is one.
+/// The input of a peer's message. One that names another number of monitors than `monitors` is dropped.
 fn input_of(monitors: u8, from: &Peer, message: Message) -> Option<Input>
     requires { HasText message }
     ensures input { result ≡ input_of monitors from.now message }
@@ -66,7 +66,7 @@ fn input_of(monitors: u8, from: &Peer, message: Message) -> Option<Input>
     }
 }
 
-/// The input that a peer's bytes encode, if they encode one.
+/// The input of the bytes of a peer's message. It is `None` if they encode no message, or one that is dropped.
 pub(crate) fn read(
     alloc: Global,
     monitors: u8,

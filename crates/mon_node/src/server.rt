@@ -149,7 +149,7 @@ impl<D: Disk> Server<D> {
         }
     }
 
-    /// Gives the disks back.
+    /// Ends the node: closes the store, and returns its disks.
     pub(crate) fn end(self, end: NodeEnd, turns: u64) -> Served<D>
         ensures end { result.end ≡ end }
         ensures turns { result.turns ≡ turns }

@@ -22,9 +22,9 @@ use std::alloc::Global;
 /// and never past the next timer. The transaction of an input is kept, and a checkpoint made if one is due, before
 /// anything is sent. The store is one that `Store::open` returned, and that no call broke.
 ///
-/// `Closed` comes if and only if the link reported it, `TurnsUsed` if and only if that many iterations were made,
-/// `Spent` and `Full` if and only if that number or the map would pass its bound. `LinkFault` and `DiskFault` come only
-/// if a fault was counted.
+/// The end is `Closed` if and only if the link reported it, `TurnsUsed` if and only if that many iterations were made,
+/// and `Spent` or `Full` if and only if that number or the map would pass its bound. It is `LinkFault` or `DiskFault`
+/// only if a fault was counted.
 ///
 /// The disks are returned. A crash at any point of an iteration leaves on them the store as it was when the iteration
 /// began, with the record of its transaction, or with the checkpoint. The same holds after a disk's fault and if memory
