@@ -21,11 +21,11 @@ pub type FileDisks = NodeDisks<CountedDisk>;
 /// A link to monitors.
 #[derive(Drop)]
 pub enum Channel {
-    /// That of a monitor, which names its quorum and sends some datagrams again.
+    /// The link of a monitor, which names its quorum and sends some datagrams again.
     Monitor(MonitorLink),
-    /// That of a client, on a port that the system chooses.
+    /// The link of a client, on a port that the system chooses.
     Client(UdpLink<HostRuntime>),
-    /// One that nothing calls.
+    /// A link that is never called.
     Unused(UdpLink<HostRuntime>),
 }
 
@@ -51,7 +51,7 @@ pub fn peers(alloc: Global, addresses: &Items<Address>) -> Result<Vec<Address>, 
     }
 }
 
-/// The disks in two files, whose calls are counted for these times.
+/// The disks in two files, whose calls are added to these counts.
 fn counted_disks(rt: &HostRuntime, a: String, b: String, times: Times) -> FileDisks {
     NodeDisks {
         a: Timed::new(FileDisk::named(rt, a), RunClock::new(rt), times.a),
@@ -67,15 +67,15 @@ fn disks_in(rt: &HostRuntime, disk_a: &Text, disk_b: &Text) -> Result<FileDisks,
     Ok(counted_disks(rt, a, b, times))
 }
 
-/// Disks that nothing calls.
+/// Disks that are never called.
 fn no_disks(rt: &HostRuntime) -> Result<FileDisks, Status> {
     let times = Times::new(rt)?;
     let (a, b) = (String::new(rt.alloc()), String::new(rt.alloc()));
     Ok(counted_disks(rt, a, b, times))
 }
 
-/// The link of a monitor to those at these addresses, which answers with these times.
-// The number of the process comes first: where a call can fail, nothing larger than it is to be dropped.
+/// The link of a monitor to the monitors at these addresses. Its watch reads these counts of the disks.
+// The number of the life comes first: where a call can fail, nothing larger than it is to be dropped.
 fn monitor_channel(
     rt: &HostRuntime,
     member: Member,
@@ -135,7 +135,7 @@ fn store_devices(rt: &HostRuntime, disk_a: &Text, disk_b: &Text) -> Result<Devic
     })
 }
 
-/// Devices that nothing calls.
+/// Devices that are never called.
 fn no_devices(rt: &HostRuntime) -> Result<Devices, Status> {
     let disks = no_disks(rt)?;
     Ok(Devices {
@@ -144,7 +144,8 @@ fn no_devices(rt: &HostRuntime) -> Result<Devices, Status> {
     })
 }
 
-/// The devices that a task names; or that memory ran out.
+/// The devices that a task names. This fails if memory runs out; and for a monitor also if the name of its quorum is
+/// refused, or if the system gives no number of a life.
 fn devices_for(rt: &HostRuntime, task: &Task) -> Result<Devices, Status> {
     match task {
         Task::Node {
@@ -165,7 +166,7 @@ fn devices_for(rt: &HostRuntime, task: &Task) -> Result<Devices, Status> {
     }
 }
 
-/// The devices that arguments name; or that memory ran out.
+/// The devices that arguments name. This fails if the arguments are refused, and as `devices_for` does.
 pub fn devices_of(rt: &HostRuntime, words: &[String]) -> Result<Devices, Status> {
     match read_words(rt.alloc(), words) {
         Ok(task) => {

@@ -42,7 +42,7 @@ fn run_on_devices(rt: &HostRuntime, words: &[String], devices: Devices) -> Statu
     }
 }
 
-/// Serves as a monitor over this link, and anew each time that the machine stood still.
+/// Serves as a monitor over this link, and again in a new life each time after the machine stood still.
 fn run_as_monitor(
     rt: &HostRuntime,
     words: &[String],
@@ -86,7 +86,7 @@ fn run_as_client(
     status
 }
 
-/// Does what needs no link. Nothing calls this one.
+/// Does a task that needs no link. The task makes no call of this one.
 fn run_alone(
     rt: &HostRuntime,
     words: &[String],
@@ -120,7 +120,7 @@ fn ended_over<L: Link>(
     )
 }
 
-/// Says on standard error which disk failed. Returns how the program ends.
+/// Says on standard error which disks failed. Returns how the program ends.
 fn status_of(rt: &HostRuntime, ended: Ended<CountedDisk>) -> Status {
     tell_disk_failures(rt, &ended.disks);
     let status = ended.status;
@@ -128,13 +128,13 @@ fn status_of(rt: &HostRuntime, ended: Ended<CountedDisk>) -> Status {
     status
 }
 
-/// Does what the arguments ask for over this link, and says on standard error which disk failed.
+/// Does what the arguments ask for over this link, and says on standard error which disks failed.
 fn run_over<L: Link>(rt: &HostRuntime, words: &[String], disks: FileDisks, link: &mut L) -> Status {
     let ended = ended_over(rt, words, disks, link);
     status_of(rt, ended)
 }
 
-/// Says on standard error, before a client follows, that its socket may lose a part of a long message.
+/// Says on standard error, before a client follows, if its socket has too little room for a long message.
 fn tell_short_room(rt: &HostRuntime, link: &mut UdpLink<HostRuntime>) {
     if let Some(room) = link.short_room() {
         let _ = eprintln!(rt;
@@ -143,7 +143,7 @@ fn tell_short_room(rt: &HostRuntime, link: &mut UdpLink<HostRuntime>) {
     }
 }
 
-/// Says on standard error what the system said to the first call of each disk that failed.
+/// Says on standard error, for each disk, which error the system gave to its first call that failed.
 fn tell_disk_failures(rt: &HostRuntime, disks: &FileDisks) {
     if let Some(said) = disks.a.inner.failure() {
         let _ = eprintln!(rt; "disk a: {said}");
@@ -153,7 +153,7 @@ fn tell_disk_failures(rt: &HostRuntime, disks: &FileDisks) {
     }
 }
 
-/// Says on standard error what the system said to the first call of the link that failed.
+/// Says on standard error which error the system gave to the first call of the link that failed.
 fn tell_link_failure(rt: &HostRuntime, link: &UdpLink<HostRuntime>) {
     if let Some(said) = link.failure() {
         let _ = eprintln!(rt; "link: {said}");

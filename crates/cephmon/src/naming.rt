@@ -18,7 +18,7 @@ use std::fmt::Write;
 /// The environment variable with the name of a monitor's quorum.
 const QUORUM: &str = "CEPHMON_QUORUM";
 
-/// How long a monitor may stand still at first, and at most, in milliseconds.
+/// For how many milliseconds the machine may stand still in the first life of a monitor, and in any life at most.
 pub const FIRST_MOST: u64 = 10_000;
 
 const LAST_MOST: u64 = 120_000;
@@ -49,7 +49,7 @@ fn quorum_name(rt: &HostRuntime) -> Result<QuorumName, Status> {
     }
 }
 
-/// The name of the quorum. One that is refused is said on standard error.
+/// The name of the quorum. A name that is refused is reported on standard error.
 fn named_quorum(rt: &HostRuntime) -> Result<QuorumName, Status> {
     let name = quorum_name(rt);
     if let Err(Status::Words) = &name {
@@ -58,7 +58,7 @@ fn named_quorum(rt: &HostRuntime) -> Result<QuorumName, Status> {
     name
 }
 
-/// The number of a new life. That the system gives none is said on standard error.
+/// The number of a new life. If the system gives neither random bits nor the time, that is reported on standard error.
 pub fn new_life(rt: &HostRuntime) -> Result<Life, Status> {
     match mon_name::new_life(rt) {
         Ok(life) => Ok(life),
@@ -113,7 +113,8 @@ pub fn greeting(
     Ok(Greeting::new(socket, RunClock::new(rt), lines, own, heard))
 }
 
-/// A life over a socket, which may stand still for at most this many milliseconds, and is watched.
+/// The link of a new life over a socket. It is closed after the machine stood still for more than `most` milliseconds,
+/// and it is watched.
 pub fn lives(
     rt: &HostRuntime,
     link: GreetingLink,
@@ -133,8 +134,9 @@ pub fn socket_of(link: &mut MonitorLink) -> &mut UdpLink<HostRuntime> {
     &mut link.inner.inner.inner.inner.inner
 }
 
-/// How long a life that begins now may stand still, after one that stood still for more than `most` milliseconds when
-/// it was `lived` old. It is twice as long if that one ended soon: then each iteration may be slower than the bound.
+/// The bound on a standstill in the next life, in milliseconds, after a life with the bound `most` that lasted `lived`
+/// milliseconds. It doubles, up to `LAST_MOST`, if that life was shorter than `LAST_MOST`: then each iteration may be
+/// slower than the bound. Otherwise it is `FIRST_MOST` again.
 fn next_most(most: u64, lived: u64) -> u64 {
     if lived < LAST_MOST {
         most.saturating_mul(2).min(LAST_MOST)
@@ -153,7 +155,7 @@ fn stood_line(alloc: Global, most: u64, next: u64) -> Result<String, AllocError>
     Ok(line)
 }
 
-/// Tells that the machine stood still. Returns how long the next life may.
+/// Reports that the machine stood still. Returns the bound on a standstill in the next life, in milliseconds.
 pub fn tell_stood(lines: &mut Lines, alloc: Global, most: u64, lived: u64) -> u64 {
     let next = next_most(most, lived);
     if let Ok(line) = stood_line(alloc, most, next) {
@@ -171,7 +173,7 @@ fn room_line(alloc: Global, room: u32) -> Result<String, AllocError> {
     Ok(line)
 }
 
-/// Tells, before a monitor serves, that its socket may lose a part of a long message.
+/// Reports, before a monitor serves, if its socket has too little room for a long message.
 pub fn tell_room(link: &mut MonitorLink) {
     let room = socket_of(link).short_room();
     if let Some(room) = room

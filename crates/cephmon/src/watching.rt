@@ -1,4 +1,4 @@
-//! What is counted of a monitor's disks, and the lines that it writes.
+//! The counts of the calls of a monitor's disks, and the lines that a monitor writes on standard error.
 
 use cephmon_run::Status;
 use libc::net::{POLLOUT, poll};
@@ -88,7 +88,7 @@ pub fn lines_of(rt: &HostRuntime) -> Result<Lines, Status> {
     }
 }
 
-/// The same lines once more.
+/// Another handle of the same lines.
 pub fn share(lines: &Lines) -> Result<Lines, Status> {
     match lines.shared.share() {
         Ok(shared) => Ok(Lines { shared }),
@@ -96,7 +96,7 @@ pub fn share(lines: &Lines) -> Result<Lines, Status> {
     }
 }
 
-/// What is counted of two disks, for whoever shares it.
+/// The counts of the calls of two disks. The disks and the watch share them.
 #[derive(Drop)]
 pub struct Times {
     pub a: Rc<Cell<DiskTimes>>,
@@ -118,7 +118,7 @@ fn shared_times(times: &Rc<Cell<DiskTimes>>) -> Result<Rc<Cell<DiskTimes>>, Stat
 }
 
 impl Times {
-    /// Nothing was counted yet.
+    /// Counts of no calls.
     pub fn new(rt: &HostRuntime) -> Result<Times, Status> {
         Ok(Times {
             a: new_times(rt)?,
@@ -126,7 +126,7 @@ impl Times {
         })
     }
 
-    /// The same times once more.
+    /// Another handle of the same counts.
     pub fn share(&self) -> Result<Times, Status> {
         Ok(Times {
             a: shared_times(&self.a)?,
@@ -135,7 +135,7 @@ impl Times {
     }
 }
 
-/// What watches a monitor.
+/// The watch of a monitor, which reads these counts and writes these lines.
 pub fn watch(rt: &HostRuntime, member: Member, times: Times, lines: Lines) -> Watch<Lines> {
     Watch {
         member,

@@ -1,4 +1,4 @@
--- The numbers that the program ends with, and what ends of its parts they report.
+-- The exit statuses of the program, and the status of each end of its parts.
 use Rattle.std.specs.Prelude.{◌≡◌, ℕ}
 use Rattle.map_follower.specs.declared.end.FollowEnd.{FollowEnd}
 use Rattle.map_follower.specs.declared.end.FollowEnd.TheVariants as follow_end
@@ -29,14 +29,14 @@ status_number (status.Report line) = 14
 status_number (status.NotEmpty disk) = 15
 status_number (status.Export at) = 16
 
--- why no store was opened
+-- the status of a store that couldn't be opened
 abbrev pub status_of_opening : OpenStop → Status
 status_of_opening open_stop.DiskFault = status.DiskFault
 status_of_opening (open_stop.NotAStore disk at) = status.NotAStore disk at
 status_of_opening (open_stop.Stranger kept asked) = status.Stranger kept asked
 status_of_opening open_stop.OutOfMemory = status.OutOfMemory
 
--- how a node ended
+-- the status of a node that ended
 abbrev pub status_of_end : NodeEnd → Status
 status_of_end end.Closed = status.Done
 status_of_end end.TurnsUsed = status.TurnsUsed
@@ -46,7 +46,7 @@ status_of_end (end.Full would_be) = status.Full would_be
 status_of_end (end.Spent which) = status.Spent which
 status_of_end end.OutOfMemory = status.OutOfMemory
 
--- why a client no longer follows
+-- the status of a client that no longer follows
 abbrev pub status_of_follow : FollowEnd → Status
 status_of_follow follow_end.Closed = status.Done
 status_of_follow follow_end.TurnsUsed = status.TurnsUsed
@@ -54,7 +54,7 @@ status_of_follow follow_end.LinkFault = status.LinkFault
 status_of_follow follow_end.WriteFault = status.WriteFault
 status_of_follow follow_end.OutOfMemory = status.OutOfMemory
 
--- how a command on a stopped store, or a comparison, ended
+-- the status of a command on a stopped store, or of a comparison, that ended
 abbrev pub status_of_tool : ToolEnd → Status
 status_of_tool tool_end.Done = status.Done
 status_of_tool tool_end.ReadFault = status.ReadFault

@@ -28,13 +28,13 @@ pub enum Status {
     NotAStore { disk: Side, at: u64 },
     /// The store, or the export, is another monitor's, or of another number of monitors. What the disks represent is unchanged.
     Stranger { kept: Member, asked: Member },
-    /// A number of this kind would pass 2^62. Of a trace the lines of the events before were written, and of a summary
-    /// nothing.
+    /// A number of this kind would pass 2^62. A trace was written up to the event that would need the number. Of a
+    /// summary nothing was written.
     Spent { which: Which },
-    /// The node, or the client, made as many iterations as were asked.
+    /// The node, or the client, made as many iterations as were asked for.
     TurnsUsed,
-    /// A map would have the size `would_be`, above 268,435,456: of a run, in which case what was written is as with `Spent`, of a node, or of an
-    /// export, in which case nothing was done.
+    /// The map of a run, of a node or of an export would have the size `would_be`, above 268,435,456. A run wrote what
+    /// it writes if it ends with `Spent`. Of an export nothing was done.
     Full { would_be: u64 },
     /// An allocation was refused. What went out is a prefix of the output.
     OutOfMemory,
@@ -50,7 +50,7 @@ impl Status {
     ghost use Rattle.std.specs.Prelude.{◌≡◌};
     ghost use Rattle.run_status.specs.Status.{status_number, status_of_opening, status_of_end, status_of_follow, status_of_tool};
 
-    /// The number that the program ends with.
+    /// The exit status of the program.
     pub fn number(self) -> u8
         ensures { result ≡ status_number self }
     {
@@ -74,7 +74,7 @@ impl Status {
         }
     }
 
-    /// Why no store was opened.
+    /// The status of a store that couldn't be opened.
     pub fn of_opening(stop: OpenStop) -> Status
         ensures { result ≡ status_of_opening stop }
     {
@@ -86,7 +86,7 @@ impl Status {
         }
     }
 
-    /// How a node ended.
+    /// The status of a node that ended.
     pub fn of_end(end: NodeEnd) -> Status
         ensures { result ≡ status_of_end end }
     {
@@ -101,7 +101,7 @@ impl Status {
         }
     }
 
-    /// Why a client no longer follows.
+    /// The status of a client that no longer follows.
     pub fn of_follow(end: FollowEnd) -> Status
         ensures { result ≡ status_of_follow end }
     {
@@ -114,7 +114,7 @@ impl Status {
         }
     }
 
-    /// How a command on a stopped store, or a comparison, ended.
+    /// The status of a command on a stopped store, or of a comparison, that ended.
     pub fn of_tool(end: ToolEnd) -> Status
         ensures { result ≡ status_of_tool end }
     {
