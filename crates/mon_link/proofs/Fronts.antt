@@ -1,4 +1,4 @@
--- Fronts of bytes, piece after piece.
+-- Prefixes of bytes, piece after piece.
 use Rattle.std.proofs.Common.{◌≡◌, ℕ, ◌+◌, List, ◌++◌, take, drop, Option, Some, None, sym, ap, ◌∙◌, append_assoc, arith}
 use Rattle.std.specs.Io.KnownBytes.{Appends, Consumes}
 use Rattle.std.proofs.lemmas.List.{take-take, drop-take, take-append-drop}

@@ -46,7 +46,7 @@ impl<R: Input + Copy> Source for StdinSource<R> {
     }
 }
 
-/// Standard output. That it takes nothing of a piece is a fault too.
+/// Standard output. A write that takes no byte of a piece is a fault too.
 #[derive(Drop)]
 pub struct StdoutSink<R: Print + Copy> {
     rt: R,

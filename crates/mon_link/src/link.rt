@@ -10,7 +10,7 @@ pub enum Peer {
     Client(u32),
 }
 
-/// What came.
+/// What a link returns if it doesn't fail.
 #[derive(Drop)]
 pub enum Got {
     Datagram { from: Peer, bytes: Bytes },

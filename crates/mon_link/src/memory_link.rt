@@ -8,8 +8,8 @@ use std::alloc::Global;
 use std::marker::Model;
 use std::vec::IntoIter;
 
-/// A link that gives a list, and then `Closed`, and keeps what it was asked. It numbers its calls by what it has
-/// noted of them, so a call that ran out of memory isn't counted.
+/// A link that returns the items of a list and then `Closed`, and notes what it was asked. A call has the number after
+/// that of the last call that it noted. A call that ran out of memory isn't noted, so it has no number.
 #[derive(Drop)]
 pub struct MemoryLink {
     alloc: Global,

@@ -111,7 +111,7 @@ impl<R: Net + Copy> UdpLink<R> {
         }
     }
 
-    /// What the system said to the first call of `next` that failed.
+    /// The system's error at the first call of `next` that failed.
     pub fn failure(&self) -> Option<&Error>
         ensures { option_map (λ error. error.now) result ≡ self.now.failure }
     {
@@ -307,7 +307,7 @@ fn would_wait<T>(ended: &io::Result<T>) -> bool {
     }
 }
 
-/// Whether a call of the system ended since nothing came in time.
+/// Whether a call of the system ended because nothing came in time.
 fn is_idle(kind: ErrorKind) -> bool {
     matches!(
         kind,

@@ -22,8 +22,8 @@ PiecesRenumbered =
 abbrev pub IsPiece : List ℕ → Header → Type 0
 IsPiece bytes h = (is_piece bytes ≡ true) × (header_of bytes ≡ Ok h)
 
--- Two lives send these pieces, of whatever they were given. If the lives have different numbers, the pieces don't share
--- both of theirs.
+-- Two lives send these pieces, of whatever they were given. If the lives have different numbers, the pieces differ in
+-- the number of the life or in the seq.
 abbrev pub LivesApart : Type 0
 LivesApart =
     (life other : ℕ) (a b : List ℕ) (h k : Header) → life < 2 ^ 64 → other < 2 ^ 64 → (life ≡ other → ⊥)

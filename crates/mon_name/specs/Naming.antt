@@ -46,14 +46,14 @@ is_foreign tag (Ok Idle) = false
 is_foreign tag (Ok Closed) = false
 is_foreign tag (Err e) = false
 
--- After an answer: what happens after a foreign datagram, or else nothing more, and that is the last answer.
+-- After a foreign datagram the link below is asked again. Any other answer is the last one, and nothing more is asked.
 abbrev pub Unless : (foreign : Bool) → (Again : Result Got Stop → LinkState → LinkState → Type 0)
     → (answer last : Result Got Stop) → (old new : LinkState) → Type 0
 Unless true Again answer last old new = Again last old new
 Unless false Again answer last old new = (last ≡ answer) × (new ≡ old)
 
--- The link below was asked for this long. After each foreign datagram it was asked again without waiting, at most this
--- often. This was its last answer.
+-- The link below was asked with the wait `wait`, and its last answer was `last`. After each foreign datagram it was
+-- asked again without waiting, at most `most` times.
 unfoldable pub AsksPast : (most : ℕ) → (tag wait : ℕ) → (last : Result Got Stop) → (old new : LinkState) → Type 0
 AsksPast zero tag wait last old new = CallsNext wait last old new
 AsksPast (suc most) tag wait last old new =

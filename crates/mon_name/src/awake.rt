@@ -26,7 +26,7 @@ impl<L: Link + Drop, C: Clock + Drop> Awake<L, C> {
         }
     }
 
-    /// Whether it stood still for longer.
+    /// Whether a gap was seen: the monitor stood still for longer than `most` milliseconds.
     pub fn stood(&self) -> bool
         ensures { result ≡ self.now.gaps.stood }
     {

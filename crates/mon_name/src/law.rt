@@ -8,12 +8,13 @@ pub fn law_frame()
     ensures apart { TagsApart }
 {}
 
-/// The pieces of a message that was sent under a boot are, renumbered, its pieces under the number of the life.
+/// Renumbering the pieces that a message has under a boot gives its pieces under the number of the life.
 pub fn law_renumber()
     ensures { PiecesRenumbered }
 {}
 
-/// No two lives with different numbers send pieces that have one pair of number and seq, whatever they send.
+/// Two lives with different numbers never send pieces with the same number of a life and the same seq, whatever they
+/// are given to send.
 pub fn law_lives_apart()
     ensures { LivesApart }
 {}

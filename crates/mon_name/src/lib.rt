@@ -1,5 +1,5 @@
-//! Two links over another one. The datagrams of one name a quorum, and its pieces of long messages have the number of a
-//! life. The other one is closed once the machine stood still.
+//! Two links, each over another link. The datagrams of `Named` name a quorum, and its pieces of long messages have the
+//! number of a life. `Awake` is closed after the machine stood still.
 #![tactic(auto)]
 
 mod awake;

@@ -40,7 +40,7 @@ fn numbered_and_framed(
     framed(alloc, tag, numbered.as_slice())
 }
 
-/// What came from a monitor, without its frame. Nothing came if it isn't framed so.
+/// A monitor's datagram without its frame; `Idle` if it isn't in the frame of this tag.
 fn came(alloc: Global, tag: u64, rank: Rank, bytes: &[u8]) -> Result<Got, OutOfMemory>
     ensures { IfOk result (λ got. got ≡ taken_off tag (Monitor rank) bytes.now) }
 {
@@ -53,7 +53,7 @@ fn came(alloc: Global, tag: u64, rank: Rank, bytes: &[u8]) -> Result<Got, OutOfM
     }
 }
 
-/// Whether this is a foreign datagram.
+/// Whether this is a foreign datagram: one from a monitor's address that isn't in the frame of this tag.
 fn is_foreign(tag: u64, got: &Got) -> bool
     ensures { result ≡ is_foreign tag (Ok got.now) }
 {
