@@ -132,7 +132,7 @@ pub compare_caused : {D : Type 0} (state : D → DiskState) (before after : Outs
     → StatusOf status_of_tool (Compares (source_of before) (source_of after) (sink_of before) (sink_of after)) s → HasCause state t before after around around s
 compare_caused state before after around t s is did = caused state before after around around t task.ScrubCompare s is (inr (did, refl))
 
--- ---- faulty words have no such status
+-- ---- faulty arguments have no such status
 
 tool_words : (e : ToolEnd) → status.Words ≡ status_of_tool e → ⊥
 tool_words tool_end.Done is = absurd cc

@@ -24,7 +24,7 @@ use Rattle.mon_world.specs.Stands.{Does, Fits, IsWorld, StandsFor}
 use Rattle.mon_world.specs.Stops.{Stops}
 use Rattle.cephmon_run.specs.Replay.{Did, Writes, fault_of}
 
--- ---- fronts
+-- ---- prefixes
 
 pub front_none : (a : Option (List ℕ)) (bs : List ℕ) → AppendsFront a a bs
 front_none a bs = (0, Appends-nil a)

@@ -73,11 +73,12 @@ WroteAll before after stop t = (t.stop ≡ stop) × Appends before.held after.he
 abbrev pub WroteFront : Outside → Outside → Trace → Type 0
 WroteFront before after t = AppendsFront before.held after.held t.text
 
--- the source was read to its end, if it is known what it has left, and had a schedule whose trace has this property
+-- The source was read to its end, if the bytes that it has left are known. They are a schedule whose trace has this
+-- property.
 abbrev pub Replayed : Outside → Outside → (Trace → Type 0) → Type 0
 Replayed before after fact = IsAtEnd after.left × OfRead before after (λ bytes. Replays bytes fact)
 
--- the schedule of a number was run, which is safe, nothing was read, and its summary has this fact
+-- The schedule that is made of a number was run, and its run is safe. Nothing was read. The summary has this property.
 pub record Made (number events : ℕ) (before after : Outside) (fact : Summary → Type 0) : Type 0 where
   pub monitors : Monitors
   pub runs : Runs (made_schedule number events) monitors
@@ -92,8 +93,8 @@ SummedFront before after s = (s.stop ≡ None) × AppendsFront before.held after
 
 -- ---- the cause of each status, by what the arguments ask for
 
--- Of a replay. If memory ran out, or a read failed, what was read is a prefix of what was left, of 16,777,217 bytes at
--- most, and what was written is a prefix of what is to be written.
+-- The cause of a replay's status. If memory ran out, or a read failed, what was read is a prefix of what was left, of
+-- at most 16,777,217 bytes, and what was written is a prefix of the trace.
 abbrev pub ReplayCause : Outside → Outside → Status → Type 0
 ReplayCause before after status.Done = Replayed before after (WroteAll before after None)
 ReplayCause before after (status.Schedule line kind) = OfRead before after (λ bytes. schedule_at bytes ≡ Err (At line kind)) × WroteNothing before after
@@ -108,7 +109,7 @@ ReplayCause before after status.OutOfMemory =
     ⊎ Replayed before after (WroteFront before after)
 ReplayCause before after other = ⊥
 
--- of the summary of a made schedule
+-- the cause of the status of a made schedule's run
 abbrev pub MadeCause : (number events : ℕ) → Outside → Outside → Status → Type 0
 MadeCause number events before after status.Done = Made number events before after (SummedAll before after None)
 MadeCause number events before after status.WriteFault =

@@ -1,4 +1,4 @@
-//! The run of a schedule, whose lines are written as they come.
+//! Runs a schedule, and writes the lines of each event before the next one is run.
 
 ghost use Rattle.std.specs.Prelude.{◌≡◌, ◌≤◌, Err, length};
 ghost use Rattle.mon_types.specs.Faults.{Rose};
@@ -103,7 +103,7 @@ fn do_events<K: Sink>(alloc: Global, sink: &mut K, schedule: &Schedule) -> Resul
     Ok(())
 }
 
-/// Runs a schedule, and writes its trace: each event's lines when it is done.
+/// Runs a schedule, and writes its trace: the lines of each event after it was run.
 pub fn replay<K: Sink>(alloc: Global, sink: &mut K, schedule: &Schedule) -> Result<(), ReplayStop>
     requires { HasText schedule.now }
     ensures writes { (ms : Monitors) → ms.count ≡ schedule.now.monitors → ms.rule ≡ schedule.now.rule

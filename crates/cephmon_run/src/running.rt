@@ -63,7 +63,7 @@ fn run_replay<S: Source, K: Sink>(alloc: Global, source: &mut S, sink: &mut K) -
     }
 }
 
-/// The line of the summary of a number's schedule, or what stops its run.
+/// The summary line of the schedule that is made of a number, or why its run stops.
 fn made_summary(alloc: Global, number: u64, events: u32) -> Result<Vec<u8>, WorldStop>
     requires least { 1 ≤ events }
     requires most { events ≤ 100000 }
@@ -78,7 +78,7 @@ fn made_summary(alloc: Global, number: u64, events: u32) -> Result<Vec<u8>, Worl
     summary_of(alloc, &schedule)
 }
 
-/// Runs the schedule of a number, and writes its summary to the sink.
+/// Runs the schedule that is made of a number, and writes its summary to the sink.
 fn run_made<K: Sink>(alloc: Global, sink: &mut K, number: u64, events: u32) -> Status
     requires least { 1 ≤ events }
     requires most { events ≤ 100000 }
@@ -97,7 +97,7 @@ fn run_made<K: Sink>(alloc: Global, sink: &mut K, number: u64, events: u32) -> S
     }
 }
 
-/// How a run's stop ends the program.
+/// The status of a replay that stopped.
 fn status_of(stop: ReplayStop) -> Status
     ensures { result ≡ status_of stop }
 {
@@ -109,7 +109,7 @@ fn status_of(stop: ReplayStop) -> Status
     }
 }
 
-/// Does what was asked for.
+/// Does a task.
 fn run_task<S: Source, K: Sink, D: Disk, L: Link, C: Clock>(
     alloc: Global,
     task: &Task,

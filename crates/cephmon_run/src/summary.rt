@@ -89,7 +89,7 @@ fn add(
     Ok(())
 }
 
-/// The object of a summary.
+/// The JSON object of a summary.
 fn object_of(
     alloc: Global,
     events: u64,
@@ -126,7 +126,7 @@ fn line_of(
     Ok(line.into_bytes())
 }
 
-/// Runs a schedule to its end, and gives the line of its summary.
+/// Runs a schedule to its end, and returns its summary line. If the run stops, it returns why.
 pub fn summary_of(alloc: Global, schedule: &Schedule) -> Result<Vec<u8>, WorldStop>
     requires { HasText schedule.now }
     ensures line { (ms : Monitors) → ms.count ≡ schedule.now.monitors → ms.rule ≡ schedule.now.rule

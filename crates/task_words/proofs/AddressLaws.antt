@@ -1,4 +1,4 @@
--- What is read of addresses is spelled so, and what is spelled so is read.
+-- Parsing accepts exactly the texts of addresses, and returns the addresses that a text encodes.
 use Rattle.std.proofs.Common.{◌≡◌, ◌==◌, cond, ℕ, ◌+◌, ◌-◌, ◌<◌, ◌≤◌, ◌^◌, Bool, true, false, List, [], ◌∷◌, ◌++◌, length, map, Option, Some, None, Result, Ok, Err, IsTrue, decimal, refl, sym, ap, subst, ◌∙◌, arith, lit<}
 use Rattle.std.specs.Prelude.{is_ok}
 use Rattle.std.specs.List.{AllByRecursion, count_by, list_all}

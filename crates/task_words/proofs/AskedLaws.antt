@@ -1,4 +1,4 @@
--- Which words are those of a task.
+-- Which arguments are those of a task.
 use Rattle.std.proofs.Common.{◌≡◌, ◌==◌, ℕ, suc, ◌≤◌, ◌+◌, ◌^◌, Bool, true, false, List, [], ◌∷◌, length, map, Option, Some, None, IsTrue, is_some, String, string_bytes, codes, decimal, refl, sym, ap, subst, ◌∙◌, arith}
 use Rattle.std.specs.Prelude.{IfSome, is_ok}
 use Rattle.std.specs.declared.alloc.Global.{Global}

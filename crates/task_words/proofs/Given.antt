@@ -1,4 +1,4 @@
--- What is read of a text that spells a value is that value.
+-- A text that encodes a value is read as that value.
 use Rattle.std.proofs.Common.{◌≡◌, ℕ, ◌+◌, ◌<◌, ◌≤◌, ◌^◌, true, false, List, length, Option, Some, None, Result, Ok, Err, decimal, refl, sym, ap, subst, ◌∙◌, arith}
 use Rattle.std.specs.Prelude.{IfOk, IfSome, is_ok, is_some, ok_or, option_map}
 use Rattle.std.specs.Borrow.{Bor}

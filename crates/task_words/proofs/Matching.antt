@@ -124,7 +124,7 @@ well_versions a b c d e f = record {
   valid = refl;
 }
 
--- ---- the words of a task
+-- ---- the arguments of a task
 
 abbrev pub leaf_of : Task → Shape
 leaf_of t = leaf_by (kind_of t)

@@ -1,4 +1,4 @@
--- The numbers and the rules that words spell.
+-- The numbers and the rules that arguments encode.
 use Rattle.std.proofs.Common.{◌≡◌, ◌↔◌, ℕ, ◌<◌, ◌≤◌, ◌^◌, Bool, true, false, not, List, Option, Some, None, Ok, Err, IsTrue, decimal, refl, sym, ap, subst, ◌∙◌, arith}
 use Rattle.std.specs.Prelude.{IfSome, is_some}
 use Rattle.std.proofs.lemmas.Bool.Decides.{nat_tests}

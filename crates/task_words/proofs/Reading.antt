@@ -1,4 +1,4 @@
--- What is read of accepted words is the task that they ask for.
+-- Accepted arguments are read as the task that they ask for.
 use Rattle.std.proofs.Common.{◌≡◌, ℕ, Bool, true, false, List, [], ◌∷◌, Option, Some, None, Result, Ok, Err, String, string_bytes, map, codes, decimal, refl, sym, ap, ap₂, subst, ◌∙◌}
 use Rattle.std.specs.Prelude.{option_map}
 use Rattle.std.proofs.lemmas.Bool.{false≢true}
@@ -103,7 +103,7 @@ reads_given words (Ok u) t asks given = subst (λ (v : Task). AsksFor v words) (
 reads_given words (Err Refused) t asks given = absurd given
 reads_given words (Err OutOfMemory) t asks given = (t, asks)
 
--- accepted words are read as the task that they ask for
+-- accepted arguments are read as the task that they ask for
 pub reads : (words : List (String Global)) (test : Bool) (r : Result Task WordsStop) (a : App) (m : ArgMatches) → Tells test (IsAsked words) → test ≡ true → a ≡ command
     → HasMatchesOf a (map string_bytes words) m → ((t : Task) → Asks t (words_of t) → subcommand_rows_of m ≡ subcommand_of command (words_of t) → IsGiven t r) → Reads r words
 reads words test r a m tells holds is matches given =

@@ -1,4 +1,4 @@
--- What the words of a command line are, and the numbers that they spell.
+-- The arguments of a command line as texts, and the numbers that they encode.
 use Rattle.std.proofs.Common.{◌≡◌, ℕ, ◌<◌, ◌≤◌, Bool, true, String, string_bytes, List, [], ◌∷◌, ◌++◌, map, length, slice_index_or, refl, sym, ap, ◌∙◌, arith}
 use Rattle.std.specs.declared.alloc.Global.{Global}
 use Rattle.std.specs.Str.{bytes_eq}
@@ -13,7 +13,7 @@ passes a b same = (bytes_eq-Decides a b).1 same
 
 -- ---- the texts after a command's name
 
--- The words are these strings, of which as many are there as the length says. Each is what its bytes are.
+-- The arguments are these strings, as many as the length says, and these texts are their bytes.
 pub two_texts : (texts : List (String Global)) (a b : String Global) (x y : List ℕ) → 2 ≤ length texts → length texts < 3 → a ≡ slice_index_or texts 0 a → b ≡ slice_index_or texts 1 b
     → x ≡ string_bytes a → y ≡ string_bytes b → map string_bytes texts ≡ x ∷ y ∷ []
 two_texts [] a b x y some few first second is same = absurd (omega arith)

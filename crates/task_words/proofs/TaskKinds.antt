@@ -1,4 +1,5 @@
--- The kinds of tasks. The first word names the kind, so that what is said of two tasks of the same words needs no case for each pair of kinds.
+-- The kinds of tasks. The first argument names the kind, so a proof about two tasks with the same arguments needs no
+-- case for each pair of kinds.
 use Rattle.std.proofs.Common.{◌≡◌, ℕ, List, [], ◌∷◌, codes, decimal, refl, sym, ap, subst, ◌∙◌, if◌then◌else◌}
 use Rattle.std.specs.Str.{bytes_eq}
 use Rattle.clap.specs.Words.{Text}
@@ -138,7 +139,7 @@ of_name name t is = of_kind (kind_named name) t (sym (named (kind_of t)) ∙ ap 
 
 -- ---- its texts
 
--- the words after the name
+-- the arguments after the name
 abbrev pub texts_of : Task → List Text
 texts_of task.Replay = []
 texts_of (task.Made number events) = decimal number ∷ decimal events ∷ []
@@ -177,7 +178,7 @@ ids_by DumpsPaxos = versions_texts
 ids_by Exports = store_texts
 ids_by Imports = store_texts
 
--- ---- what words spell
+-- ---- what arguments encode
 
 pub same_head : (a b : Text) (x y : List Text) → a ∷ x ≡ b ∷ y → a ≡ b
 same_head a b x y e = cc
@@ -185,20 +186,20 @@ same_head a b x y e = cc
 pub same_tail : (a b : Text) (x y : List Text) → a ∷ x ≡ b ∷ y → x ≡ y
 same_tail a b x y e = cc
 
--- the words of a task of this kind
+-- the arguments of a task of this kind
 pub record Spelled (k : Kind) (texts : List Text) : Type 0 where
   pub fields : Fields k
   pub has : HasWords (task_by k fields)
   pub are : texts ≡ texts_of (task_by k fields)
 
--- what a name and texts spell is of the name's kind
+-- a task that a name and texts encode is of the name's kind
 pub spelled : (name : Text) (texts : List Text) → SpellsTask (name ∷ texts) → Spelled (kind_named name) texts
 spelled name texts s =
     let whole : name ∷ texts ≡ name_of s.0 ∷ texts_of s.0 = s.1.1 ∙ words_are s.0 in
     let it = of_name name s.0 (same_head _ _ _ _ whole) in
     record { fields = it.0; has = subst HasWords it.1 s.1.0; are = same_tail _ _ _ _ whole ∙ ap texts_of it.1 }
 
--- and the other way round, of a kind by its own name
+-- and the converse, for a kind and its own name
 words_by : (k : Kind) (f : Fields k) → name_by k ∷ texts_of (task_by k f) ≡ words_of (task_by k f)
 words_by Replays f = refl
 words_by Makes f = refl

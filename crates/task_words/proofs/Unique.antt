@@ -1,4 +1,4 @@
--- Words ask for one task.
+-- Arguments ask for at most one task.
 use Rattle.std.proofs.Common.{◌≡◌, ℕ, ◌<◌, ◌≤◌, List, [], ◌∷◌, length, Ok, codes, decimal, refl, sym, ap, subst, ◌∙◌, arith}
 use Rattle.std.specs.List.{AllByRecursion}
 use Rattle.std.proofs.lemmas.Fmt.{decimal_injective}
@@ -44,7 +44,7 @@ same_service service.Kv service.Log e = absurd cc
 same_service service.Log service.Kv e = absurd cc
 same_service service.Log service.Log e = refl
 
--- two members of the same words
+-- two members with the same arguments
 members : (m n : Member) → decimal m.rank ≡ decimal n.rank → decimal m.monitors ≡ decimal n.monitors → m ≡ n
 members m n ranks counts =
     let rank : m.rank ≡ n.rank = decimal_injective m.rank n.rank (omega (arith, m.most, m.in_map)) (omega (arith, n.most, n.in_map)) ranks in

@@ -54,7 +54,7 @@ fn port_of(text: Option<&[u8]>) -> Result<u16, ScheduleKind>
     }
 }
 
-/// An address. Every `Err` is a text that is none.
+/// Parses `a.b.c.d:port`. Any error means that the text is no address.
 #[tactic(auto, unfolding(crate::specs::Addresses::address_of))]
 fn address_of(text: &[u8]) -> Result<Address, ScheduleKind>
     ensures { Is (λ a. a) result (address_of text.now) }
@@ -87,7 +87,7 @@ pub(crate) fn count_of(text: &[u8]) -> Option<u8>
     }
 }
 
-/// Whether a text is this number of addresses with commas between them: `addresses_of` without memory.
+/// Whether a text is this number of addresses with commas between them. Takes no memory, unlike `addresses_of`.
 pub(crate) fn are_addresses(monitors: u8, text: &[u8]) -> bool
     ensures { result ≡ is_ok (addresses_of monitors text.now) }
 {

@@ -3,7 +3,7 @@
 use schedule_text::{ScheduleKind, cut};
 use std::marker::Model;
 
-/// What is left of a text, or that nothing is.
+/// The text after the parts that were read, or `None` after the last part.
 #[derive(Drop)]
 pub(crate) struct Parts<'a> {
     rest: Option<&'a [u8]>,
@@ -30,7 +30,7 @@ impl<'a> Parts<'a> {
         Parts { rest: Some(text) }
     }
 
-    /// The next part, which must be there.
+    /// Returns the next part. It is an error if there is none.
     pub(crate) fn next(&mut self, separator: u8) -> Result<&'a [u8], ScheduleKind>
         ensures { Steps (λ x. x.now) result self.new (part separator self.old) }
     {
@@ -44,7 +44,7 @@ impl<'a> Parts<'a> {
         }
     }
 
-    /// Whether nothing is left.
+    /// Whether all parts were read.
     pub(crate) fn is_done(&self) -> bool
         ensures { result ≡ is_none self.now }
     {

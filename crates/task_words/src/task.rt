@@ -25,8 +25,8 @@ pub enum Task {
         disk_b: Text,
         turns: u64,
     },
-    /// Keeps a client's copy of a service's map, for at most this number of iterations, 1 to 2^61. The addresses are those of all monitors, by rank,
-    /// of which there are 1 to 15.
+    /// Keeps a client's copy of a service's map, for at most this number of iterations, 1 to 2^61. The addresses are
+    /// those of all monitors, 1 to 15, by rank.
     Follow {
         service: Service,
         addresses: Items<Address>,
@@ -40,13 +40,14 @@ pub enum Task {
     },
     /// Reads two reports from the source, and writes where they differ.
     ScrubCompare,
-    /// Writes a line for each key of the store on two files.
+    /// Writes one line per key of the store on two files.
     DumpKeys {
         member: Member,
         disk_a: Text,
         disk_b: Text,
     },
-    /// Writes the versions of Paxos that the store on two files keeps, from one to another, which isn't below it and at most 2^62.
+    /// Writes the versions of Paxos that the store on two files keeps, from one version to another. The second is at
+    /// most 2^62, and not below the first.
     DumpPaxos {
         member: Member,
         disk_a: Text,
