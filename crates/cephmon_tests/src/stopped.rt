@@ -54,8 +54,8 @@ const VERSIONS: &str = "1 4
 ";
 
 /// Does what the arguments ask for, from this input, on these disks.
-// It can't fail, and each test builds its arguments and inputs before its first run. So no call that may end a test comes
-// while what a run left is there, all of whose parts would be dropped at that place.
+// It can't fail, and each test builds its arguments and inputs before its first run. So while the result of a run is in
+// scope, no call may end the test, at which all parts of the result would be dropped.
 fn done(alloc: Global, words: &[String], input: Vec<u8>, disks: NodeDisks<MemoryDisk>) -> Left {
     let source = MemorySource::new(input, Vec::new(alloc));
     let sink = MemorySink::new(alloc, Vec::new(alloc));

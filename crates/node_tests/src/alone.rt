@@ -174,7 +174,8 @@ fn nothing_is_kept_or_sent_for_what_is_too_short_or_too_long(rt: HostRuntime) ->
     Ok(())
 }
 
-/// A link that is idle so often and then closed, or fails at a call. The first two messages that it is to send are lost.
+/// A link that is idle this many times and then closed, or fails at a call. The first two messages that it is to send
+/// are lost.
 fn idle_link(alloc: Global, idle: usize, failing: u64) -> Result<MemoryLink, Fail> {
     let mut got = Vec::new(alloc);
     for _idle in 0..idle {

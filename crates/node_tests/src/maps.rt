@@ -97,7 +97,7 @@ fn input(alloc: Global, act: Act) -> Option<Input>
     }
 }
 
-// What owns much is let go by a call, since a check goes through what is let go in place.
+// Values that own much are dropped by a call: the prover goes through all parts of a value that is dropped in place.
 
 /// How many incrementals of a transaction a cache applies that knows the key-value map of a store.
 fn applied(alloc: Global, kv: &Kv, tx: &Transaction) -> Option<u32> {
@@ -122,7 +122,7 @@ fn keep(alloc: Global, kv: &mut Kv, tx: Transaction) -> Option<u32>
     }
 }
 
-/// Gives a monitor an input and keeps what that makes it write.
+/// Gives a monitor an input, and keeps the transaction of its reaction.
 fn react(alloc: Global, one: &mut Running, input: Input, now: Moment) -> Option<u32>
     requires comes { MayCome input }
     requires follows { Follows one.old.core.cache (readings_of one.old.kv) }
