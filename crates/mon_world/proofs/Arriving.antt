@@ -1,4 +1,4 @@
--- What comes by an event, and the monitor of the world that it comes to.
+-- The arrival of an event, and the monitor of the world at which it arrives.
 use Rattle.std.proofs.Common.{◌≡◌, ◌≢◌, ℕ, ◌<◌, Bool, true, false, cond, eqb, List, length, map, Option, Some, None, IfSome, refl, sym, ap, subst, ◌∙◌, arith, inl, inr}
 use Rattle.std.proofs.lemmas.Bool.{eqb-false, eqb-true}
 use Rattle.std.proofs.lemmas.Option.{same_Some, slice_get_cases}
@@ -23,7 +23,7 @@ use Rattle.mon_world.specs.Stands.{EachStands, FitsPlain, StandsAt, StandsFor, e
 use Rattle.mon_world.proofs.Coming.{MayMeet, may_meet}
 use Rattle.mon_world.proofs.Ranks.{is_of, me_at}
 
--- ---- the monitor that it comes to
+-- ---- the monitor of an arrival
 
 found_at : {A : Type 0} (xs : List A) (i : ℕ) → i < length xs → (x : A) × (slice_get xs i ≡ Some x)
 found_at {A = A} xs i below = elim ((slice_get_cases xs i).1) as (λ _. (x : A) × (slice_get xs i ≡ Some x)) [
@@ -31,7 +31,7 @@ found_at {A = A} xs i below = elim ((slice_get_cases xs i).1) as (λ _. (x : A) 
   | inr past ↦ absurd (omega arith)
 ]
 
--- it is one of the map, and its state is as the scene says
+-- it is one of the map's monitors, and its store, state and files are those of the scene
 pub record Reaches (ms : Monitors) (old : List Monitor) (c : Scene) (a : Arrival) : Type 0 where
   pub me : Me
   pub itself : me_of ms a.rank ≡ Some me
@@ -91,7 +91,7 @@ module _ (ms : Monitors) (w : Model) (p : Plain) (a : Arrival) (me : Me) (comes 
 
 -- ---- how the monitors stand then
 
--- what holds of each one, if one of them comes to another store, state and files
+-- P holds of each monitor, if it holds of one with a new store, state and files, and of the others as they were
 pub put_each : (P : ℕ → Store → Option State → Files → Type 0) (c : Scene) (i : ℕ) (m : Store) (s : Option State) (f : Files) → P i m s f
     → ((j : ℕ) → j ≢ i → P j (c.world.store j) (c.world.state j) (c.files j))
     → (j : ℕ) → P j (put_at c.world.store i m j) (put_at c.world.state i s j) (put_at c.files i f j)
@@ -101,13 +101,13 @@ put_each P c i m s f here others j = by (eqb j i) refl
     by true e = subst (λ (k : ℕ). P k m s f) (sym (eqb-true j i e)) here
     by false e = others j (eqb-false j i e)
 
--- the others stand as before
+-- the other monitors represent what they did before
 pub elsewhere : (ms : Monitors) (old new : List Monitor) (c : Scene) (i : ℕ) → EachStands ms old c
     → ((j : ℕ) → j ≢ i → slice_get new j ≡ slice_get old j)
     → (j : ℕ) → j ≢ i → StandsAt ms new j (c.world.store j) (c.world.state j) (c.files j)
 elsewhere ms old new c i each others j n me monitor itself found = each j me monitor itself (sym (others j n) ∙ found)
 
--- there is one of a rank
+-- only one monitor has a rank, so what one represents is what the monitor of the rank represents
 pub stands_at : (ms : Monitors) (new : List Monitor) (i : ℕ) (m : Store) (s : Option State) (f : Files) (me : Me) (monitor : Monitor)
     → me_of ms i ≡ Some me → slice_get new i ≡ Some monitor → Stands me m s f monitor → StandsAt ms new i m s f
 stands_at ms new i m s f me monitor itself found stands me_too monitor_too itself_too found_too =
@@ -117,7 +117,7 @@ stands_at ms new i m s f me monitor itself found stands me_too monitor_too itsel
 pub new_found : (ms : Monitors) (old new : List Monitor) (c : Scene) (a : Arrival) → Reaches ms old c a → length new ≡ length old → (monitor : Monitor) × (slice_get new a.rank ≡ Some monitor)
 new_found ms old new c a r count = let within = r.within in found_at new a.rank (omega arith)
 
--- ---- nothing comes of it
+-- ---- an arrival without effect
 
 abbrev pub after_none : Scene → Plain → Scene
 after_none c p = record { world = unmoved c.world p; files = c.files }
@@ -135,7 +135,7 @@ unmoved_stands ms old new c p s count each messages log = record {
   log = log ∙ s.log;
 }
 
--- the monitor that it comes to stays down
+-- the monitor of the arrival stays down
 pub still_each : (ms : Monitors) (old new : List Monitor) (c : Scene) (a : Arrival) → Reaches ms old c a → EachStands ms old c
     → length new ≡ length old
     → ((j : ℕ) → j ≢ a.rank → slice_get new j ≡ slice_get old j)

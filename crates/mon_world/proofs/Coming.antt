@@ -1,4 +1,4 @@
--- What comes by the events of a world may come to its monitors.
+-- The inputs that events bring may come to the monitors of a world.
 use Rattle.std.proofs.Common.{ℕ, zero, suc, ◌<◌, List, [], ◌∷◌, map, Option, Some, None, IfSome, arith}
 use Rattle.std.specs.List.{AllByRecursion}
 use Rattle.std.specs.Prelude.{slice_get}
@@ -49,14 +49,14 @@ each_spoken n (e ∷ es) h = (event_spoken n e h.0, each_spoken n es h.1)
 pub all_spoken : (ms : Monitors) (es : List schedule.Event) → AllByRecursion (Fits ms.count) es → AllFit ms.count (events_of ms (map scheduled_of es))
 all_spoken ms es h = all_fit ms ms.count first_scene (map scheduled_of es) (each_spoken ms.count es h)
 
--- ---- what comes
+-- ---- arrivals
 
 slice_all : {A : Type 0} (P : A → Type 0) (xs : List A) (k : ℕ) → AllByRecursion P xs → IfSome (slice_get xs k) P
 slice_all P [] k h = tt
 slice_all P (x ∷ xs) zero h = h.0
 slice_all P (x ∷ xs) (suc k) h = slice_all P xs k h.1
 
--- it comes to one of the monitors, and may come
+-- the arrival is at one of n monitors, and its input may come
 pub record MayMeet (n : ℕ) (a : Arrival) : Type 0 where
   pub rank : a.rank < n
   pub comes : MayCome a.input

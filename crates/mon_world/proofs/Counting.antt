@@ -56,7 +56,7 @@ disk_counted u (input.Deliver m) n = refl
 disk_counted u (input.Timer t) n = refl
 disk_counted u (input.Client session r) n = refl
 
--- ---- what is left, by where the disk fails
+-- ---- what remains, if the disk fails during the opening or after it
 
 module _ (u : Upset) (member : Member) (m : Store) (f : Files) (came : Input) (n : ℕ) (is : n ≡ opening_count u.disk f) (from : Upset) (counts : from ≡ counted u came n) where
   same_disk : from.disk ≡ u.disk

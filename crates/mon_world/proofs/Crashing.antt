@@ -124,7 +124,7 @@ module _ (c : Scene) (u : Upset) (p : Plain) (i : ℕ) (came : Input) (r : Resul
       log = log ∙ ap (λ (n : ℕ). log_after n (map_after c.world i x)) s.log ∙ sym (grown-length c.world.log (map_after c.world i x));
     }
 
--- ---- what is left of what a monitor does
+-- ---- what remains of a monitor's reaction
 
 -- what meets an arrival at the monitor of its rank, if a disk fails
 abbrev pub CrashesAt : site.Upset → List Monitor → List Monitor → Arrival → Result (Option meeting.Crash) WorldStop → Type 0

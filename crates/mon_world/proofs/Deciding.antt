@@ -25,18 +25,18 @@ use Rattle.mon_world.specs.declared.stop.WorldStop.TheVariants.{OutOfMemory, Spe
 use Rattle.mon_world.specs.Crashes.{Ends, Crashes, IsLeft, Settled, StopsKept, counted, files_left, keeps, map_left, upset_of, written_if}
 use Rattle.mon_world.specs.Stops.{Stops}
 
--- creating a store leaves disk a live
+-- the side that is live is the same after an opening: if both disks are empty, the store is created on disk A
 live_opened : (a b : Option File) → live_side (after_opening (record { a = a; b = b })) ≡ live_side (record { a = a; b = b })
 live_opened None None = refl
 live_opened None (Some b) = refl
 live_opened (Some a) None = refl
 live_opened (Some a) (Some b) = refl
 
--- a fault that is counted after this many calls
+-- the fault with its call counted from the end of an opening of this many calls
 abbrev pub behind : Upset → ℕ → Upset
 behind u opening = record { disk = u.disk; call = u.call - opening; image = u.image }
 
--- ---- where the calls are counted from
+-- ---- the call from which a fault is counted
 
 pub record IsBehind (u : Upset) (f : Files) (came : Input) (n : ℕ) : Type 0 where
   pub same : behind (counted u came n) n ≡ behind u (opening_of came u.disk f)

@@ -1,4 +1,4 @@
--- What a monitor remembers when something comes.
+-- The state of the core that takes an input.
 use Rattle.std.proofs.Common.{◌≡◌, ℕ, Option, Some, None, sym, ap, subst}
 use Rattle.mon_msg.specs.Protocol.State.{State, booting}
 use Rattle.mon_msg.specs.declared.input.Input.{Input}
@@ -8,7 +8,7 @@ use Rattle.mon_wire.specs.declared.phase.Phase.TheVariants as phase
 use Rattle.quorum_model.specs.Meets.{state_at}
 use Rattle.mon_world.specs.Monitor.{remembered}
 
--- one that is down is asked nothing but to start
+-- a monitor that is down takes no input but a start
 pub remembered_so : (me : Me) (s : Option State) (came : Input) (t : State) → state_at me.member.rank s came ≡ Some t → state_at me.member.rank (Some (remembered me s)) came ≡ Some t
 remembered_so me s input.Start t e = e
 remembered_so me (Some x) (input.Deliver m) t e = e
@@ -21,7 +21,7 @@ remembered_so me None (input.Client session r) t e = absurd cc
 pub same_state : (x y : State) → ◌≡◌ {A = Option State} (Some x) (Some y) → x ≡ y
 same_state x y e = cc
 
--- one that starts is booting
+-- the core of a monitor that starts is booting
 pub start_boots : (rank : ℕ) (x y : State) (came : Input) → came ≡ input.Start → state_at rank (Some x) came ≡ Some y → y.phase ≡ phase.Booting
 start_boots rank x y came is e =
     let so = subst (λ (came : Input). state_at rank (Some x) came ≡ Some y) is e in

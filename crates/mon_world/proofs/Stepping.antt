@@ -53,7 +53,7 @@ step_at c p met = with_line (met_line c.world met) (with_files (all_files_after 
 step_met : (ms : Monitors) (c : Scene) (p : Plain) (met : Meeting) → meets ms c.world (plain_event p) ≡ met → step ms c (events.Plain p) ≡ step_at c p met
 step_met ms c p met is = ap (step_at c p) is
 
--- ---- nothing comes of it
+-- ---- an event without effect
 
 pub none_met : (ms : Monitors) (world : World) (c : Scene) (p : Plain) → StandsFor ms world c → arrival c.world (plain_event p) ≡ None
     → Does ms (Ok (still_line outcome.NoMessage)) world (step ms c (events.Plain p))

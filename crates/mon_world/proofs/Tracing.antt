@@ -33,7 +33,7 @@ use Rattle.mon_world.specs.Step.{line_of, met_line, numbered, replied, still_lin
 use Rattle.mon_world.specs.Traced.{Traced, TracesRun, as_told, traced_from, traced_on}
 use Rattle.mon_world.proofs.Outgoing.{numbered-append}
 
--- ---- where it comes to
+-- ---- the run of a trace
 
 -- the run that was traced
 abbrev run_of : Traced → Ran
