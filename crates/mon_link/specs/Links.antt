@@ -29,13 +29,13 @@ pub record LinkState : Type 0 where
 abbrev pub unseen : (faults losses : ℕ) → LinkState
 unseen faults losses = record { told = None; faults = faults; losses = losses }
 
--- a count that rises if and only if a call fails
+-- a count that rises if and only if a call returns `Failed`
 abbrev pub count_after : {T : Type 0} → Result T Stop → ℕ → ℕ
 count_after (Ok x) count = count
 count_after (Err Failed) count = risen count
 count_after (Err OutOfMemory) count = count
 
--- a call answers what is wanted, unless memory ran out
+-- a call returns the wanted result, unless memory ran out
 abbrev pub Answers : {T : Type 0} → Result T Stop → Result T Stop → Type 0
 Answers (Ok x) wanted = wanted ≡ Ok x
 Answers (Err Failed) wanted = wanted ≡ Err Failed
@@ -43,7 +43,7 @@ Answers (Err OutOfMemory) wanted = Unit {0}
 
 -- ---- what comes
 
--- at the end the link is closed
+-- the first item of the list, or `Closed` after the last one
 abbrev pub first_of : List Got → Got
 first_of [] = Closed
 first_of (got ∷ left) = got

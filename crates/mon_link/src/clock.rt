@@ -11,7 +11,7 @@ pub trait Clock {
     /// The readings to come, if they are known.
     ghost left: { Self → Option Readings };
 
-    /// What the clock shows.
+    /// The clock's next reading, in milliseconds.
     fn now(&mut self) -> Moment
         ensures shows { IfSome (left self.old) (λ r. result ≡ reading r) }
         ensures left { left self.new ≡ option_map after (left self.old) };

@@ -29,11 +29,12 @@ pub struct Outgoing {
 
 /// Datagrams that come and go. Any of them may be lost on its way, come twice, or come late.
 pub trait Link {
-    /// What is still to come on the link, and what it was asked to send, if they can be seen. The faults and failed
-    /// allocations so far.
+    /// What is still to come on the link, and what it was asked to send, if they can be seen; and how many receives and
+    /// how many sends failed so far.
     ghost state: { Self → LinkState };
 
-    /// What comes next, after at most `wait` milliseconds. A fault is counted only if it fails.
+    /// Returns what comes next, after at most `wait` milliseconds. A fault is counted if and only if the result is
+    /// `Failed`.
     fn next(&mut self, wait: u64) -> Result<Got, Stop>
         ensures { CallsNext wait result (state self.old) (state self.new) };
 

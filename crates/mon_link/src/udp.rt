@@ -209,7 +209,8 @@ impl<R: Net + Copy> UdpLink<R> {
         Ok(Bytes::new(bytes))
     }
 
-    /// Whether a receive that failed may be tried again: it failed for a passing reason, and few before it did in a row.
+    /// Whether a receive that failed may be tried again: it failed for a passing reason, and not too many receives in a
+    /// row failed for one.
     fn passes(&mut self, said: &Error) -> bool
         ensures clients { self.new.clients ≡ self.old.clients }
         ensures faults { self.new.faults ≡ self.old.faults }
