@@ -134,7 +134,7 @@ too_long : (bytes : List ℕ) → most_read ≤ length bytes → schedule_at byt
 unfolding schedule_at
 too_long bytes long = rw (lt-ltb most_bytes (length bytes) (omega arith)) refl
 
--- what was read is refused as all that was there
+-- the bytes that were read are refused exactly as all bytes of the source
 same_refusal : (before after : Outside) (bytes whole : List ℕ) → before.left ≡ Some whole → ReadsWhole most_read before.left after.left bytes → schedule_at bytes ≡ schedule_at whole
 same_refusal before after bytes whole left read =
     elim (read_of most_read before.left after.left bytes whole left read) [
@@ -142,7 +142,7 @@ same_refusal before after bytes whole left read =
       | inr more ↦ too_long bytes (omega (arith, more.0)) ∙ sym (too_long whole more.1)
     ]
 
--- reading answers one thing
+-- reading returns one schedule
 one_schedule : (r : Result Schedule ScheduleRefused) (s t : Schedule) → r ≡ Ok s → r ≡ Ok t → s ≡ t
 one_schedule r s t a b = cc
 
@@ -181,7 +181,7 @@ not_refused : (before after : Outside) (schedule : Schedule) (line : ℕ) (kind 
 not_refused before after schedule line kind h left did =
     never_both (schedule_at did.0) schedule (At line kind) (read_back did.0 schedule h (text_read before after did.0 schedule h left did.2)) did.3
 
--- and what is refused is no text
+-- and bytes that are refused are no schedule's text
 not_replayed : (before after : Outside) (bytes : List ℕ) (line : ℕ) (kind : ScheduleKind) (fact : Trace → Type 0) → before.left ≡ Some bytes → schedule_at bytes ≡ Err (At line kind)
     → Replayed before after fact → ⊥
 not_replayed before after bytes line kind fact left refused did =
@@ -373,7 +373,7 @@ completes state words before after around left s has = record {
       imported_so state before after around left calm quiet member disk_a disk_b s (cause_of state words before after around left (task.StoreImport member disk_a disk_b) s asks has);
 }
 
--- ---- how a run ends, that was asked for and that wasn't
+-- ---- how a run ends if the arguments ask for one, and if they don't
 
 module _ {D : Type 0} (state : D → DiskState) (words : List (String Global)) where
   ends : (before after : Outside) (around left : Around D) (s : Status) → HasStatus state words before after around left s → Ends state words before after around left s

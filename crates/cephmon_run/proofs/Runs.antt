@@ -36,13 +36,13 @@ runs s h = record { count = refl; rule = refl; safe = schedule_safe (monitors_of
 
 -- ---- of what was read
 
--- what was read
+-- this was read from the source, to its end or up to the most that is read
 pub record HasRead (before after : Outside) (bytes : List ℕ) : Type 0 where
   pub tells : is_some after.left ≡ is_some before.left
   pub most : length bytes ≤ most_read
   pub whole : ReadsWhole most_read before.left after.left bytes
 
--- a schedule isn't as long as the most that is read, so that it was read to the end
+-- a schedule is shorter than the most that is read, so it was read to the end
 replayed : (before after : Outside) (bytes : List ℕ) (s : Schedule) (h : HasText s) (fact : Trace → Type 0) → HasRead before after bytes → bytes ≡ schedule_text s
     → fact (trace (monitors_of s h) s.events) → Replayed before after fact
 replayed before after bytes s h fact read text holds =
@@ -103,7 +103,7 @@ made number events before after fact h unread holds = record {
   summed = holds;
 }
 
--- the line of its summary
+-- the line is the summary line of a made schedule
 abbrev pub LineIsOf : (number events : ℕ) → List ℕ → Type 0
 LineIsOf number events line =
     (ms : Monitors) → ms.count ≡ (made_schedule number events).monitors → ms.rule ≡ (made_schedule number events).rule
@@ -116,7 +116,7 @@ made_done number events before after line most unread is written =
     let l = is (monitors_of (made_schedule number events) h) refl refl in
     made number events before after _ h unread (l.goes, subst (Appends before.held after.held) (sym l.text) written)
 
--- it went out in part
+-- a prefix of the summary line was written
 pub made_fault : (e : Stop) (number events : ℕ) (before after : Outside) (line : List ℕ) → events ≤ 100000 → Unread before after → LineIsOf number events line
     → AppendsFront before.held after.held line → (e ≡ outside.Failed → Rose before.write_faults after.write_faults)
     → MadeCause number events before after (status_of (fault_of e))
@@ -129,7 +129,7 @@ made_fault outside.OutOfMemory number events before after line most unread is wr
     let l = is (monitors_of (made_schedule number events) h) refl refl in
     ((unread.left, unread.faults), inr (made number events before after _ h unread (l.goes, subst (AppendsFront before.held after.held) (sym l.text) written)))
 
--- of a run that stops nothing is reported
+-- nothing is written of a run that stops
 nothing_told : (events n : ℕ) (r : Result (Scene × Counts) happens.Stop) (stop : happens.Stop) → (summed events n r).stop ≡ Some stop → (summed events n r).text ≡ []
 nothing_told events n (Ok done) stop is = absurd cc
 nothing_told events n (Err other) stop is = refl

@@ -43,7 +43,7 @@ Did ms (Err s) world old new number e wanted = (follow : Scene → Trace) →
 abbrev pub no_memory : ReplayStop
 no_memory = stop.World world_stop.OutOfMemory
 
--- how a fault of the output ends a replay
+-- the stop of a replay whose output couldn't be written
 abbrev pub fault_of : Stop → ReplayStop
 fault_of outside.Failed = stop.WriteFault
 fault_of outside.OutOfMemory = no_memory
@@ -54,7 +54,7 @@ StopsAs world_stop.OutOfMemory stop = Unit {0}
 StopsAs (world_stop.Spent which) stop = stop ≡ Some (happens.Spent which)
 StopsAs (world_stop.Full would_be) stop = stop ≡ Some (happens.Full would_be)
 
--- how a run's stop ends the program
+-- the status of a replay that stopped
 abbrev pub status_of : ReplayStop → Status
 status_of stop.WriteFault = status.WriteFault
 status_of (stop.World (world_stop.Spent which)) = status.Spent which

@@ -138,7 +138,7 @@ HasCause state (task.StoreExport member disk_a disk_b) before after around left 
 HasCause state (task.StoreImport member disk_a disk_b) before after around left s =
     RanOut before after around left s ⊎ ImportCause state member before after around left s
 
--- it has a cause in the arguments
+-- the arguments ask for a task that has the cause of the status
 abbrev pub IsCaused : {D : Type 0} → (D → DiskState) → List (String Global) → Outside → Outside → Around D → Around D → Status → Type 0
 IsCaused state words before after around left s = (t : Task) × AsksFor t words × HasCause state t before after around left s
 
@@ -153,7 +153,7 @@ TellsFault bytes (status.Schedule line kind) = schedule_at bytes ≡ Err (At lin
 TellsFault bytes status.OutOfMemory = Unit {0}
 TellsFault bytes other = ⊥
 
--- ---- and the other way round: which status comes
+-- ---- and the converse: which status a run ends with
 
 -- no count of faults rose
 pub record NothingFailed (before after : Outside) : Type 0 where
@@ -194,7 +194,7 @@ TellsRefusal refusal (status.NotAStore disk at) = refusal ≡ NotAStore disk at
 TellsRefusal refusal (status.Stranger kept asked) = refusal ≡ Stranger (owner_of kept) (owner_of asked)
 TellsRefusal refusal other = ⊥
 
--- The two disks, whose contents can be seen, open so.
+-- The contents of the two disks can be seen, and opening them returns this.
 abbrev pub Holds : {D : Type 0} → (D → DiskState) → Member → Around D → Result Stood Refusal → Type 0
 Holds state member around read =
     (a : List ℕ) × (b : List ℕ) × ((state around.disks.a).content.seen ≡ Some a) × ((state around.disks.b).content.seen ≡ Some b) × (opens_as member a b ≡ read)
@@ -213,11 +213,11 @@ text_task text.Keys member disk_a disk_b = task.DumpKeys member disk_a disk_b
 text_task (text.Versions from to) member disk_a disk_b = task.DumpPaxos member disk_a disk_b from to
 text_task text.Export member disk_a disk_b = task.StoreExport member disk_a disk_b
 
--- If the arguments are faulty, the status says so. If no device fails, the status says how the run of the schedule that
--- was read or made ends; which line is at fault if the bytes, however many, are no schedule's text; and why disks that
--- represent no store of the member represent none. On disks with a store of its own, or on which one is to be created,
--- the monitor serves. A client follows. The status of a command on a stopped store, and of a comparison, is that of the
--- end that follows from what the disks and the source hold.
+-- If the arguments are faulty, the status says so. The rest holds if no device fails, unless memory ran out. The status
+-- says how the run of the schedule that was read or made ends; which line is at fault if the bytes, however many, are
+-- no schedule's text; and why disks that represent no store of the member represent none. On disks with a store of its
+-- own, or on which one is to be created, the monitor serves. A client follows. The status of a command on a stopped
+-- store, and of a comparison, is that of the end that follows from what the disks and the source hold.
 pub record Completes {D : Type 0} (state : D → DiskState) (words : List (String Global)) (before after : Outside) (around left : Around D) (s : Status) : Type 0 where
   pub faulty : AsksForNone words → s ≡ status.Words
   pub replayed : (schedule : Schedule) (ms : Monitors) → AsksFor task.Replay words → NothingFailed before after
@@ -246,7 +246,7 @@ pub record Completes {D : Type 0} (state : D → DiskState) (words : List (Strin
 
 -- ---- what is promised of a run
 
--- The status has its cause, and it is the one that comes.
+-- The status has its cause, and it is the status that `Completes` requires.
 pub record Ends {D : Type 0} (state : D → DiskState) (words : List (String Global)) (before after : Outside) (around left : Around D) (s : Status) : Type 0 where
   pub status : HasStatus state words before after around left s
   pub complete : Completes state words before after around left s

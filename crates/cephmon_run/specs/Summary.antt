@@ -43,7 +43,7 @@ joined_numbers [] = []
 joined_numbers (n ∷ []) = decimal n
 joined_numbers (n ∷ m ∷ ns) = decimal n ++ 44 ∷ joined_numbers (m ∷ ns)
 
--- a member's name in quotes, and a colon
+-- a name of the JSON object in quotes, a colon, and the text after it
 abbrev pub named : List ℕ → List ℕ → List ℕ
 named name rest = 34 ∷ (name ++ 34 ∷ 58 ∷ rest)
 
@@ -77,7 +77,7 @@ summed events n (Err stop) = record { text = []; stop = Some stop }
 abbrev pub summary : Monitors → List schedule.Event → Summary
 summary ms events = summed (length events) ms.count (counted_from ms first_scene no_counts events)
 
--- these bytes are written of it, and nothing stops it
+-- the run of this summary isn't stopped, and the bytes are its line
 pub record IsLine (s : Summary) (line : List ℕ) : Type 0 where
   pub goes : s.stop ≡ None
   pub text : s.text ≡ line

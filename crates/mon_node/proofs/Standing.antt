@@ -55,7 +55,7 @@ renewing_on old due x y (inr s) = (record { side = other_side old.side; journal 
 
 -- ---- a transaction
 
--- between the two it is where it was, or after the record
+-- after a transaction was applied the store is where it was, if the transaction is empty, or after the record
 changed_within : (ops : List Op) (old s : Stood) → s ≡ changed ops old → IsWithin ops old s
 changed_within [] old s e = inl e
 changed_within (op ∷ ops) old s e = inr (inl e)
@@ -71,14 +71,14 @@ renewing_within ops old mid s is (inr e) = inr (inr (e ∙ ap renewed is))
 -- ---- the disks of a store
 
 module _ {D : Type 0} (state : D → DiskState) where
-  -- on the disks of a store in use, it is there
+  -- a crash leaves the disks of a store in use with that store
   leaves_it : (side : Side) (live other : D) (j : Journal) (m : Store) → Sound j m (state live).known (state live).content (state other).content
       → Leave (disks state (of_a side live other) (of_b side live other)) (λ s. s ≡ record { side = side; journal = j; kv = m })
   leaves_it side live other j m sound = λ x y left there.
       let s : StandsOn side j m x y = each_pair state side live other (StandsOn side j m) (stands_now j m (state live).known (state live).content (state other).content sound side) x y left there in
       (record { side = side; journal = j; kv = m }, s, refl)
 
-  -- both can be seen, if the live one still can and the other is the same
+  -- the contents of both disks can be seen, if those of the live one still can and the other disk is the same
   pub live_tells : (side now : Side) (live new other left : D) → now ≡ side → left ≡ other → is_some (state new).content.seen ≡ is_some (state live).content.seen
       → BothTell (disks state (of_a side live other) (of_b side live other)) → BothTell (disks state (of_a now new left) (of_b now new left))
   live_tells side now live new other left same kept tells both = rw (same, kept) (by side both)
@@ -87,13 +87,13 @@ module _ {D : Type 0} (state : D → DiskState) where
       by A both = (tells ∙ both.0, both.1)
       by B both = (both.0, tells ∙ both.1)
 
-  -- or the other one does and the live one is the same
+  -- or if those of the other one still can and the live disk is the same
   pub other_tells : (side : Side) (live other a b : D) → of_live side a b ≡ live → is_some (state (of_live (other_side side) a b)).content.seen ≡ is_some (state other).content.seen
       → BothTell (disks state (of_a side live other) (of_b side live other)) → BothTell (disks state a b)
   other_tells A live other a b kept tells both = (ap (λ (d : D). is_some (state d).content.seen) kept ∙ both.0, tells ∙ both.1)
   other_tells B live other a b kept tells both = (tells ∙ both.0, ap (λ (d : D). is_some (state d).content.seen) kept ∙ both.1)
 
-  -- which is the live one
+  -- the contents of the live disk can be seen
   pub live_told : (side : Side) (live other : D) → BothTell (disks state (of_a side live other) (of_b side live other)) → is_some (state live).content.seen ≡ true
   live_told A live other both = both.0
   live_told B live other both = both.1
@@ -173,7 +173,7 @@ through_as d P Q h from to k = record { mid = k.mid; written = between_as d P Q 
 pub pass_as : (old new : Disks) (P Q : Stood → Type 0) → ((s : Stood) → P s → Q s) → Pass P old new → Pass Q old new
 pass_as old new P Q h k = record { a = k.a; b = k.b; tell = k.tell; through = through_as new P Q h (moments old) (moments new) k.through }
 
--- and later what a crash left then is what it left
+-- later disks have the same images at earlier times
 module _ (d e : Disks) (a : Lasts d.a e.a) (b : Lasts d.b e.b) where
   pub between_later : (P : Stood → Type 0) (from to : ℕ × ℕ) → to.0 ≤ d.a.moment → to.1 ≤ d.b.moment → Between d P from to → Between e P from to
   between_later P from to past_a past_b k = record {
