@@ -6,7 +6,8 @@ use mon_link::{Got, MemoryLink, MemorySink, MemorySource};
 use std::alloc::Global;
 use std::test::Fail;
 
-/// How a client with one iteration ends, and how many requests it sent, over a link that returns this, or whose first call fails. It writes nothing.
+/// Runs a client for one iteration, over a link that returns these and whose calls with these numbers fail. Returns its
+/// status, the number of its requests, and the number of bytes that it wrote.
 fn followed(
     alloc: Global,
     got: Vec<Got>,

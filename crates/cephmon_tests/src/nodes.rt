@@ -8,23 +8,23 @@ use mon_link::{Got, MemoryLink, MemorySink, MemorySource, Peer};
 use std::alloc::Global;
 use std::test::Fail;
 
-/// The only monitor serves for at most nine iterations.
+/// The arguments of a node that is the only monitor, for at most nine iterations.
 const ALONE: &str = "node 0 1 classic 127.0.0.1:6789 a b 9";
 
-/// A client asks it to set `a` to `x`.
+/// A client's request to set `a` to `x`.
 pub const SET: &[u8] = b"\x01\x18\0\x01\0\0\0\0\0\0\0\0\x07\0\0\0\0\0\0\0\x01\x01a\x01\0\0\0x";
 
-/// It is done, as version 1.
+/// The reply: the command is done, as version 1.
 const DONE: &[u8] = b"\x01\x19\0\x01\x02\0\0\0\0\0\0\0\x07\0\0\0\0\0\0\0\x01\x01\0\0\0\0\0\0\0";
 
-/// A client asks it for the map of the key-value service.
+/// A client's request for the map of the key-value service.
 const SHOW: &[u8] = b"\x01\x18\0\x01\0\0\0\0\0\0\0\0\x08\0\0\0\0\0\0\0\x04\x01";
 
-/// It is that of version 1, in which `a` is `x`; after a second start.
+/// The reply after a second start: the map of version 1, in which `a` is `x`.
 const SHOWN: &[u8] =
     b"\x01\x19\0\x01\x04\0\0\0\0\0\0\0\x08\0\0\0\0\0\0\0\x02\x01\x01\0\0\0\0\0\0\0\x01\0\0\0\0\0\0\0\x0b\0\0\0\x01\0\0\0\x01a\x01\0\0\0x";
 
-/// Datagrams of a client.
+/// These datagrams, as a client sends them.
 pub fn asked(alloc: Global, datagrams: &[&[u8]]) -> Result<Vec<Got>, Fail> {
     let mut got = Vec::new(alloc);
     for bytes in datagrams {
@@ -47,7 +47,8 @@ pub fn serve(alloc: Global, words: &[String], disks: NodeDisks<MemoryDisk>, got:
     )
 }
 
-/// How a node ended, whether all that it sent is this answer to the client, and in how many iterations it waited for something.
+/// The status of a node that ended, whether all that it sent is this answer to the client, and how often it asked its
+/// link.
 fn told(left: &Left, answer: &[u8]) -> (Status, bool, usize) {
     let is_answer = match left.link.sent() {
         [one] => one.to == Peer::Client(3) && one.bytes.as_slice() == answer,

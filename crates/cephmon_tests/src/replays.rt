@@ -22,8 +22,8 @@ const TRACE: &str = "monitors 1 classic
 end events=3 log=1
 ";
 
-/// How a replay of the schedule ends, and whether it wrote this, if the read or the write of that number fails; none
-/// has the number 0.
+/// The status of a replay of the schedule of which the read and the write with these numbers fail, and whether it wrote
+/// this. Calls are numbered from 1, so none fails for the number 0.
 fn replayed(alloc: Global, read: u64, write: u64, wanted: &str) -> Result<(Status, bool), Fail> {
     let words = words_of(alloc, "replay")?;
     let bytes = SCHEDULE.as_bytes().to_vec(alloc)?;

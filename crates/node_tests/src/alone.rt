@@ -8,31 +8,31 @@ use mon_types::Rank;
 use std::alloc::Global;
 use std::test::Fail;
 
-/// A client asks the one monitor of its map to set `a` to `x`.
+/// A client's request to the only monitor of a map: set `a` to `x`.
 const SET: &[u8] = b"\x01\x18\0\x01\0\0\0\0\0\0\0\0\x07\0\0\0\0\0\0\0\x01\x01a\x01\0\0\0x";
 
-/// It is done, as version 1.
+/// The reply: the command is done, as version 1.
 const DONE: &[u8] = b"\x01\x19\0\x01\x02\0\0\0\0\0\0\0\x07\0\0\0\0\0\0\0\x01\x01\0\0\0\0\0\0\0";
 
-/// A client asks the one monitor of its map, or one of three, for the map of the key-value service.
+/// A client's request for the map of the key-value service: to the only monitor of a map, and below to one of three.
 const SHOW: &[u8] = b"\x01\x18\0\x01\0\0\0\0\0\0\0\0\x08\0\0\0\0\0\0\0\x04\x01";
 
 const SHOW_OF_THREE: &[u8] = b"\x01\x18\0\x03\0\0\0\0\0\0\0\0\x08\0\0\0\0\0\0\0\x04\x01";
 
-/// Monitor 1 of 3 probes, and monitor 1 of 2, and monitor 0 of 3.
+/// A probe of monitor 1 of 3, and below of monitor 1 of 2 and of monitor 0 of 3.
 const PROBE: &[u8] = b"\x01\x01\x01\x03\x01\0\0\0\0\0\0\0";
 
 const PROBE_OF_TWO: &[u8] = b"\x01\x01\x01\x02\x01\0\0\0\0\0\0\0";
 
 const OWN_PROBE: &[u8] = b"\x01\x01\0\x03\x01\0\0\0\0\0\0\0";
 
-/// Monitor 1 of 3 answers a client.
+/// A reply of monitor 1 of 3 to a client.
 const REPLY: &[u8] = b"\x01\x19\x01\x03\x01\0\0\0\0\0\0\0\x08\0\0\0\0\0\0\0\x07";
 
 /// The file of a new store of monitor 0 of 3 with the first header, which is begun again at once.
 const FIRST_HEADER: &[u8] = b"\x01CEPHMON1\0\x03\0\0\0\0\0\0\x01\0\0\0\0\0\0\0\0";
 
-/// Whether this is sent to the client: its command is done.
+/// Whether this is the reply to the client that its command is done.
 fn is_answer(sent: &Outgoing) -> bool {
     sent.to == Peer::Client(3) && sent.bytes.as_slice() == DONE
 }
@@ -46,7 +46,8 @@ fn answers(link: &MemoryLink) -> Option<usize> {
     }
 }
 
-/// How a node ends that is given the client's command and whose disk A fails, how often it answered, and whether the command is kept.
+/// Runs a node that is given the client's command, and whose disk A fails. Returns its end, how many replies it sent,
+/// and whether the command is kept.
 fn command(alloc: Global, call: u64, image: u8) -> Result<(NodeEnd, Option<usize>, bool), Fail> {
     let member = member(0, 1)?;
     let got = one_datagram(alloc, Peer::Client(3), SET)?;
@@ -76,7 +77,8 @@ fn a_command_is_answered_once_it_is_kept(rt: HostRuntime) -> Result<(), Fail> {
     Ok(())
 }
 
-/// How a node of three ends whose checkpoint is due at its start and whose disk B fails from a call on, and how many messages it sent.
+/// Runs a node of three whose checkpoint is due at its start, and whose disk B fails from a call on. Returns its end,
+/// and how many messages it sent.
 fn checkpoint(alloc: Global, call: u64) -> Result<(NodeEnd, usize), Fail> {
     let member = member(0, 3)?;
     let b = failing(alloc, call, 0)?;
@@ -103,8 +105,8 @@ fn used_turns(ended: &Ran, turns: u64) -> bool {
         && ended.link.waits().len() as u64 == turns
 }
 
-/// Whether a monitor of three uses an iteration for each datagram that comes, how many it sends, its two probes among
-/// them, and how long its disk is then.
+/// Runs a monitor of three over these datagrams. Returns whether it used one iteration per datagram, how many messages
+/// it sent, its two probes among them, and how long its disk A is then.
 fn heard(alloc: Global, got: Vec<Got>) -> Result<(bool, usize, u64), Fail> {
     let turns = got.len() as u64;
     let member = member(0, 3)?;
@@ -120,7 +122,7 @@ fn heard(alloc: Global, got: Vec<Got>) -> Result<(bool, usize, u64), Fail> {
     Ok((used_turns(&ended, turns), ended.link.sent().len(), length))
 }
 
-/// How a monitor of three hears a datagram.
+/// Runs a monitor of three over one datagram, as `heard` does.
 fn hears(alloc: Global, from: Peer, bytes: &[u8]) -> Result<(bool, usize, u64), Fail> {
     heard(alloc, one_datagram(alloc, from, bytes)?)
 }
@@ -186,7 +188,8 @@ fn idle_link(alloc: Global, idle: usize, failing: u64) -> Result<MemoryLink, Fai
     Ok(MemoryLink::new(alloc, got, failing, lost))
 }
 
-/// How a monitor of three ends whose link does this, in which iteration, and how many messages it sent.
+/// Runs a monitor of three over a link of `idle_link`. Returns its end, how many iterations it began, and how many
+/// messages it was to send.
 fn end_of(
     alloc: Global,
     idle: usize,
@@ -214,8 +217,7 @@ fn a_node_ends_as_its_link_does(rt: HostRuntime) -> Result<(), Fail> {
     Ok(())
 }
 
-/// A monitor of three whose link is idle four times, once it made its five iterations while its clock shows these
-/// times.
+/// Runs a monitor of three for five iterations, over a link that is idle four times, while its clock shows these times.
 fn waiting(alloc: Global, moments: &[u64]) -> Result<Ran, Fail> {
     let member = member(1, 3)?;
     let link = idle_link(alloc, 4, 9)?;

@@ -32,7 +32,8 @@ fn begun(alloc: Global, member: Member) -> Running
     }
 }
 
-/// What a monitor is given: its start, or that a client sets a key of one letter to a value of one letter, or asks for that map.
+/// The input of a monitor: its start, a client's command that sets a key of one letter to a value of one letter, or a
+/// client's request for the map.
 #[derive(Clone, Copy)]
 enum Act {
     Start,
@@ -149,7 +150,7 @@ fn take(alloc: Global, one: &mut Running, act: Act, now: Moment) -> Option<u32>
     }
 }
 
-/// Whether the map that is kept of the key-value service has these values under `a` and `b`, and no others.
+/// Whether the cached map of the key-value service has these values under `a` and `b`, and no others.
 fn holds(core: &Core, a: Option<&[u8]>, b: Option<&[u8]>) -> bool {
     let Some(ShownMap::Kv(map)) = core.cached(Service::Kv) else {
         return false;
@@ -163,7 +164,8 @@ fn holds(core: &Core, a: Option<&[u8]>, b: Option<&[u8]>) -> bool {
 struct Seen {
     /// Whether a timer is due before its start and after it.
     due: (bool, bool),
-    /// Whether the key-value map is kept before it is shown, whether it is the right one then, and after the last set.
+    /// Whether the key-value map is cached before it is shown; and whether the cached map is right after it was shown,
+    /// and after the last set.
     kept: (bool, bool, bool),
     log_kept: bool,
     /// How many incrementals of the last set are applied.

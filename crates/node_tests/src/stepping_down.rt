@@ -7,18 +7,18 @@ use mon_types::Rank;
 use std::alloc::Global;
 use std::test::Fail;
 
-/// Monitor 1 of 2 answers the probe of monitor 0.
+/// The answer of monitor 1 of 2 to the probe of monitor 0.
 const PROBE_REPLY: &[u8] =
     b"\x01\x02\x01\x02\x01\0\0\0\0\0\0\0\0\0\0\0\0\0\0\0\0\0\0\0\0\0\0\0\0\0";
 
-/// It defers to monitor 0.
+/// Monitor 1 defers to monitor 0.
 const ACK: &[u8] = b"\x01\x04\x01\x02\x01\0\0\0\0\0\0\0";
 
-/// It promises the number 100, and has accepted and committed nothing.
+/// Monitor 1 promises the number 100, and has accepted and committed nothing.
 const LAST: &[u8] =
     b"\x01\x07\x01\x02\x02\0\0\0\0\0\0\0\x64\0\0\0\0\0\0\0\0\0\0\0\0\0\0\0\0\0\0\0\0\0\0\0\x01\x01\0\0\0\0\0\0\0\0\0\0";
 
-/// It acknowledges a lease.
+/// Monitor 1 acknowledges a lease.
 const LEASE_ACK: &[u8] = b"\x01\x0c\x01\x02\x02\0\0\0\0\0\0\0\0\0\0\0\0\0\0\0";
 
 /// What monitor 0 of 2 hears: it is elected, and this many of its leases are acknowledged.
@@ -56,7 +56,7 @@ fn sent(alloc: Global, acknowledged: usize, moments: &[u64], turns: u64) -> Resu
     kinds(alloc, &link)
 }
 
-/// It is elected at 0 in three iterations, and renews its lease at 3000, 6000 and 9000. Nothing comes at 9999.
+/// Monitor 0 is elected at 0 in three iterations, and renews its lease at 3000, 6000 and 9000. Nothing comes at 9999.
 const UNHEARD: &[u64] = &[0, 0, 0, 0, 0, 0, 0, 3000, 6000, 9000, 9999, 10_000];
 
 // PROBE, PROPOSE, VICTORY, COLLECT, four LEASEs, and PROBE.
@@ -69,7 +69,7 @@ fn a_leader_that_nobody_answers_steps_down(rt: HostRuntime) -> Result<(), Fail> 
     Ok(())
 }
 
-/// The lease that it gives at 0 is acknowledged at 0, and the one of 3000 isn't.
+/// The lease that monitor 0 gives at 0 is acknowledged at 0, and the one that it gives at 3000 isn't.
 const HEARD_ONCE: &[u64] = &[
     0, 0, 0, 0, 0, 0, 0, 0, 0, 3000, 6000, 9000, 12_000, 12_999, 13_000,
 ];
