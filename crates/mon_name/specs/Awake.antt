@@ -35,7 +35,7 @@ abbrev pub unless_stood : Bool → Result Got Stop → Result Got Stop
 unless_stood stood (Ok got) = if stood then Ok Closed else Ok got
 unless_stood stood (Err e) = Err e
 
--- The link below was asked once, and then the clock was read. What came is dropped if there was a gap.
+-- The link below was asked once, and then the clock was read. If there was a gap, what came is dropped; an error isn't.
 pub record AsksAwake (wait : ℕ) (result : Result Got Stop) (old new : Gaps) (below below_after : LinkState) : Type 0 where
   pub gave : Result Got Stop
   pub asks : CallsNext wait gave below below_after

@@ -37,8 +37,9 @@ impl<L: Link + Drop, C: Clock + Drop> Awake<L, C> {
 impl<L: Link + Drop, C: Clock + Drop> Link for Awake<L, C> {
     ghost state = { λ r. record { told = None; faults = (L.state r.inner).faults; losses = (L.state r.inner).losses } };
 
-    /// Reads the clock, asks the link below once for what comes, and reads the clock again. After a gap it is closed, and
-    /// doesn't ask the link below. What that gave before a gap was seen is dropped.
+    /// Reads the clock, asks the link below once for what comes, and reads the clock again. After a gap the result is
+    /// `Closed`, and the link below isn't asked. If a gap is seen after it was asked, what came is dropped, but an
+    /// error is returned.
     fn next(&mut self, wait: u64) -> Result<Got, Stop>
         ensures next { NextAwake wait result self.old.gaps self.new.gaps
             (L.state self.old.inner) (L.state self.new.inner) }
@@ -54,7 +55,7 @@ impl<L: Link + Drop, C: Clock + Drop> Link for Awake<L, C> {
         Ok(if stood { Got::Closed } else { got })
     }
 
-    /// Reads the clock, and sends a datagram. After a gap nothing is sent, and the answer is that nothing failed.
+    /// Reads the clock, and sends a datagram. After a gap nothing is sent, and the result is `Ok`.
     fn send(&mut self, to: Peer, bytes: &[u8]) -> Result<(), Stop>
         ensures send { SendAwake to bytes.now result self.old.gaps self.new.gaps
             (L.state self.old.inner) (L.state self.new.inner) }

@@ -23,7 +23,7 @@ impl<C: Clock + Drop> Model for Gaps<C> {
 }
 
 impl<C: Clock + Drop> Gaps<C> {
-    /// A clock that wasn't read yet, and how many milliseconds between two readings are no gap.
+    /// A clock that wasn't read yet. More than `most` milliseconds between two readings are a gap.
     pub fn new(clock: C, most: u64) -> Gaps<C>
         ensures { result ≡ record { left = C.left clock; most = most; last = None; stood = false } }
     {
@@ -42,7 +42,7 @@ impl<C: Clock + Drop> Gaps<C> {
         self.stood
     }
 
-    /// Reads the clock. Whether there was a gap, now or before.
+    /// Reads the clock. Returns whether there was a gap, now or before.
     pub fn reads(&mut self) -> bool
         ensures reads { Reads self.old self.new }
         ensures stood { result ≡ self.new.stood }

@@ -13,12 +13,12 @@ joined separator (text ∷ other ∷ texts) = text ++ separator ∷ joined separ
 
 -- ---- how this many of them are read, each in the same way
 
--- the next part, which is there
+-- the next part; there is none after the last one
 abbrev pub part : ℕ → Option (List ℕ) → Result (List ℕ × Option (List ℕ)) ScheduleKind
 part separator None = Err kind.Word
 part separator (Some bytes) = Ok (cut separator bytes)
 
--- the same, read so
+-- the next part, read by `read`
 unfoldable pub part_of : {A : Type 0} → ℕ → (List ℕ → Result A ScheduleKind) → Option (List ℕ) → Result (A × Option (List ℕ)) ScheduleKind
 part_of separator read rest = do
   next ← part separator rest

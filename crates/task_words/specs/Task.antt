@@ -40,8 +40,8 @@ words_of (StoreImport member disk_a disk_b) = store_words (codes "store-import")
 abbrev pub most_made : ℕ
 most_made = MOST_MADE
 
--- Which tasks have arguments. A member's rank is below the number of its monitors, of which there are 1 to 15: each member is
--- so.
+-- The tasks that arguments can ask for. A member needs no bound here: its rank is always below the number of its
+-- monitors, of which there are 1 to 15.
 abbrev pub HasWords : Task → Type 0
 HasWords (Made number events) = (number ≤ 2 ^ 62) × (1 ≤ events) × (events ≤ most_made)
 HasWords (Node member rule addresses disk_a disk_b turns) =
@@ -51,7 +51,7 @@ HasWords (Follow service addresses turns) =
 HasWords (DumpPaxos member disk_a disk_b from to) = (from ≤ to) × (to ≤ 2 ^ 62)
 HasWords other = Unit {0}
 
--- arguments of a task, whatever their first bytes and their lengths
+-- the arguments of a task, whether or not each of them is allowed
 abbrev pub SpellsTask : List (List ℕ) → Type 0
 SpellsTask words = (t : Task) × (HasWords t × (words ≡ words_of t))
 
@@ -71,11 +71,11 @@ pub record Asks (t : Task) (words : List (List ℕ)) : Type 0 where
 abbrev pub AsksFor : Task → List (String Global) → Type 0
 AsksFor t words = Asks t (map string_bytes words)
 
--- they ask for nothing
+-- the arguments ask for no task
 abbrev pub AsksForNone : List (String Global) → Type 0
 AsksForNone words = (t : Task) → ¬ (AsksFor t words)
 
--- they ask for something
+-- the arguments ask for a task
 abbrev pub IsAsked : List (String Global) → Type 0
 IsAsked words = (t : Task) × AsksFor t words
 

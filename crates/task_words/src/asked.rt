@@ -34,7 +34,7 @@ fn are_words(words: &[String]) -> bool
     words.iter().all(|word| is_word(word.as_str().as_bytes()))
 }
 
-/// Whether these are the texts of a made schedule.
+/// Whether these texts after `made` ask for a made schedule.
 fn asks_made(texts: &[String]) -> bool
     ensures { Tells result (SpellsTask (codes "made" ∷ map string_bytes texts.now)) }
 {
@@ -47,7 +47,7 @@ fn asks_made(texts: &[String]) -> bool
     number_of(events.as_str().as_bytes(), 1, MOST_MADE).is_some()
 }
 
-/// Whether these are the texts of a node.
+/// Whether these texts after `node` ask for a node.
 fn asks_node(texts: &[String]) -> bool
     ensures { Tells result (SpellsTask (codes "node" ∷ map string_bytes texts.now)) }
 {
@@ -66,7 +66,7 @@ fn asks_node(texts: &[String]) -> bool
     number_of(turns.as_str().as_bytes(), 1, GREATEST).is_some()
 }
 
-/// Whether these are the texts of a client that follows.
+/// Whether these texts after `follow` ask for a client that follows.
 fn asks_follow(texts: &[String]) -> bool
     ensures { Tells result (SpellsTask (codes "follow" ∷ map string_bytes texts.now)) }
 {
@@ -85,7 +85,7 @@ fn asks_follow(texts: &[String]) -> bool
     number_of(turns.as_str().as_bytes(), 1, MOST_FOLLOWED).is_some()
 }
 
-/// Whether these are the texts of a command on a store that takes no others.
+/// Whether these texts ask for a command on a store that takes a member and two files, and no other texts.
 fn are_store(texts: &[String]) -> bool
     ensures { Tells result (AreStore (map string_bytes texts.now)) }
 {
@@ -95,7 +95,7 @@ fn are_store(texts: &[String]) -> bool
     member_of(rank.as_str().as_bytes(), monitors.as_str().as_bytes()).is_some()
 }
 
-/// Whether these are the texts of a dump of versions.
+/// Whether these texts after `dump-paxos` ask for a dump of versions.
 fn asks_versions(texts: &[String]) -> bool
     ensures { Tells result (SpellsTask (codes "dump-paxos" ∷ map string_bytes texts.now)) }
 {

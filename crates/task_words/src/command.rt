@@ -43,8 +43,8 @@ fn subcommand<'a>(
 }
 
 /// The command with one subcommand more, which requires these texts, in order.
-// If the subcommand can't be made, what was built is dropped by a call. After a `?` the prover would go through all of its parts, once for
-// each subcommand of a chain.
+// If the subcommand can't be made, what was built is dropped by a call. After a `?` the prover would go through all of
+// its parts, once per subcommand of a chain.
 fn with_texts<'a>(
     alloc: Global,
     command: Command<'a>,
@@ -62,14 +62,14 @@ fn with_texts<'a>(
     }
 }
 
-/// The command with that of a client that follows.
+/// The command with the subcommand of a client that follows.
 fn with_follow<'a>(alloc: Global, command: Command<'a>) -> Result<Command<'a>, AllocError>
     ensures { IfOk result (λ c. app_of c ≡ with_texts (app_of command.entry) (codes "follow") follow_texts) }
 {
     with_texts(alloc, command, "follow", FOLLOW_TEXTS.as_slice())
 }
 
-/// The command with one more on a store.
+/// The command with one subcommand more, which works on a store.
 fn with_store<'a>(
     alloc: Global,
     command: Command<'a>,
@@ -80,14 +80,15 @@ fn with_store<'a>(
     with_texts(alloc, command, name, STORE_TEXTS.as_slice())
 }
 
-/// The command with that which dumps versions.
+/// The command with the subcommand that dumps versions.
 fn with_versions<'a>(alloc: Global, command: Command<'a>) -> Result<Command<'a>, AllocError>
     ensures { IfOk result (λ c. app_of c ≡ with_texts (app_of command.entry) (codes "dump-paxos") versions_texts) }
 {
     with_texts(alloc, command, "dump-paxos", VERSIONS_TEXTS.as_slice())
 }
 
-/// One level of subcommands, and no form of help or version, with those for schedules and monitors. The arguments are those after the program's name.
+/// The command with the subcommands for schedules and monitors. It has one level of subcommands, and no form of help or
+/// version. Its arguments are those after the program's name.
 fn first_commands<'a>(alloc: Global) -> Result<Command<'a>, AllocError>
     ensures { IfOk result (λ c. app_of c ≡ first_commands) }
 {
