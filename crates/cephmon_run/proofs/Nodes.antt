@@ -29,7 +29,7 @@ module _ {D : Type 0} (state : D → DiskState) (me : Me) (turns : ℕ) (before 
   served (end.Spent which) h = h
   served end.OutOfMemory h = inr (inr h)
 
-  -- the status that is answered
+  -- the status that is returned
   pub ends_unopened : (why : OpenStop) (s : Status) → s ≡ status_of_opening why → Unopened state me.member before after why → NodeCause state me turns before after s
   ends_unopened why s is h = subst (NodeCause state me turns before after) (sym is) (unopened why h)
 

@@ -1,4 +1,4 @@
--- What a schedule that has a text is to the world.
+-- The monitors and the events of a schedule that has a text, as the world takes them.
 use Rattle.std.proofs.Common.{◌≡◌, ℕ, ◌+◌, ◌≤◌, leb, List, [], ◌∷◌, length, IsTrue, sym, subst, arith, length-append}
 use Rattle.std.specs.List.{AllByRecursion, flat_map, list_all}
 use Rattle.std.proofs.Math.Bridge.{le_prop}
@@ -30,7 +30,7 @@ same_when : (n m : ℕ) (a : n ≤ 15) (b : m ≤ 15) (r q : Rule) → n ≡ m �
 same_when n m a b r q e f =
     subst (λ (m : ℕ). (b : m ≤ 15) → monitors n a r ≡ monitors m b q) e (λ b. λ i. monitors n (le_prop a b i) (f i)) b
 
--- how many there are and their rule is all that there is to them
+-- monitors with equal counts and rules are equal
 pub same_monitors : (ms others : Monitors) → ms.count ≡ others.count → ms.rule ≡ others.rule → ms ≡ others
 same_monitors ms others = same_when ms.count others.count ms.most others.most ms.rule others.rule
 

@@ -57,7 +57,7 @@ writes_behind (Err (stop.World (world_stop.Full would_be))) a b c lines t p w = 
 writes_behind (Err stop.WriteFault) a b c lines t p w = front_behind a b c lines t.text p w
 writes_behind (Err (stop.World world_stop.OutOfMemory)) a b c lines t p w = front_behind a b c lines t.text p w
 
--- a write stopped in a trace
+-- a prefix of the trace was written before a write failed
 pub writes_fault : (s : Stop) (a b : Option (List ℕ)) (t : Trace) → AppendsFront a b t.text → Writes (Err (fault_of s)) a b t
 writes_fault outside.Failed a b t p = p
 writes_fault outside.OutOfMemory a b t p = p
@@ -77,7 +77,7 @@ did_stop ms (world_stop.Spent which) world a number e wanted stops follow =
 did_stop ms (world_stop.Full would_be) world a number e wanted stops follow =
     subst (λ (r : Result (Scene × StepLine) happens.Stop). Writes (Err (stop.World (world_stop.Full would_be))) a a (goes_on number e follow r)) (sym stops) (refl, Appends-nil a)
 
--- its lines stopped on their way
+-- a prefix of its lines was written
 pub did_fault : (ms : Monitors) (s : Stop) (line : StepLine) (world : World) (a b : Option (List ℕ)) (number : ℕ) (e : Event) (wanted : Result (Scene × StepLine) happens.Stop) (bs : List ℕ)
     → bs ≡ step_lines number e line → Does ms (Ok line) world wanted → AppendsFront a b bs → Did ms (Err (fault_of s)) world a b number e wanted
 did_fault ms s line world a b number e wanted bs is does p follow =

@@ -14,7 +14,7 @@ use Rattle.mon_node.specs.Serving.{IsOfInput}
 use Rattle.mon_node.specs.declared.end.NodeEnd.TheVariants as end
 use Rattle.mon_node.specs.declared.end.NodeEnd.{NodeEnd}
 
--- an input's end counts none of the link
+-- an end that an input may have counts no fault of the link
 pub no_link_fault : {T : Type 0} (result : Result T NodeEnd) (n : ℕ) → IfErr result IsOfInput → n ≡ faults_by result n
 no_link_fault (Ok x) n h = refl
 no_link_fault (Err end.Closed) n h = absurd h
@@ -25,7 +25,7 @@ no_link_fault (Err (end.Full would_be)) n h = refl
 no_link_fault (Err (end.Spent spent)) n h = refl
 no_link_fault (Err end.OutOfMemory) n h = refl
 
--- what is heard counts none of the disks
+-- an end at hearing counts no fault of the disks
 pub no_disk_fault : (h : Heard) (e : NodeEnd) (o : Outside) (a b : ℕ) → Hears h (Err e) o → DisksCountAt e a b a b
 no_disk_fault h end.Closed o a b heard = (refl, refl)
 no_disk_fault h end.LinkFault o a b heard = (refl, refl)
@@ -35,7 +35,7 @@ no_disk_fault h end.DiskFault o a b heard = absurd heard
 no_disk_fault h (end.Full would_be) o a b heard = absurd heard
 no_disk_fault h (end.Spent spent) o a b heard = absurd heard
 
--- nor does a core that stops
+-- nor does the end of a core that stops
 pub core_counts : (s : RoleStop) (a b : ℕ) → DisksCountAt (of_core s) a b a b
 core_counts stop.OutOfMemory a b = (refl, refl)
 core_counts (stop.Spent which) a b = (refl, refl)
@@ -44,7 +44,7 @@ pub core_is : (s : RoleStop) → IsOfInput (of_core s)
 core_is stop.OutOfMemory = tt
 core_is (stop.Spent which) = tt
 
--- what a store doesn't keep is an input's
+-- a transaction that isn't kept has an end that an input may have
 pub unkept_is : (ops : List Op) (old new : Store) (e : NodeEnd) → Keeps {T = Unit {0}} ops old new (Err e) → IsOfInput e
 unkept_is ops old new (end.Full would_be) h = tt
 unkept_is ops old new end.DiskFault h = tt
@@ -54,7 +54,7 @@ unkept_is ops old new end.TurnsUsed h = absurd h
 unkept_is ops old new end.LinkFault h = absurd h
 unkept_is ops old new (end.Spent spent) h = absurd h
 
--- nor does what isn't sent
+-- nor does an end at sending
 module _ (next : ℕ) where
   pub unsent_counts : (e : NodeEnd) (a b new_a new_b : ℕ) → IsSpent next e → new_a ≡ a → new_b ≡ b → DisksCountAt e a b new_a new_b
   unsent_counts end.OutOfMemory a b new_a new_b why x y = (x, y)
@@ -74,6 +74,6 @@ module _ (next : ℕ) where
   unsent_is end.LinkFault why = absurd why
   unsent_is (end.Full would_be) why = absurd why
 
--- a prefix of two calls, of which the first counted nothing
+-- if the first of two calls counts nothing, both count what the second counts
 pub counts_on : (e : NodeEnd) (a b mid_a mid_b new_a new_b : ℕ) → mid_a ≡ a → mid_b ≡ b → DisksCountAt e mid_a mid_b new_a new_b → DisksCountAt e a b new_a new_b
 counts_on e a b mid_a mid_b new_a new_b x y h = subst (λ (n : ℕ). DisksCountAt e n b new_a new_b) x (subst (λ (n : ℕ). DisksCountAt e mid_a n new_a new_b) y h)

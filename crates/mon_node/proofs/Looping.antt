@@ -29,11 +29,11 @@ pub start_as : (rank : ℕ) (m : Stood) (clock read : Option Readings) (link : O
 start_as rank m clock read link first now read_is now_is =
     ap (at_start first) now_is ∙ ap (λ (c : Option Readings). at_start first (unstarted rank m c link)) read_is
 
--- An iteration has the same result, by its own name and by its monitor's.
+-- An iteration has the same result for equal identities and equal inputs.
 pub turn_as : {T : Type 0} (me mine : Me) (t u : Turn) (result : Result T NodeEnd) (after : Serving) → mine ≡ me → t ≡ u → EndsTurn mine t result after → EndsTurn me u result after
 turn_as me mine t u result after own same h = subst (λ (x : Me). EndsTurn x u result after) own (subst (λ (x : Turn). EndsTurn mine x result after) same h)
 
--- And so do the disks of a store.
+-- The same of what the disks of a store go through.
 pub pass_turn_as : {T D : Type 0} (state : D → DiskState) (me mine : Me) (t u : Turn) (result : Result T NodeEnd) (link : Option Told) (s n : StoreOn D) (new : Disks) → mine ≡ me → t ≡ u → s ≡ n
     → (BothTell (disks_of state s) → PassTurn mine t result link (disks_of state s) new) → BothTell (disks_of state n) → PassTurn me u result link (disks_of state n) new
 pass_turn_as {T} {D} state me mine t u result link s n new own same stores h =

@@ -33,14 +33,14 @@ module _ (me : Me) (s : Serving) (it : TimedInput) where
   abbrev at_input : Turn
   at_input = record { came = Ok (Some it); serving = s }
 
-  -- where it is when the iteration began
+  -- the store is where it was when the iteration began
   abbrev IsOld : Stood → Type 0
   IsOld x = x ≡ s.node.store
 
   abbrev InTurn : Stood → Type 0
   InTurn = IsWithinTurn me at_input
 
-  -- by a reaction whose map isn't too large
+  -- where a reaction leaves the store: where it was, if the map would be too large
   abbrev if_fits : (Reaction → Stood) → Reaction → Stood
   if_fits f r = cond (nat_lt most_size (size_of (map_after s.node r))) s.node.store (f r)
 
@@ -89,7 +89,7 @@ module _ (me : Me) (s : Serving) (it : TimedInput) where
         turn_pass : Pass InTurn old new
         turn_pass = pass_as old new InKeeping InTurn keeping_within pass
 
-        -- it is taken
+        -- the iteration is completed
         pub taken_pass : (T : Type 0) (x : T) (link : Option Told) → PassTurn me at_input (Ok x) link old new
         taken_pass T x link = (turn_pass, tt)
 

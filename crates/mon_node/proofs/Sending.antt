@@ -78,7 +78,7 @@ module _ (whole ds left : List Outgoing) (old now new : LinkState) (so_far : IsS
         faults = h.faults ∙ so_far.faults;
       }
 
--- of which a prefix alone was sent before an end
+-- if the node ends before the rest is sent, a prefix of all of them was sent
 pub sends_none : {U F : Type 0} (whole left : List Outgoing) (old now : LinkState) (f : F) → IsSending whole left old now → Posts {T = U} {E = F} whole (Err f) old now
 sends_none whole left old now f so_far = record {
   told = subst (λ (xs : List Outgoing). SendsFront xs old.told now.told) (sym so_far.whole_is) (front_whole so_far.done left old.told now.told (length so_far.done, so_far.told ∙ ap (λ (xs : List Outgoing). option_map (and_sent xs) old.told) (sym (all_of so_far.done))));
@@ -100,7 +100,7 @@ sent_all whole old now x so_far = record {
 pub next_item : {X : Type 0} (xs : List X) (k : ℕ) (x : X) → k < length xs → x ≡ get_or xs k x → drop k xs ≡ x ∷ drop (k + 1) xs
 next_item xs k x within is = drop-cons xs k x within ∙ (λ i. sym is i ∷ drop (sym (add-one k) i) xs)
 
--- nothing was sent before an end
+-- if the node ends before anything is sent, the empty prefix was sent
 pub posts_none : {T E : Type 0} (ds : List Outgoing) (o : LinkState) (e : E) → Posts {T = T} {E = E} ds (Err e) o o
 posts_none ds o e = record { told = none_in_front ds o.told; faults = refl }
 
@@ -159,7 +159,7 @@ spent_on n m end.DiskFault le why = absurd why
 spent_on n m end.LinkFault le why = absurd why
 spent_on n m (end.Full would_be) le why = absurd why
 
--- All of them find a number.
+-- If the number after all of them is within its bound, all of them are sent.
 pub all_numbered : (next : ℕ) (ls : List Outgoing) → next_after next ls ≤ 2 ^ 62 + 1 → with_number next ls ≡ ls
 all_numbered next [] within = refl
 all_numbered next (l ∷ ls) within =
@@ -167,8 +167,8 @@ all_numbered next (l ∷ ls) within =
     let finds : nat_lt (2 ^ 62 + 1) behind ≡ false = le-ltb (2 ^ 62 + 1) behind (le_then behind (next_after behind ls) (2 ^ 62 + 1) (next_after-le behind ls) within) in
     ap (λ (b : Bool). cond b [] (l ∷ with_number behind ls)) finds ∙ ap (λ (xs : List Outgoing). l ∷ xs) (all_numbered behind ls within)
 
--- All of these are sent under numbers from the first on, up to the first that finds none: what is left, and the number after
--- it.
+-- The first k of these were sent under numbers from `first` on, and `next` is the number that is next. What is still to
+-- be sent are the others, up to the first for which no number is left.
 pub record AreLeft (me : Me) (m : Store) (first : ℕ) (out : List Sent) (k next : ℕ) (old now : LinkState) : Type 0 where
   pub sends : IsSending (datagrams (boot_in m) first (with_number first (letters me m out))) (datagrams (boot_in m) next (with_number next (letters me m (drop k out)))) old now
   pub numbers : next_after first (letters me m out) ≡ next_after next (letters me m (drop k out))

@@ -13,7 +13,7 @@ use Rattle.mon_node.specs.declared.end.NodeEnd.{NodeEnd}
 use Rattle.mon_node.specs.declared.hearing.TimedInput.{TimedInput}
 use Rattle.mon_node.proofs.Sending.{none_in_front}
 
--- what came, by another name
+-- what is heard, given as an equal input
 pub came_as : (h : Heard) (came x : Option TimedInput) (o : Outside) → Hears h (Ok came) o → came ≡ x → Hears h (Ok x) o
 came_as h came x o heard is = subst (λ (y : Option TimedInput). Hears h (Ok y) o) is heard
 

@@ -66,7 +66,7 @@ module _ (c : Scene) (u : Upset) (p : Plain) (i : ℕ) (came : Input) (r : Resul
   abbrev upset_by : Bool → Result Scene happens.Stop
   upset_by kept = with_files (put_at c.files i files_left_at) (after_meeting c.world (Crash p kept) (Reacts i came r))
 
-  -- and by what becomes of its reaction
+  -- and by whether its reaction stops the run
   abbrev kept_by : Result Reaction happens.Stop → Result Scene happens.Stop
   kept_by q = with_files (put_at c.files i files_left_at) (in_world (kept_only c.world p i) q)
 
@@ -126,7 +126,7 @@ module _ (c : Scene) (u : Upset) (p : Plain) (i : ℕ) (came : Input) (r : Resul
 
 -- ---- what remains of a monitor's reaction
 
--- what meets an arrival at the monitor of its rank, if a disk fails
+-- the result of an arrival at the monitor of its rank, if a disk fails
 abbrev pub CrashesAt : site.Upset → List Monitor → List Monitor → Arrival → Result (Option meeting.Crash) WorldStop → Type 0
 CrashesAt u old new a r =
     (before after : Monitor) → slice_get old a.rank ≡ Some before → slice_get new a.rank ≡ Some after
@@ -273,7 +273,7 @@ module _ (c : Scene) (u : Upset) (how : Bool → Outcome) where
   stops_told ms p (Spent which) h = ap (with_line (upset_line c u how (meets ms c.world p))) h
   stops_told ms p (Full would_be) h = ap (with_line (upset_line c u how (meets ms c.world p))) h
 
--- by what is to become of the monitor
+-- by the kind of fault
 pub told_as : (way : Fault) (c : Scene) (u : site.Upset) (ms : Monitors) (new : World) (p : schedule.Plain) (up : FaultOutcome) → DoesUpset ms (Ok up) new c (upset_of u) (plain_event p)
     → Does ms (Ok (still_line (outcome_of (stopped_as way) up))) new (step ms c (faulty_event way u p))
 told_as fault.Crash c u ms new p up d = told c (upset_of u) outcome.Crashed ms new (plain_event p) up d

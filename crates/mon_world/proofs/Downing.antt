@@ -46,7 +46,7 @@ follows_each member m n f g a b cache x follows y =
 
 -- ---- what was taken
 
--- what the core remembers that takes an input
+-- the state of the core that takes an input
 pub remembers : (me : Me) (s : Option State) (came : Input) (before now to : State) → before ≡ remembered me s → state_at me.member.rank (Some before) came ≡ Some now → state_at me.member.rank s came ≡ Some to → now ≡ to
 remembers me s came before now to is forgets at =
     same_state now to (sym forgets ∙ (ap (λ (x : State). state_at me.member.rank (Some x) came) is ∙ remembered_so me s came to at))
@@ -58,7 +58,7 @@ crashes_as u m f came now result core me to me_is state_is h =
     subst (λ (x : State). Crashes u me.member m f came (reaction me now m x came) result) state_is
     (subst (λ (k : Me). Crashes u me.member m f came (reaction k now m core.state came) result) me_is h)
 
--- and as it knows itself
+-- the same by the monitor's own identity
 pub crashes_itself : (u : Upset) (m : Store) (s : Option State) (f : Files) (came : Input) (now : ℕ) (result : Result Remains WorldStop) (monitor : Monitor) (me : Me) (to : State) → Stands me m s f monitor → state_at me.member.rank s came ≡ Some to
     → (Holds monitor.me m s f monitor.kept → state_at monitor.me.member.rank s came ≡ Some to → Crashes u monitor.me.member m f came (reaction monitor.me now m to came) result)
     → Crashes u me.member m f came (reaction me now m to came) result

@@ -1,4 +1,4 @@
--- What follows a monitor that is up, or that starts.
+-- What a monitor that is up, or that starts, represents.
 use Rattle.std.proofs.Common.{◌≡◌, ℕ, Option, Some, None, Ok, refl, sym, ap, subst, ◌∙◌}
 use Rattle.mon_core.specs.Core.{Monitor as Core}
 use Rattle.mon_core.specs.declared.reaction.Reaction as core
@@ -21,7 +21,7 @@ use Rattle.mon_world.specs.declared.monitor.Monitor.{Monitor}
 use Rattle.mon_world.specs.declared.monitor.Running.{Running}
 use Rattle.mon_world.specs.Monitor.{Holds, IsUp, Reacts, Stands, StandsAfter, Takes, remembered}
 
--- it remembers something
+-- the monitor is up, so its core has a state
 pub record IsInUse (me : Me) (m : Store) (s : Option State) (f : Files) (r : Running) : Type 0 where
   pub state : State
   pub something : s ≡ Some state
@@ -37,7 +37,7 @@ up me m s f kept r is h = in_use me m s f r (subst (Holds me m s f) is h)
 pub as_known : (me : Me) (m : Store) (s : State) (f : Files) (kept : Kept) (r : Running) → kept ≡ Up r → Holds me m (Some s) f kept → IsUp me m s f r
 as_known me m s f kept r is h = subst (Holds me m (Some s) f) is h
 
--- a monitor as it knows itself
+-- what a monitor keeps, by its own identity
 pub holds_itself : (me : Me) (m : Store) (s : Option State) (f : Files) (monitor : Monitor) → Stands me m s f monitor → Holds monitor.me m s f monitor.kept
 holds_itself me m s f monitor stands = subst (λ (me : Me). Holds me m s f monitor.kept) (sym stands.me_is) stands.holds
 
@@ -57,7 +57,7 @@ taken_up me m s f disks r used rests = record {
 same_me : (a b : Me) → a.member ≡ b.member → a.rule ≡ b.rule → a ≡ b
 same_me a b member rule = λ i. record { member = member i; rule = rule i }
 
--- its store is open again, and it has forgotten all else
+-- its store is open again, and its core is new
 pub started : (me : Me) (m : Store) (f : Files) (old : Monitor) → old.me ≡ me → old.last ≡ last_of m → (store : kept.Store MemoryState) (boot : Core) → Runs old.me.member m (after_opening f) store
     → boot.me.member ≡ old.me.member → boot.me.rule ≡ old.me.rule → boot.state ≡ booting old.me.member.rank → Follows boot.cache (readings_of m)
     → Stands me m (Some (booting me.member.rank)) (after_opening f) (record old { kept = Up (record { store = store; core = boot }) })
@@ -74,7 +74,7 @@ started me m f old me_is last store boot runs member rule state follows = record
 
 -- ---- one that reacts
 
--- it knows the last version of its store
+-- its field `last` is the last version of its store
 pub stands_after : (me : Me) (now : ℕ) (m : Store) (s : State) (f : Files) (came : Input) (old : Monitor) (r : Running) (reaction : core.Reaction) (last : ℕ) → old.me ≡ me
     → Reacts me now m s f came r (Ok reaction) → last ≡ last_of r.store.kv → StandsAfter me now m s f came (record old { last = last; kept = Up r }) (Ok reaction)
 stands_after me now m s f came old r reaction last me_is h last_is =

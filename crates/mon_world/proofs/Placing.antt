@@ -14,7 +14,7 @@ written_else (y ∷ xs) zero (suc j) x other = refl
 written_else (y ∷ xs) (suc i) zero x other = refl
 written_else (y ∷ xs) (suc i) (suc j) x other = written_else xs i j x (λ e. other (ap suc e))
 
--- if the place is one by another number
+-- the same, for a place that is given as an equal number
 module _ {A : Type 0} (xs : List A) (i k : ℕ) (same : k ≡ i) where
   pub read_there : (x : A) → i < length xs → x ≡ get_or xs k x → slice_get xs i ≡ Some x
   read_there x within is = ap (slice_get xs) (sym same) ∙ slice_get_read xs (length xs) k x refl (omega arith) is

@@ -37,7 +37,7 @@ module _ (me : Me) (now : ℕ) (m : Store) (s : State) (came : Input) where
       let past : nat_lt most_size (size_of (apply r.transaction m)) ≡ true = lt-ltb most_size (size_of (apply r.transaction m)) large in
       ap (unless_stopped m) is ∙ rw past refl
 
-  -- what isn't kept stops the run as it should
+  -- a transaction that isn't kept stops the run as the model says
   pub not_kept : (r : Reaction) (e : WorldStop) → reaction me now m s came ≡ Ok r → IsntKept r.transaction m e → Stops e (does me now m s came)
   not_kept r world.OutOfMemory is h = tt
   not_kept r (world.Spent which) is h = absurd h
@@ -55,7 +55,7 @@ module _ (me : Me) (now : ℕ) (m : Store) (s : State) (came : Input) where
       named = x.named;
     }
 
--- What a monitor is that is up and reacted so, and whose transaction is kept.
+-- A monitor that is up reacted so, and its transaction was kept: it is up with the new map and state.
 pub reacted : (me : Me) (now : ℕ) (m : Store) (s : State) (f : Files) (came : Input) (old new : Running) (kv : Store) (r : core.Reaction) → IsUp me m s f old → kv ≡ old.store.kv
     → IsReaction old.core new.core kv now came r → Keeps me.member m f r.tx new.store (Ok tt) → Answers me now m s f came new (Ok r)
 reacted me now m s f came old new kv r up is x kept =
@@ -71,7 +71,7 @@ unkept me now m s f came old new kv r e up is x h =
     let so = subst (λ (k : Store). IsReaction old.core new k now came r) (is ∙ up.runs.map) x in
     not_kept me now m s came (record { transaction = r.tx; sends = r.out; state = new.state }) e (reacts_so me now m s came old.core new up.me_is up.state r so) h
 
--- a core's stop stops the run as it should
+-- a core's stop stops the run as the model says
 pub core_stops : (me : Me) (now : ℕ) (m : Store) (s : State) (came : Input) (old new : Monitor) (kv : Store) (e : RoleStop) → old.me ≡ me → old.state ≡ s → kv ≡ m → Reacts old new kv now came (Err e)
     → Stops (core_stop e) (unless_stopped m (reaction me now m s came))
 core_stops me now m s came old new kv stop.OutOfMemory me_is state_is is h = tt

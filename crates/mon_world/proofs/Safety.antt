@@ -42,7 +42,7 @@ module _ (ms : Monitors) (there : World) (e : Event) where
   unfolding ran_from
   ran_next w next events is none goes = ran_on w events is none ∙ ap (goes_on there (λ next. ran_from ms next [])) goes
 
--- the world of the scene then is what happens in it
+-- the world of the next scene is the result of the event
 happened : (line told : StepLine) (files : ℕ → Files) (r : Result World Stop) (next : Scene) → with_line line (with_files files r) ≡ Ok (next, told) → r ≡ Ok next.world
 happened line told files (Ok w) next is =
     let both : (record { world = w; files = files }, line) ≡ (next, told) = cc in

@@ -19,7 +19,7 @@ use Rattle.mon_world.specs.Monitor.{does}
 use Rattle.mon_world.specs.Step.{state_before, state_if_up, state_of}
 use Rattle.mon_world.specs.Stops.{Stops}
 
--- what isn't a start finds the monitor as it is
+-- an input that isn't a start finds the state and the files of the monitor unchanged
 pub record AsItStands (rank : ℕ) (m : Store) (s : Option State) (f : Files) (came : Input) : Type 0 where
   pub state : state_at rank s came ≡ s
   pub files : files_at came f ≡ f
@@ -34,7 +34,7 @@ as_it_stands rank m s f (input.Client session x) n = record { state = refl; file
 pub no_start : (came : Input) (b : Bool) → IsTrue b ↔ (came ≡ input.Start) → b ≡ false → came ≢ input.Start
 no_start came b is none e = false≢true (sym none ∙ is.1 e)
 
--- one that is up remembers something
+-- a monitor that is up has a state
 pub record IsUpAt (m : Store) (s : Option State) (line : StateLine) : Type 0 where
   pub state : State
   pub up : s ≡ Some state

@@ -62,13 +62,13 @@ none_met ms world c p s none =
 
 -- ---- what a monitor does
 
--- what meets an arrival at the monitor of its rank
+-- the result of an arrival at the monitor of its rank
 abbrev pub MeetsAt : List Monitor → List Monitor → Arrival → Result (Option Turn) WorldStop → Type 0
 MeetsAt old new a r =
     (before after : Monitor) → slice_get old a.rank ≡ Some before → slice_get new a.rank ≡ Some after
     → (me : Me) (m : Store) (s : Option State) (f : Files) → Stands me m s f before → Meets me a.at m s f a.input after r
 
--- one that doesn't stop the run is one
+-- a result that doesn't stop the run is that of a reaction
 pub is_reaction : (m : Store) (r : Result Reaction Which) (x : Reaction) → unless_stopped m r ≡ Ok x → r ≡ Ok x
 is_reaction m (Err which) x e = absurd cc
 is_reaction m (Ok y) x e = by (nat_lt most_size (size_of (apply y.transaction m))) e
@@ -78,7 +78,7 @@ is_reaction m (Ok y) x e = by (nat_lt most_size (size_of (apply y.transaction m)
     by false e = cc
 
 module _ (c : Scene) (p : Plain) (i : ℕ) (came : Input) where
-  -- the step, by what becomes of its reaction
+  -- the step, by whether its reaction stops the run
   abbrev step_by : Result Reaction Which → Result Reaction happens.Stop → Result (Scene × StepLine) happens.Stop
   step_by r q =
       with_line (met_line c.world (Reacts i came r)) (with_files (all_files_after c None (Reacts i came r)) (in_world (moved c.world (plain_event p) i) q))
@@ -130,7 +130,7 @@ module _ (c : Scene) (p : Plain) (i : ℕ) (came : Input) where
     log = log ∙ ap (λ (n : ℕ). log_after n (map_after c.world i x)) s.log ∙ sym (grown-length c.world.log (map_after c.world i x));
   }
 
--- what is sent may come
+-- each message that is sent may arrive at a monitor
 goes : (me : Me) (sends : List Sent) → AllByRecursion (MaySend me) sends → AllByRecursion TellsNamed sends → AllByRecursion (MayArrive me.member.monitors) (messages_of sends)
 goes me [] h n = tt
 goes me (sent.Message to m ∷ sends) h n = (record { to = h.0.0; comes = (h.0.1.form n.0, h.0.1.fits) }, goes me sends h.1 n.1)
