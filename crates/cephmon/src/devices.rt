@@ -166,7 +166,8 @@ fn devices_for(rt: &HostRuntime, task: &Task) -> Result<Devices, Status> {
     }
 }
 
-/// The devices that arguments name. This fails if the arguments are refused, and as `devices_for` does.
+/// The devices that arguments name; devices that are never called, if the arguments are refused. This fails if memory
+/// runs out, and as `devices_for` does.
 pub fn devices_of(rt: &HostRuntime, words: &[String]) -> Result<Devices, Status> {
     match read_words(rt.alloc(), words) {
         Ok(task) => {
