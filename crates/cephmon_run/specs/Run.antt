@@ -45,7 +45,7 @@ use Rattle.stopped_stores.specs.declared.writing.StoreText.TheVariants as text
 abbrev pub most_read : ℕ
 most_read = 16777217
 
--- the source was read to its end, or up to the most that is read and no further, and the bytes have this fact
+-- the source was read to its end, or up to the most that is read and no further, and the bytes have this property
 abbrev pub OfRead : Outside → Outside → (List ℕ → Type 0) → Type 0
 OfRead before after fact = (bytes : List ℕ) × (length bytes ≤ most_read) × ReadsWhole most_read before.left after.left bytes × fact bytes
 
@@ -73,7 +73,7 @@ WroteAll before after stop t = (t.stop ≡ stop) × Appends before.held after.he
 abbrev pub WroteFront : Outside → Outside → Trace → Type 0
 WroteFront before after t = AppendsFront before.held after.held t.text
 
--- The source was read to its end, if the bytes that it has left are known. They are a schedule whose trace has this
+-- The source was read to its end, if it is known what it has left. What was read is a schedule whose trace has this
 -- property.
 abbrev pub Replayed : Outside → Outside → (Trace → Type 0) → Type 0
 Replayed before after fact = IsAtEnd after.left × OfRead before after (λ bytes. Replays bytes fact)

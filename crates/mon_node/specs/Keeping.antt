@@ -25,7 +25,8 @@ renewed s = if is_due s.journal s.kv
 abbrev pub kept : List Op → Stood → Stood
 kept ops s = renewed (changed ops s)
 
--- the map in memory has its changes; or it would be too large; or a disk failed, or memory ran out
+-- The map in memory after a transaction: it has the changes; or it would be too large; or a disk failed, or memory ran
+-- out.
 abbrev pub Keeps : {T : Type 0} → List Op → (old new : Store) → Result T NodeEnd → Type 0
 Keeps ops old new (Ok x) = (size_of (apply ops old) ≤ most_size) × (new ≡ apply ops old)
 Keeps ops old new (Err (end.Full would_be)) = (most_size < size_of (apply ops old)) ×

@@ -13,7 +13,7 @@ use Rattle.mon_store.specs.declared.store.Store.{Store}
 pub record Node : Type 0 where
   -- the state of its core
   pub state : State
-  -- where its store is, with the map
+  -- the live side, the journal and the map of its store
   pub store : Stood
   -- the number of its next message that is longer than a datagram
   pub next : ℕ
@@ -28,7 +28,7 @@ pub record Serving : Type 0 where
   pub node : Node
   pub outside : Outside
 
--- where a store is, with its map
+-- the live side, the journal and the map of a store
 abbrev pub stood_of : {D : Type 0} → Store D → Stood
 stood_of s = record { side = s.side; journal = s.journal; kv = s.kv }
 

@@ -23,7 +23,7 @@ Has (Err e) P = ⊥
 
 -- ---- the input of an iteration, if it has one
 
--- a value of the core's reaction, and this one if a number is spent
+-- `some` of the core's reaction, or `none` if a number is spent
 abbrev pub of_input : {A : Type 0} → A → (Reaction → A) → Result Reaction Which → A
 of_input none some (Ok r) = some r
 of_input none some (Err spent) = none
@@ -36,7 +36,7 @@ of_came me n none some (Err e) = none
 abbrev pub of_turn : {A : Type 0} → Me → Turn → A → (Reaction → A) → A
 of_turn me t none some = of_came me t.serving.node none some t.came
 
--- the same, and this one too if the transaction would make the map too large: it is never kept
+-- the same, but `none` also if the transaction would make the map too large: it is never kept
 abbrev pub of_kept : {A : Type 0} → Me → Turn → A → (Reaction → A) → A
 of_kept me t none some =
     of_turn me t none (λ r. if nat_lt most_size (size_of (map_after t.serving.node r)) then none else some r)

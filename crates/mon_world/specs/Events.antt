@@ -1,4 +1,4 @@
--- What the events of a schedule are to the model.
+-- The events of a schedule as the model has them.
 use Rattle.std.specs.Prelude.{Some, None}
 use Rattle.quorum_model.specs.Scenes.{Scheduled}
 use Rattle.quorum_model.specs.World as model

@@ -12,7 +12,7 @@ pub record GoesOut (rank n : ℕ) (sends : List Sent) (gone : Gone) : Type 0 whe
   pub sent : gone.sent ≡ numbered n (messages_of sends)
   pub replies : gone.replies ≡ replied rank sends
 
--- one is sent after others
+-- one message or reply is sent after others
 pub record Sends (rank : ℕ) (one : Sent) (old new : List Envelope) (before after : Gone) : Type 0 where
   pub messages : map envelope_of new ≡ map envelope_of old ++ messages_of (one ∷ [])
   pub sent : after.sent ≡ before.sent ++ numbered (suc (length old)) (messages_of (one ∷ []))

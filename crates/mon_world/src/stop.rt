@@ -7,8 +7,8 @@ use mon_store::StoreStop;
 use mon_types::Which;
 use thiserror::Error;
 
-/// Why a run stops. The model's run stops before an event that has `Spent` or `Full`. After any stop the world isn't
-/// used again.
+/// Why a run stops. At `Spent` and `Full` the model's run stops before the event. After any stop the world isn't used
+/// again.
 #[derive(Clone, Copy, Debug, PartialEq, Eq, Error)]
 pub enum WorldStop {
     /// An allocation was refused.
