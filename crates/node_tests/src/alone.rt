@@ -29,7 +29,7 @@ const OWN_PROBE: &[u8] = b"\x01\x01\0\x03\x01\0\0\0\0\0\0\0";
 /// A reply of monitor 1 of 3 to a client.
 const REPLY: &[u8] = b"\x01\x19\x01\x03\x01\0\0\0\0\0\0\0\x08\0\0\0\0\0\0\0\x07";
 
-/// The file of a new store of monitor 0 of 3 with the first header, which is begun again at once.
+/// The file of a new store of monitor 0 of 3 with a header of the first form, so that a checkpoint is due at its start.
 const FIRST_HEADER: &[u8] = b"\x01CEPHMON1\0\x03\0\0\0\0\0\0\x01\0\0\0\0\0\0\0\0";
 
 /// Whether this is the reply to the client that its command is done.
