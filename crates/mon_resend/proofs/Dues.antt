@@ -1,4 +1,4 @@
--- When the first of some copies goes.
+-- When the first of some copies is due.
 use Rattle.std.specs.Prelude.{◌≡◌, ℕ, zero, suc, ◌+◌, ◌<◌, min, List, [], ◌∷◌, length, take, refl}
 use Rattle.std.proofs.Common.{arith, subst}
 use Rattle.std.proofs.Math.ListN.{get_or}

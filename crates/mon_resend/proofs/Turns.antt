@@ -1,4 +1,4 @@
--- What goes, one datagram and one monitor after the other.
+-- The copies that are sent, one datagram and one monitor after the other.
 use Rattle.std.specs.Prelude.{◌≡◌, ℕ, zero, suc, ◌+◌, ◌<◌, Bool, true, false, List, [], ◌∷◌, ◌++◌, length, map, filter, take, slice_get, get_or, refl}
 use Rattle.std.specs.List.{flat_map}
 use Rattle.std.proofs.Common.{cond, ap, sym, subst, arith, ◌∙◌, append_assoc}

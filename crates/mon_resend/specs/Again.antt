@@ -1,4 +1,5 @@
--- What is kept for one monitor, and what becomes of it when a message is sent to it, when one arrives, and when time passes.
+-- The copies that are kept for one monitor, and how they change when a message is sent to it, arrives from it, or time
+-- passes.
 use Rattle.std.specs.Prelude.{ℕ, ◌-◌, ◌%◌, Bool, true, false, ◌&&◌, not, ◌==◌, nat_le, nat_lt, List, [], ◌∷◌, ◌++◌, length, find, Option, Some, None, is_some, if◌then◌else◌}
 use Rattle.std.specs.Int.{div_ceil}
 use Rattle.std.specs.List.{list_any}
@@ -42,11 +43,11 @@ nothing = record {
 
 -- ---- memory
 
--- There is room for a copy, and no memory.
+-- Memory is refused for a copy that there is room for.
 abbrev pub is_refused : (memory : Bool) → Outgoing → List Kept → Bool
 is_refused memory out kept = has_room 1 (length out.bytes) kept && not memory
 
--- how often memory was refused, after once more or not
+-- how often memory was refused, with one more refusal if `refused`
 abbrev pub unkept_if : Bool → Outbox → ℕ
 unkept_if refused b = if refused then plus b.unkept 1 else b.unkept
 
@@ -62,7 +63,7 @@ abbrev pub if_held : Option Kept → Option ℕ
 if_held None = None
 if_held (Some k) = if k.note.held then Some k.note.header.first else None
 
--- the number of the first one, if it may go now
+-- the number of the first FORWARD, if it is held
 abbrev pub turn_of : List Kept → Option ℕ
 turn_of kept = if_held (first_forward kept)
 
@@ -78,7 +79,7 @@ happened event now kept = turned now (applied event now kept)
 
 -- ---- a message is sent
 
--- what is kept before it
+-- the box before the message is kept: the copies that the message ends are dropped
 abbrev pub cleared : Header → ℕ → Outbox → Outbox
 cleared h now b = record b {
   shelf = happened (Sent h.kind) now b.shelf;
@@ -87,7 +88,7 @@ cleared h now b = record b {
   acknowledged = if same_kind h.kind kind.Ack then acknowledged_in h.epoch now b.acknowledged else b.acknowledged;
 }
 
--- of this many bytes, of which its first datagram has this many
+-- the note of a message of `total` bytes whose first datagram has `len` bytes
 abbrev pub note_of : Header → (total len now : ℕ) → Outbox → Note
 note_of h total len now b =
     noted h (if total == len then 1 else div_ceil total PART) (same_kind h.kind kind.Forward && is_some (first_forward b.shelf)) (waits b.measure) now
@@ -102,11 +103,11 @@ under_way_of n has_room =
     else if n.held then under_way.Lost
     else under_way.Nothing
 
--- with one more, if there is memory and room
+-- the copies with one more, if there is memory and room
 abbrev pub with_copy : (memory : Bool) → Outgoing → Note → List Kept → List Kept
 with_copy memory out n kept = if has_room 1 (length out.bytes) kept && memory then kept ++ record { out = out; note = n } ∷ [] else kept
 
--- It is kept, or counted.
+-- The copy is kept, or the refusal of memory is counted.
 abbrev pub copied : (memory : Bool) → Outgoing → Note → Outbox → Outbox
 copied memory out n b = counted_if (is_refused memory out b.shelf) b (record b { shelf = with_copy memory out n b.shelf })
 
@@ -123,11 +124,11 @@ begun_as way.Never memory out h total now b = b
 begun_as way.ByTime memory out h total now b = first_copied memory out (note_of h total (length out.bytes) now b) total b
 begun_as way.WhenAsked memory out h total now b = first_copied memory out (note_of h total (length out.bytes) now b) total b
 
--- its first datagram is to go
+-- the box after the first datagram of a message was given to send
 abbrev pub begun : (memory : Bool) → Outgoing → Header → (total now : ℕ) → Outbox → Outbox
 begun memory out h total now b = begun_as (way_of h.kind) memory out h total now (cleared h now b)
 
--- it goes now
+-- whether its first datagram is sent now
 abbrev pub begins_as : Way → Note → Bool
 begins_as way.Never n = true
 begins_as way.ByTime n = not n.held
@@ -136,7 +137,7 @@ begins_as way.WhenAsked n = not n.held
 abbrev pub begins_now : Header → (total len now : ℕ) → Outbox → Bool
 begins_now h total len now b = begins_as (way_of h.kind) (note_of h total len now (cleared h now b))
 
--- a later piece is to go
+-- the box after a later piece was given to send
 abbrev pub went_on_with : UnderWay → (memory : Bool) → Outgoing → Outbox → Outbox
 went_on_with (under_way.Kept n) memory out b = copied memory out n b
 went_on_with under_way.Lost memory out b = b
@@ -162,18 +163,18 @@ answered_one h kept = find (λ k. k.note.pieces == 1 && is_measured k.note.heade
 abbrev pub measured_by : Header → ℕ → Outbox → Measure
 measured_by h now b = measured_with h now b.measure (answered_one h b.shelf)
 
--- what it answers is kept no longer
+-- the copies that an arrived message answers are dropped
 abbrev pub heard : Header → ℕ → Outbox → Outbox
 heard h now b = record b { measure = measured_by h now b; shelf = happened (Came h) now b.shelf }
 
--- Its answer is kept. It goes again.
+-- whether the answer to an arrived question is kept
 abbrev pub knows : Header → List Kept → Bool
 knows h kept = list_any (λ k. is_asked_again k.note.header h) kept
 
 abbrev pub answered : Header → ℕ → Outbox → Outbox
 answered h now b = if knows h b.shelf then record b { shelf = happened (Asked h) now b.shelf } else b
 
--- It is to be kept, since it asks for another chunk than the last one.
+-- whether an arrived message is to be remembered: a GET_CHUNK with other bytes than the last one
 abbrev pub is_to_keep : Header → List ℕ → Outbox → Bool
 is_to_keep h bytes b = same_kind h.kind kind.GetChunk && not (bytes_eq b.asked bytes)
 
@@ -185,7 +186,7 @@ received memory h bytes now b = counted_if (is_to_keep h bytes b && not memory) 
     else if bytes_eq b.asked bytes then answered h now b
     else heard h now (record b { asked = if memory then bytes else [] }))
 
--- The copy of its answer alone answers it.
+-- whether a kept answer is sent again and the message isn't handed up
 abbrev pub is_known : Header → List ℕ → Outbox → Bool
 is_known h bytes b =
     if same_kind h.kind kind.Begin then knows h b.shelf
@@ -206,13 +207,13 @@ called epoch own now b =
     else if epoch == own && epoch == b.acknowledged.epoch then record b { acknowledged = counted now b.acknowledged }
     else b
 
--- It isn't handed up.
+-- whether that PROPOSE isn't handed up
 abbrev pub is_dropped : (epoch own now : ℕ) → Outbox → Bool
 is_dropped epoch own now b =
     if is_earlier epoch own then not (is_some (rested now b.earlier))
     else epoch == own && epoch == b.acknowledged.epoch && drops now (counted now b.acknowledged)
 
--- a later piece of a long message arrives
+-- whether a later piece belongs to the long message that the last GET_CHUNK follows
 abbrev pub is_past : Part → Option Number → Bool
 is_past p None = false
 is_past p (Some n) = n.boot == p.boot && n.seq == p.seq

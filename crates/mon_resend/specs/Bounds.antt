@@ -15,7 +15,7 @@ pub record IsWithin (kept : List Kept) : Type 0 where
 abbrev pub AreWithin : Copies → Type 0
 AreWithin c = AllByRecursion (λ b. IsWithin b.shelf) c.boxes
 
--- It is so at first, and after each step.
+-- The bounds hold at first, and after each step.
 pub record StaysWithin : Type 0 where
   pub at_first : AreWithin fresh
   pub sends : (memory : Bool) (rank : ℕ) (bytes : List ℕ) (now : ℕ) (c : Copies) → AreWithin c → AreWithin (sent memory rank bytes now c)

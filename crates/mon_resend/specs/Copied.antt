@@ -38,7 +38,7 @@ abbrev pub IsGiven : Result Got Stop → Type 0
 IsGiven (Ok got) = IsDatagram got
 IsGiven (Err e) = ⊥
 
--- a link was asked once what comes, to wait no longer, and then to send some of these
+-- a link was asked once for what arrives, with at most this wait, and then only to send some of these
 pub record AsksOnce (wait : ℕ) (kept : List Outgoing) (result : Result Got Stop) (old new : LinkState) : Type 0 where
   pub slice : ℕ
   pub within : slice ≤ wait

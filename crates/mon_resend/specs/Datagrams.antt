@@ -1,4 +1,4 @@
--- What a datagram is of its message.
+-- Which part of its message a datagram is.
 use Rattle.std.specs.Prelude.{ℕ, ◌-◌, ◌==◌, ◌&&◌, not, nat_le, nat_lt, List, length, drop, Option, Some, None, Result, Ok, Err, if◌then◌else◌}
 use Rattle.mon_decode.specs.declared.header.Header.{Header}
 use Rattle.mon_decode.specs.Headers.{header_of}
@@ -27,6 +27,6 @@ piece_of datagram (Err e) = None
 abbrev pub piece_in : List ℕ → Option Part
 piece_in datagram = piece_of datagram (piece_header_of datagram)
 
--- a datagram that doesn't begin as a piece is a message
+-- A datagram that doesn't begin as a piece is a whole message. `None` if its header can't be read.
 abbrev pub part_of : List ℕ → Option Part
 part_of datagram = if not (nat_lt DATAGRAM (length datagram)) && not (is_piece datagram) then whole_of (header_of datagram) else piece_in datagram

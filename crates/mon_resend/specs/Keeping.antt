@@ -13,17 +13,17 @@ use Rattle.mon_resend.specs.Notes.{plus}
 use Rattle.mon_resend.specs.Rows.{way_of}
 use Rattle.mon_resend.specs.Shelves.{has_room}
 
--- Nothing is kept, and nothing is counted.
+-- No copy is added, and no refusal is counted.
 pub record IsSame (old new : Outbox) : Type 0 where
   pub shelf : new.shelf ≡ old.shelf
   pub unkept : new.unkept ≡ old.unkept
 
--- One more is kept.
+-- One more copy is kept.
 pub record IsKept (out : Outgoing) (n : Note) (old new : Outbox) : Type 0 where
   pub shelf : new.shelf ≡ old.shelf ++ record { out = out; note = n } ∷ []
   pub unkept : new.unkept ≡ old.unkept
 
--- One more is counted.
+-- One more refusal of memory is counted.
 pub record IsCounted (old new : Outbox) : Type 0 where
   pub shelf : new.shelf ≡ old.shelf
   pub unkept : new.unkept ≡ plus old.unkept 1
@@ -37,7 +37,7 @@ is_sent_again way.Never = false
 is_sent_again way.ByTime = true
 is_sent_again way.WhenAsked = true
 
--- Of a message that begins to go the first datagram is to be kept if there is room for the whole.
+-- The first datagram of a message that is sent again is to be kept if there is room for the whole message.
 abbrev pub begins_to_keep : Outgoing → Header → (total now : ℕ) → Outbox → Bool
 begins_to_keep out h total now b =
     is_sent_again (way_of h.kind)

@@ -1,4 +1,4 @@
--- What is noted of a copy, when it goes, and when it is kept no longer. Times are in milliseconds.
+-- The note of a copy: when it is sent, and when it is dropped. Times are in milliseconds.
 use Rattle.std.specs.Prelude.{ℕ, ◌+◌, ◌*◌, ◌-◌, ◌^◌, min, max, Bool, true, false, ◌&&◌, ◌||◌, ◌==◌, nat_le, nat_lt, if◌then◌else◌}
 use Rattle.mon_decode.specs.declared.header.Header.{Header}
 use Rattle.mon_decode.specs.Headers.{same_kind}
@@ -33,11 +33,11 @@ least_of k =
 abbrev pub pace_of : ℕ → ℕ
 pace_of pieces = if nat_lt 1 pieces then times pieces PIECE_TIME else 0
 
--- how long a message in this many pieces waits, given the time of the monitor's answers
+-- the wait before the first copy of a message in this many pieces, given the measured wait for the monitor's answers
 abbrev pub every_of : Kind → ℕ → ℕ → ℕ
 every_of k pieces wait = plus (max wait (least_of k)) (pace_of pieces)
 
--- a message that goes now, or is held
+-- the note of a new message, which is sent now or held
 abbrev pub noted : Header → ℕ → Bool → ℕ → ℕ → Note
 noted header pieces held wait now = record {
   header = header;
@@ -49,7 +49,7 @@ noted header pieces held wait now = record {
   held = held;
 }
 
--- ---- what happens to it
+-- ---- events
 
 abbrev pub is_ended : Event → Note → Bool
 is_ended (Sent sent) n = ends sent n.header.kind
@@ -61,7 +61,7 @@ is_ended (Piece is_last) n = false
 is_ended (Asked header) n = false
 is_ended (Turn seq) n = false
 
--- it is to go
+-- the copy is now to be sent, as if for the first time
 abbrev pub called : ℕ → Note → Note
 called now n = record n { last = now; due = now; times = 0; held = true }
 
@@ -78,7 +78,7 @@ after Left now n = n
 
 -- ---- time
 
--- It goes now. What went before goes again only if `again` allows it.
+-- The copy is to be sent now. Without `again`, only a held one is.
 abbrev pub goes : Bool → ℕ → Note → Bool
 goes again now n = nat_le n.due now && (again || n.held) && nat_lt n.times TIMES
 
@@ -88,7 +88,7 @@ is_spent now n = nat_le n.due now && nat_le TIMES n.times
 abbrev pub doubled : ℕ → ℕ
 doubled every = min (times every 2) (max every LONGEST)
 
--- it went
+-- the note after the copy was sent
 abbrev pub gone : ℕ → Note → Note
 gone now n =
     if is_when_asked (way_of n.header.kind) then record n { due = NEVER; held = false }

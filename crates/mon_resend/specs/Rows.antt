@@ -24,7 +24,7 @@ way_of kind.Chunk = way.WhenAsked
 way_of kind.LastChunk = way.WhenAsked
 way_of k = way.Never
 
--- the epoch of a message of this kind counts
+-- The epoch of a message of this kind is compared with others: a greater one ends copies of an earlier one.
 abbrev pub is_of_epoch : Kind → Bool
 is_of_epoch kind.ProbeReply = false
 is_of_epoch kind.GetCookieFull = false
@@ -47,7 +47,7 @@ is_copying k = same_kind k kind.GetCookieFull || same_kind k kind.GetCookieRecen
 abbrev pub is_chunk : Kind → Bool
 is_chunk k = same_kind k kind.Chunk || same_kind k kind.LastChunk
 
--- A message that is sent to a monitor ends what is kept for it of these kinds.
+-- whether a new message of kind `sent` to a monitor ends the copies of kind `kept` for that monitor
 abbrev pub ends : (sent kept : Kind) → Bool
 ends kind.Collect kept = same_kind kept kind.Collect || same_kind kept kind.Begin || same_kind kept kind.Commit || same_kind kept kind.Lease
 ends kind.Begin kept = same_kind kept kind.Begin || same_kind kept kind.Collect || same_kind kept kind.Lease
@@ -60,7 +60,7 @@ ends kind.LastChunk kept = is_chunk kept
 ends kind.Forward kept = false
 ends sent kept = same_kind kept sent
 
--- a message that arrives from a monitor ends one that is kept for it
+-- whether a message that arrives from a monitor answers, and so ends, a copy that is kept for it
 abbrev pub is_answered_as : Kind → (kept came : Header) → Bool
 is_answered_as kind.Propose kept came = is_of_epoch came.kind && (nat_lt kept.epoch came.epoch || (came.epoch == kept.epoch && same_kind came.kind kind.Ack))
 is_answered_as kind.Victory kept came = same_kind came.kind kind.Last || same_kind came.kind kind.Accept || same_kind came.kind kind.LeaseAck
@@ -76,7 +76,7 @@ is_answered_as k kept came = false
 abbrev pub is_answered : (kept came : Header) → Bool
 is_answered kept came = is_answered_as kept.kind kept came
 
--- what arrives is the question that a message answers
+-- whether an arrived message is the question that a kept message answers
 abbrev pub is_asked_as : Kind → (kept came : Header) → Bool
 is_asked_as kind.Accept kept came = same_kind came.kind kind.Begin && came.epoch == kept.epoch && came.first == kept.first && came.second == kept.second
 is_asked_as kind.Route kept came = same_kind came.kind kind.Forward && came.epoch == kept.epoch && came.first == kept.first
@@ -87,6 +87,6 @@ is_asked_as k kept came = false
 abbrev pub is_asked_again : (kept came : Header) → Bool
 is_asked_again kept came = is_asked_as kept.kind kept came
 
--- the time of its answers is measured
+-- whether the time of the answers to messages of this kind is measured
 abbrev pub is_measured : Kind → Bool
 is_measured k = same_kind k kind.Begin || same_kind k kind.Collect || same_kind k kind.Forward

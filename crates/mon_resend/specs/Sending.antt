@@ -1,4 +1,4 @@
--- What the link asks of the one below it, and what it keeps then.
+-- What the link asks of the link below it, and what it keeps afterwards.
 use Rattle.std.specs.Prelude.{◌≡◌, ℕ, ◌-◌, min, Bool, true, false, nat_lt, List, [], ◌∷◌, map, Result, Ok, Err, if◌then◌else◌, Option, IfSome}
 use Rattle.std.specs.List.{flat_map}
 use Rattle.mon_link.specs.Clocks.{Readings, reading, after}
@@ -30,15 +30,15 @@ Shows left now = IfSome left (λ r. now ≡ reading r)
 abbrev pub ShowsThen : Option Readings → ℕ → Type 0
 ShowsThen left now = IfSome left (λ r. now ≡ reading (after r))
 
--- ---- what comes
+-- ---- `next`
 
--- how many datagrams came in a row, up to the time at which copies go although more may wait
+-- how many datagrams came in a row; from 0 again after RUN of them, since copies are sent then
 abbrev pub run_after : Got → ℕ → ℕ
 run_after (Datagram from bytes) run = if nat_lt (plus run 1) RUN then plus run 1 else 0
 run_after Idle run = 0
 run_after Closed run = 0
 
--- Copies may go of what went before: no answer to it waits in the link, or many datagrams came in a row.
+-- Messages may be sent again: the link below gave no datagram, so no answer waits in it; or RUN came in a row.
 abbrev pub may_go : Got → ℕ → Bool
 may_go (Datagram from bytes) run = if nat_lt (plus run 1) RUN then false else true
 may_go Idle run = true
@@ -56,7 +56,7 @@ isnt_handed_up (Datagram (Client number) bytes) now c = false
 isnt_handed_up Idle now c = false
 isnt_handed_up Closed now c = false
 
--- The link below gave this. Then it was asked to send what goes now.
+-- The link below gave `came`. Then it was asked to send the due copies.
 pub record Gave (came : Got) (memory : Bool) (now run : ℕ) (old : Copies) (between : LinkState) (result : Result Got Stop) (new : Copies) (link : LinkState) : Type 0 where
   pub hands_up : result ≡ Ok (if isnt_handed_up came now old then Idle else came)
   pub kept : new ≡ all_passed (may_go came run) now (with_got memory came now old)
@@ -66,7 +66,7 @@ abbrev pub AfterNext : Result Got Stop → (memory : Bool) → (now run : ℕ) �
 AfterNext (Ok came) memory now run old between result run_now new link = Gave came memory now run old between result new link × (run_now ≡ run_after came run)
 AfterNext (Err e) memory now run old between result run_now new link = (result ≡ Err e) × (new ≡ old) × (link ≡ between) × (run_now ≡ run)
 
--- The link below was asked once what comes, to wait until the next copy goes, and then to send what goes.
+-- The link below was asked once, with a wait until the next copy is due at most, and then to send the due copies.
 pub record Receives (wait : ℕ) (clock : Option Readings) (run : ℕ) (old : Copies) (before : LinkState) (result : Result Got Stop) (run_now : ℕ) (new : Copies) (link : LinkState) : Type 0 where
   pub first : ℕ
   pub second : ℕ
@@ -78,13 +78,13 @@ pub record Receives (wait : ℕ) (clock : Option Readings) (run : ℕ) (old : Co
   pub asks : CallsNext (min wait (due_of old - first)) gave before between
   pub then_does : AfterNext gave memory second run old between result run_now new link
 
--- ---- what goes
+-- ---- `send`
 
 abbrev pub SendsNow : Bool → Peer → List ℕ → Result (Unit {0}) Stop → LinkState → LinkState → Type 0
 SendsNow true to bytes result old new = CallsSend to bytes result old new
 SendsNow false to bytes result old new = (result ≡ Ok tt) × (new ≡ old)
 
--- A datagram for another monitor is sent, or it waits for an earlier one.
+-- A datagram for another monitor is sent, or waits for the answer to an earlier one, or is lost.
 pub record Keeps (rank : ℕ) (bytes : List ℕ) (clock : Option Readings) (old : Copies) (before : LinkState) (result : Result (Unit {0}) Stop) (new : Copies) (link : LinkState) : Type 0 where
   pub now : ℕ
   pub shows : Shows clock now
@@ -92,7 +92,7 @@ pub record Keeps (rank : ℕ) (bytes : List ℕ) (clock : Option Readings) (old 
   pub kept : new ≡ sent memory rank bytes now old
   pub sends : SendsNow (goes_now rank bytes now old) (Monitor rank) bytes result before link
 
--- One for a client is sent.
+-- A datagram for a client is sent.
 abbrev pub Sends : Peer → List ℕ → Option Readings → Copies → LinkState → Result (Unit {0}) Stop → Copies → LinkState → Type 0
 Sends (Monitor rank) bytes clock old before result new link = Keeps rank bytes clock old before result new link
 Sends (Client number) bytes clock old before result new link = CallsSend (Client number) bytes result before link × (new ≡ old)

@@ -1,4 +1,4 @@
--- The copies that are kept for one monitor, in the order in which their messages began to go.
+-- The copies that are kept for one monitor, in the order in which they were given to send.
 use Rattle.std.specs.Prelude.{ℕ, ◌-◌, ◌^◌, min, Bool, ◌&&◌, not, nat_le, List, [], ◌∷◌, length, map, filter, Option, None, Some, if◌then◌else◌}
 use Rattle.std.specs.List.{sum_by}
 use Rattle.mon_link.specs.declared.link.Outgoing.{Outgoing}
@@ -18,18 +18,18 @@ has_room datagrams bytes kept = nat_le (plus (length kept) datagrams) MOST_KEPT 
 abbrev pub with_note : Note → Kept → Kept
 with_note n k = record k { note = n }
 
--- an event ends some and changes others
+-- An event drops the copies that it ends, and changes the notes of others.
 abbrev pub applied : Event → ℕ → List Kept → List Kept
 applied event now kept = map (λ k. with_note (after event now k.note) k) (filter (λ k. not (is_ended event k.note)) kept)
 
 -- ---- time
 
--- when the next one goes
+-- when the next copy is due
 abbrev pub first_due : List Kept → ℕ
 first_due [] = NEVER
 first_due (k ∷ kept) = min k.note.due (first_due kept)
 
--- the datagrams that go now
+-- the copies that are to be sent now
 abbrev pub going : Bool → ℕ → List Kept → List Outgoing
 going again now kept = map (λ k. k.out) (filter (λ k. goes again now k.note) kept)
 
@@ -40,6 +40,6 @@ going_at again now (Some k) = if goes again now k.note then k.out ∷ [] else []
 abbrev pub if_gone : Bool → ℕ → Note → Note
 if_gone again now n = if goes again now n then gone now n else n
 
--- They went. Those that went often enough before are kept no longer.
+-- The due copies were sent. Those that had been sent often enough before are dropped.
 abbrev pub went : Bool → ℕ → List Kept → List Kept
 went again now kept = map (λ k. with_note (if_gone again now k.note) k) (filter (λ k. not (is_spent now k.note)) kept)

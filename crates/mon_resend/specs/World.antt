@@ -1,4 +1,4 @@
--- What is kept for all monitors, and what becomes of it.
+-- The copies that are kept for all monitors, and how they change.
 use Rattle.std.specs.Prelude.{ℕ, ◌-◌, ◌^◌, min, Bool, true, false, ◌&&◌, ◌||◌, nat_lt, List, [], ◌∷◌, length, map, take, get_or, slice_set, Option, Some, None, if◌then◌else◌}
 use Rattle.std.specs.List.{flat_map, sum_by}
 use Rattle.mon_decode.specs.declared.header.Header.{Header}
@@ -45,7 +45,7 @@ each event now c = record c { boxes = map (λ b. with_event event now b) c.boxes
 
 -- ---- epochs
 
--- A message goes or arrives. If its epoch is the greatest so far, what is of an earlier one is kept no longer.
+-- A message is sent or arrives. If its epoch is the greatest so far, the copies of earlier epochs are dropped.
 abbrev pub risen : Header → ℕ → Copies → Copies
 risen h now c = if is_of_epoch h.kind && nat_lt c.epoch h.epoch then each (Rose h.epoch) now (record c { epoch = h.epoch }) else c
 
@@ -56,14 +56,14 @@ in_epoch h c =
     else if is_of_epoch h.kind then record c { own = h.epoch }
     else c
 
--- A PROBE ends all, and an ACK what was proposed.
+-- A PROBE ends all copies, and an ACK ends those of PROPOSE.
 abbrev pub left : Header → ℕ → Copies → Copies
 left h now c =
     if same_kind h.kind kind.Probe then each Left now c
     else if same_kind h.kind kind.Ack then each Deferred now c
     else c
 
--- ---- a datagram is to go to a monitor
+-- ---- a datagram is given to send to a monitor
 
 abbrev pub begins : Header → ℕ → Copies → Copies
 begins h now c = left h now (in_epoch h (risen h now c))
@@ -83,7 +83,7 @@ sent_part None memory rank bytes now c = c
 abbrev pub sent : (memory : Bool) → (rank : ℕ) → List ℕ → ℕ → Copies → Copies
 sent memory rank bytes now c = sent_part (part_of bytes) memory rank bytes now c
 
--- it goes now
+-- whether the datagram is sent now
 abbrev pub part_goes : Option Part → (rank : ℕ) → List ℕ → ℕ → Copies → Bool
 part_goes (Some (Whole h)) rank bytes now c = begins_at rank h (length bytes) (length bytes) now c
 part_goes (Some (First h total)) rank bytes now c = begins_at rank h total (length bytes) now c
@@ -113,7 +113,7 @@ abbrev pub is_whole_known : (rank : ℕ) → Header → List ℕ → ℕ → Cop
 is_whole_known rank h bytes now c =
     is_dropped_at rank h now (risen h now c) || is_known h bytes (box_of rank (called_at rank h now (risen h now c)))
 
--- of a long message the first piece asks, and no piece answers
+-- whether the first piece of a long message may be a repeated question; no piece ends a copy
 abbrev pub asks : Header → Bool
 asks h = same_kind h.kind kind.Begin || same_kind h.kind kind.Forward
 
@@ -132,7 +132,7 @@ part_came None memory rank bytes now c = c
 abbrev pub arrived : (memory : Bool) → (rank : ℕ) → List ℕ → ℕ → Copies → Copies
 arrived memory rank bytes now c = part_came (part_of bytes) memory rank bytes now c
 
--- it isn't handed up
+-- whether the datagram isn't handed up
 abbrev pub is_part_taken : Option Part → (rank : ℕ) → List ℕ → ℕ → Copies → Bool
 is_part_taken (Some (Whole h)) rank bytes now c = is_whole_known rank h bytes now c
 is_part_taken (Some (First h total)) rank bytes now c = is_first_known rank h bytes c
@@ -147,7 +147,7 @@ is_taken rank bytes now c = is_part_taken (part_of bytes) rank bytes now c
 abbrev pub all_passed : (again : Bool) → ℕ → Copies → Copies
 all_passed again now c = record c { boxes = map (λ b. passed again now b) c.boxes }
 
--- what goes, monitor by monitor
+-- the copies that are to be sent now, monitor by monitor
 abbrev pub all_going : (again : Bool) → ℕ → Copies → List Outgoing
 all_going again now c = flat_map (λ b. going again now b.shelf) c.boxes
 

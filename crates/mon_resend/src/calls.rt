@@ -3,12 +3,13 @@
 ghost use Rattle.std.specs.Prelude.{◌≡◌};
 ghost use Rattle.mon_resend.specs.Calls.{no_earlier, rested, unacknowledged, acknowledged_in, drops, counted};
 
-/// How long none of an earlier epoch is handed up after one that was, in milliseconds: at first, and at most.
+/// After a PROPOSE of an earlier epoch was handed up, others are dropped for this long, in milliseconds: at first, at
+/// most.
 pub(crate) const FIRST_REST: u64 = 10_000;
 
 pub(crate) const MOST_REST: u64 = 60_000;
 
-/// For how long after the end of such a time the next one is longer, in milliseconds.
+/// The next rest is doubled if it begins less than this long after the end of the last one, in milliseconds.
 pub(crate) const REMEMBERED: u64 = 60_000;
 
 /// The least and the greatest time between two PROPOSEs that follow each other as copies do, in milliseconds.
@@ -19,8 +20,8 @@ pub(crate) const MOST_APART: u64 = 2_500;
 /// How many such copies of an acknowledged PROPOSE show that the acknowledgements don't arrive.
 pub(crate) const MOST_UNHEARD: u8 = 10;
 
-/// How long a monitor that hears no acknowledgement isn't heard, in milliseconds: two elections, and something more. The
-/// others wait for the end of the one that is under way, and then hold theirs.
+/// How long the PROPOSEs of a monitor that hears no acknowledgement are dropped, in milliseconds: more than two
+/// elections. Meanwhile the others wait for the end of the current election, and then hold their own.
 pub(crate) const UNHEARD_REST: u64 = 12_000;
 
 /// What is noted of a monitor's PROPOSEs of an earlier epoch than that of one's own quorum. Each that is handed up ends the
@@ -38,7 +39,7 @@ impl Earlier {
         Earlier { until: 0, rest: 0 }
     }
 
-    /// What is noted after one that is handed up, or nothing if it isn't.
+    /// The note after an arrived PROPOSE, or `None` if the PROPOSE isn't handed up.
     pub(crate) fn after(self, now: u64) -> Option<Earlier>
         ensures { result ≡ rested now self }
     {
@@ -94,14 +95,14 @@ impl Acknowledged {
         }
     }
 
-    /// Whether one that comes now isn't handed up.
+    /// Whether a PROPOSE that arrives now isn't handed up.
     pub(crate) fn drops(self, now: u64) -> bool
         ensures { result ≡ drops now self }
     {
         now < self.until
     }
 
-    /// What is noted after one that came.
+    /// The note after a PROPOSE arrived. `MOST_UNHEARD` in a row, as far apart as copies are, begin a rest.
     pub(crate) fn after(self, now: u64) -> Acknowledged
         ensures { result ≡ counted now self }
     {

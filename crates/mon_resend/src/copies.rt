@@ -16,7 +16,7 @@ use mon_types::Rank;
 use mon_wire::Kind;
 use std::alloc::Global;
 
-/// The newest datagrams to each monitor that aren't answered.
+/// The copies for each monitor, and the epochs of the messages that were sent and that arrived.
 #[derive(Drop)]
 pub struct Copies {
     /// By rank.
@@ -28,7 +28,7 @@ pub struct Copies {
 }
 
 impl Copies {
-    /// Nothing was sent yet. It takes no memory.
+    /// The state before anything is sent. It takes no memory.
     pub fn new(alloc: Global) -> Copies
         ensures { result ≡ fresh }
     {
@@ -55,8 +55,8 @@ impl Copies {
         }
     }
 
-    /// How often memory was refused for what was to be kept, for all monitors together, and at most `u64::MAX`. What is
-    /// counted is each copy that isn't kept although there is room for it, and each GET_CHUNK that came and isn't kept.
+    /// How often memory was refused, for all monitors together, at most `u64::MAX`. Counted is each copy that isn't
+    /// kept although there is room for it, and each arrived GET_CHUNK that isn't remembered.
     pub fn unkept(&self) -> u64
         ensures { result ≡ unkept_of self.now }
     {
@@ -90,7 +90,7 @@ impl Copies {
         self.boxes[place].apply(event, now);
     }
 
-    /// Drops what is of an epoch before that of a message.
+    /// Notes the epoch of a message if it is the greatest so far, and then drops the copies of earlier epochs.
     fn rises(&mut self, header: &Header, now: u64)
         ensures { self.new ≡ risen header.now now self.old }
     {
@@ -100,7 +100,7 @@ impl Copies {
         }
     }
 
-    /// Notes the epoch of a message that goes to any monitor.
+    /// Notes the epoch of a message to any monitor, or 0 for a PROBE.
     fn is_in(&mut self, header: &Header)
         ensures { self.new ≡ in_epoch header.now self.old }
     {
@@ -111,7 +111,8 @@ impl Copies {
         }
     }
 
-    /// Drops what a message that goes to any monitor ends of the copies for all of them.
+    /// Drops the copies that a message to any monitor ends for all monitors: all of them for a PROBE, PROPOSEs for an
+    /// ACK.
     fn leaves(&mut self, header: &Header, now: u64)
         ensures { self.new ≡ left header.now now self.old }
     {
@@ -140,7 +141,8 @@ impl Copies {
         self.boxes[usize::from(to.get())].begins(alloc, to, header, total, bytes, now)
     }
 
-    /// Notes that a datagram is to go to a monitor. Whether it goes now; else it waits for an earlier one.
+    /// Notes a datagram for a monitor, and keeps a copy if its message is sent again. `yes` means that it is sent now.
+    /// Otherwise it waits for the answer to an earlier FORWARD, or is lost if there is no room for it.
     pub(crate) fn sends(&mut self, alloc: Global, to: Rank, bytes: &[u8], now: u64) -> Answer
         ensures after { self.new ≡ sent result.has_memory to bytes.now now self.old }
         ensures goes { result.yes ≡ goes_now to bytes.now now self.old }
@@ -167,7 +169,7 @@ impl Copies {
         }
     }
 
-    /// Whether a message that came is a PROPOSE that isn't handed up.
+    /// Notes a PROPOSE that arrived. Returns whether the message is a PROPOSE that isn't handed up.
     fn drops(&mut self, from: Rank, header: &Header, now: u64) -> bool
         ensures after { self.new ≡ called_at from header.now now self.old }
         ensures drops { result ≡ is_dropped_at from header.now now self.old }
@@ -197,8 +199,8 @@ impl Copies {
         self.boxes[usize::from(from.get())].comes(alloc, header, bytes, now)
     }
 
-    /// Notes what came from a monitor. Whether it isn't handed up: the copy of an answer alone answers it, or it is a PROPOSE
-    /// that is dropped. Of a long message no piece answers anything: another one may be missing.
+    /// Notes a datagram from a monitor. `yes` means that it isn't handed up: a kept answer answers it, or it is a
+    /// PROPOSE that is dropped. No piece of a long message answers a copy, since another piece may be missing.
     pub(crate) fn comes(&mut self, alloc: Global, from: Rank, bytes: &[u8], now: u64) -> Answer
         ensures after { self.new ≡ arrived result.has_memory from bytes.now now self.old }
         ensures known { result.yes ≡ is_taken from bytes.now now self.old }
@@ -231,7 +233,8 @@ impl Copies {
         Answer::of(false)
     }
 
-    /// Notes that what goes now went, and drops what went often enough. What went before goes again only if `again` allows it.
+    /// Updates all copies after the due ones were sent, and drops those that were sent often enough. Without `again`,
+    /// only held copies were sent.
     pub(crate) fn passes(&mut self, again: bool, now: u64)
         ensures { self.new ≡ all_passed again now self.old }
     {
@@ -247,7 +250,7 @@ impl Copies {
         self.boxes[place].passes(again, now);
     }
 
-    /// When the next one goes.
+    /// When the next copy of any monitor is due, or `NEVER`.
     #[tactic(auto, using(crate::proofs::Dues::boxes_next))]
     fn due(&self) -> u64
         ensures { result ≡ due_of self.now }
@@ -259,7 +262,7 @@ impl Copies {
         due
     }
 
-    /// How long until the next one goes, and at most `wait`.
+    /// Milliseconds until the next copy is due, at most `wait`.
     pub(crate) fn rests(&self, now: u64, wait: u64) -> u64
         ensures { result ≡ min wait (due_of self.now - now) }
     {

@@ -1,4 +1,4 @@
-//! What a datagram is of its message.
+//! Which part of its message a datagram is.
 
 ghost use Rattle.std.specs.Prelude.{◌≡◌};
 ghost use Rattle.mon_resend.specs.Datagrams.{part_of, piece_in};
@@ -14,10 +14,10 @@ pub struct Piece {
     pub is_last: bool,
 }
 
-/// What a datagram is of its message.
+/// Which part of its message a datagram is.
 #[derive(Clone, Copy)]
 pub enum Part {
-    /// It is the message.
+    /// The whole message.
     Whole(Header),
     /// The first piece of a message of this many bytes.
     First(Header, u32),
@@ -43,7 +43,7 @@ fn read_piece(datagram: &[u8]) -> Option<Part>
     }
 }
 
-/// What a datagram is of a message, or `None` if it is of none.
+/// Which part of a message a datagram is, or `None` if its header can't be read.
 pub fn part_of(datagram: &[u8]) -> Option<Part>
     ensures { result ≡ part_of datagram.now }
 {

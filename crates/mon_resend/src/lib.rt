@@ -1,4 +1,4 @@
-//! A link that sends again what a monitor sent to another one and what wasn't answered.
+//! A link that repeats the messages of a monitor to others until they are answered.
 #![tactic(auto)]
 
 mod calls;

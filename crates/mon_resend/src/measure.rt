@@ -3,7 +3,8 @@
 ghost use Rattle.std.specs.Prelude.{◌≡◌};
 ghost use Rattle.mon_resend.specs.Measures.{unmeasured, measured, measured_soon, waits};
 
-/// The least and the greatest time until a copy goes, and that to a peer which wasn't measured yet, in milliseconds.
+/// The measured wait for an answer, in milliseconds: the least, the one for a peer that wasn't measured yet, the
+/// greatest.
 pub(crate) const LEAST_TIME: u64 = 3;
 
 pub(crate) const FIRST: u64 = 500;
@@ -16,7 +17,7 @@ pub(crate) const PARTS: u64 = 1_000;
 /// How many answers in a row that come soon after the first copy show that the peer is faster than it was.
 pub(crate) const MOST_SOON: u8 = 3;
 
-/// The smoothed time of a peer's answers and its variation, in parts of a millisecond, once there was one.
+/// The smoothed time of a peer's answers and its variation, in thousandths of a millisecond. They hold once `known`.
 #[derive(Clone, Copy)]
 pub struct Measure {
     pub known: bool,
@@ -38,8 +39,9 @@ impl Measure {
         }
     }
 
-    /// After an answer that came this many milliseconds after its message went last, as a copy for this many times. After a
-    /// copy it may answer an earlier one, which makes the time too short: such an answer counts if it is later than usual.
+    /// The measure after an answer that arrived `time` milliseconds after its message was last sent. The message was
+    /// sent `copies` times as a copy. After a copy, the answer may belong to an earlier sending, so that `time` is too
+    /// short. Such an answer counts only if it took longer than usual.
     pub(crate) fn after(self, time: u64, copies: u8) -> Measure
         ensures { result ≡ measured time copies self }
     {
@@ -68,8 +70,8 @@ impl Measure {
         }
     }
 
-    /// After an answer that came in less than a quarter of the usual time after the first copy. It rarely answers the message
-    /// itself. After some in a row the usual time is halved by each.
+    /// The measure after an answer that came at most a quarter of the usual time after the first copy. Such an answer
+    /// rarely belongs to the first sending. From the third in a row on, each halves the usual time.
     fn after_soon(self) -> Measure
         ensures { result ≡ measured_soon self }
     {

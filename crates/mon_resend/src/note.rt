@@ -1,4 +1,4 @@
-//! When a copy goes, and when it is kept no longer.
+//! When a copy is sent, and when it is dropped.
 
 ghost use Rattle.std.specs.Prelude.{◌≡◌};
 ghost use Rattle.mon_resend.specs.Shelves.{if_gone};
@@ -8,13 +8,13 @@ use crate::rows::{Way, ends, is_answered, is_asked_again, is_of_epoch, way_of};
 use mon_decode::{Header, same_kind};
 use mon_wire::Kind;
 
-/// How often a copy goes.
+/// How often a message is sent as a copy before the copy is dropped.
 pub(crate) const TIMES: u8 = 16;
 
-/// What never goes by itself is due then.
+/// The time at which a copy is due that is sent only after an event.
 pub(crate) const NEVER: u64 = u64::MAX;
 
-/// The longest time between two copies, unless the first one took longer, in milliseconds.
+/// Up to this wait, in milliseconds, each copy doubles the wait for the next one. A longer first wait stays as it is.
 pub(crate) const LONGEST: u64 = 1_000;
 
 /// The least time until a request for a copy of the store goes again, and until one for a chunk does, in milliseconds. A
@@ -23,8 +23,8 @@ pub(crate) const LEAST_OF_COOKIE: u64 = 2_000;
 
 pub(crate) const LEAST_OF_CHUNK: u64 = 100;
 
-/// How long after the last piece of a chunk it is asked for again, in milliseconds, unless the next one is asked for: then
-/// an earlier piece was lost.
+/// How long after the last piece of a chunk its GET_CHUNK is sent again, in milliseconds. If no piece was lost, the
+/// next GET_CHUNK has replaced it by then.
 pub(crate) const AFTER_CHUNK: u64 = 20;
 
 /// How much longer the copies of a long message wait for each of its pieces, in milliseconds.
@@ -33,13 +33,13 @@ pub(crate) const PIECE_TIME: u64 = 10;
 /// What happens to the copies that are kept for a monitor.
 #[derive(Clone, Copy)]
 pub enum Event {
-    /// A message of this kind begins to go to it.
+    /// A new message of this kind is to be sent to it.
     Sent(Kind),
     /// A message came from it.
     Came(Header),
     /// A later piece of a long message came from it.
     Piece { is_last: bool },
-    /// It asks again what was answered: this answer goes again.
+    /// This question of it arrived again, and the kept answer is to be sent again.
     Asked(Header),
     /// A message of this epoch, the greatest so far, went to a monitor or came from one.
     Rose(u64),
@@ -55,15 +55,17 @@ pub enum Event {
 #[derive(Clone, Copy)]
 pub struct Note {
     pub header: Header,
-    /// How many datagrams its message is.
+    /// How many datagrams its message has.
     pub pieces: u64,
-    /// When it went last, when it goes again, and how long after that once more.
+    /// When it was sent last, when it is due, and the wait between the two, which each copy doubles up to `LONGEST`; in
+    /// milliseconds.
     pub last: u64,
     pub due: u64,
     pub every: u64,
-    /// How often it went as a copy.
+    /// How often it was sent as a copy.
     pub times: u8,
-    /// Whether it waits to go: an answer until it is asked again, a FORWARD until the one before it is answered.
+    /// Whether it may be sent without `again`: an answer after its question arrived again, and a FORWARD that had to
+    /// wait for an earlier one. It is false once it is sent.
     pub held: bool,
 }
 
@@ -81,7 +83,8 @@ fn least_of(kind: Kind) -> u64
 }
 
 impl Note {
-    /// The note of a message that goes now in this many pieces, to a monitor whose answers take that long; or that is held.
+    /// The note of a new message in `pieces` datagrams, which is sent now unless it is held. `wait` is the measured
+    /// wait for the monitor's answers.
     pub(crate) fn new(header: Header, pieces: u64, held: bool, wait: u64, now: u64) -> Note
         ensures { result ≡ noted header pieces held wait now }
     {
@@ -107,7 +110,7 @@ impl Note {
         }
     }
 
-    /// Whether an event ends it: then it is kept no longer.
+    /// Whether an event ends the copy, so that it is dropped.
     pub(crate) fn is_ended(&self, event: Event) -> bool
         ensures { result ≡ is_ended event self.now }
     {
@@ -121,7 +124,7 @@ impl Note {
         }
     }
 
-    /// What is noted when it is to go.
+    /// The note of a copy that is now to be sent, as if for the first time.
     fn called(self, now: u64) -> Note
         ensures { result ≡ called now self }
     {
@@ -165,7 +168,7 @@ impl Note {
         }
     }
 
-    /// What is noted when it goes again after this time.
+    /// The note if the copy is due after `time` milliseconds.
     fn waits(self, time: u64, now: u64) -> Note
         ensures { result ≡ record self { due = plus now time } }
     {
@@ -175,21 +178,21 @@ impl Note {
         }
     }
 
-    /// Whether it goes now. What went before goes again only if `again` allows it.
+    /// Whether the copy is to be sent now. Without `again`, only a held one is.
     pub(crate) fn goes(&self, again: bool, now: u64) -> bool
         ensures { result ≡ goes again now self.now }
     {
         self.due <= now && (again || self.held) && self.times < TIMES
     }
 
-    /// Whether it went often enough.
+    /// Whether the copy is due again although it was sent `TIMES` times.
     pub(crate) fn is_spent(&self, now: u64) -> bool
         ensures { result ≡ is_spent now self.now }
     {
         self.due <= now && TIMES <= self.times
     }
 
-    /// What is noted after it went.
+    /// The note after the copy was sent.
     pub(crate) fn gone(self, now: u64) -> Note
         ensures { result ≡ gone now self }
     {
@@ -217,7 +220,7 @@ impl Note {
         }
     }
 
-    /// What is noted after the time at which it goes, if it does.
+    /// The note after the due copies were sent: it changes if this copy was among them.
     pub(crate) fn passed(self, again: bool, now: u64) -> Note
         ensures { result ≡ if_gone again now self }
     {

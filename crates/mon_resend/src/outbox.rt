@@ -1,4 +1,4 @@
-//! What is kept for one monitor, by the messages that go to it and come from it.
+//! The copies that are kept for one monitor, and how each message to it or from it changes them.
 
 ghost use Rattle.std.specs.Prelude.{◌≡◌, true, false, if◌then◌else◌, [], find, is_some, length, not, option_map};
 ghost use Rattle.std.specs.List.{list_any};
@@ -23,11 +23,11 @@ use std::alloc::Global;
 /// The long message of which a piece was the last datagram to the monitor.
 #[derive(Clone, Copy)]
 pub enum UnderWay {
-    /// There is none, or no copy of it is kept.
+    /// The last datagram was no piece, or its message is sent without copies.
     Nothing,
-    /// Copies are kept of its pieces.
+    /// Copies of its pieces are kept.
     Kept(Note),
-    /// It would have to wait, and there is no room for it.
+    /// It must wait for an earlier message, but there is no room for its copies. It is lost.
     Lost,
 }
 
@@ -38,7 +38,7 @@ pub struct Number {
     pub seq: u64,
 }
 
-/// An answer, and whether memory sufficed for what was to be kept.
+/// The Boolean result of a step, and whether memory sufficed for what the step had to keep.
 #[derive(Clone, Copy)]
 pub struct Answer {
     pub yes: bool,
@@ -46,7 +46,7 @@ pub struct Answer {
 }
 
 impl Answer {
-    /// One for which nothing was to be kept.
+    /// The answer of a step that had nothing to keep.
     pub(crate) fn of(yes: bool) -> Answer
         ensures { result ≡ record { yes = yes; has_memory = true } }
     {
@@ -63,13 +63,13 @@ pub struct Outbox {
     pub shelf: Shelf,
     pub measure: Measure,
     pub under_way: UnderWay,
-    /// The last GET_CHUNK that came. The CHUNK that is kept answers it.
+    /// The last GET_CHUNK that arrived, or nothing if memory was refused for it. A kept CHUNK answers it.
     pub asked: Bytes,
-    /// The long message of which a later piece came last, and which one that was when the last GET_CHUNK began to go: that
-    /// GET_CHUNK follows it.
+    /// `heard`: the long message of the later piece that arrived last. `past`: what `heard` was when the last GET_CHUNK
+    /// was sent, which asks for what follows that message.
     pub heard: Option<Number>,
     pub past: Option<Number>,
-    /// Its PROPOSEs that may not be handed up.
+    /// What decides whether a PROPOSE from it is handed up: one of an earlier epoch, and one that was acknowledged.
     pub earlier: Earlier,
     pub acknowledged: Acknowledged,
     /// How often memory was refused for what was to be kept: a copy, or the last GET_CHUNK that came. At most `u64::MAX`.
@@ -93,7 +93,7 @@ impl Outbox {
         }
     }
 
-    /// The first FORWARD. The others wait for its ROUTE.
+    /// The oldest FORWARD that is kept. The later ones wait for its ROUTE.
     fn first_forward(&self) -> Option<&Kept>
         ensures { option_map (λ k. k.now) result ≡ first_forward self.now.shelf }
     {
@@ -117,7 +117,7 @@ impl Outbox {
         }
     }
 
-    /// Lets the first FORWARD go if it is held.
+    /// Makes the first FORWARD due now if it is held.
     fn turns(&mut self, now: u64)
         ensures { self.new ≡ record self.old { shelf = turned now self.old.shelf } }
     {
@@ -126,7 +126,7 @@ impl Outbox {
         }
     }
 
-    /// Does what an event does to the copies, and lets the next FORWARD go if none before it waits for its ROUTE.
+    /// Applies an event to the copies. Then the first FORWARD is due if it is still held.
     pub(crate) fn apply(&mut self, event: Event, now: u64)
         ensures { self.new ≡ record self.old { shelf = happened event now self.old.shelf } }
     {
@@ -134,7 +134,7 @@ impl Outbox {
         self.turns(now);
     }
 
-    /// Does what a message that begins to go does to what is kept before it.
+    /// Drops the copies that a new message ends, and notes what a GET_CHUNK or an ACK changes.
     fn clears(&mut self, header: &Header, now: u64)
         ensures { self.new ≡ cleared header.now now self.old }
     {
@@ -148,7 +148,7 @@ impl Outbox {
         self.apply(Event::Sent(header.kind), now);
     }
 
-    /// What is noted of a message of this many bytes, of which the first datagram has this many.
+    /// The note of a message of `total` bytes whose first datagram has `length` bytes.
     fn note_of(&self, header: Header, total: u64, length: u64, now: u64) -> Note
         ensures { result ≡ note_of header total length now self.now }
     {
@@ -170,7 +170,7 @@ impl Outbox {
             .has_room(note.pieces, total.saturating_add(before))
     }
 
-    /// Counts what wasn't kept, if memory was refused for it.
+    /// Adds one to `unkept` if memory was refused.
     fn counts(&mut self, has_memory: bool)
         ensures { self.new ≡ counted_if (not has_memory) self.old self.old }
     {
@@ -179,7 +179,7 @@ impl Outbox {
         }
     }
 
-    /// Keeps a copy if there is room and memory, and counts it if memory is refused. Whether there was memory.
+    /// Keeps a copy if there is room for it. Returns false, and counts it, if memory is refused.
     fn keep(&mut self, alloc: Global, to: Rank, bytes: &[u8], note: Note) -> bool
         ensures { self.new ≡ copied result (datagram (Monitor to) bytes.now) note self.old }
     {
@@ -191,9 +191,9 @@ impl Outbox {
         has_memory
     }
 
-    /// Keeps a copy of a message that begins to go, if there is room for the whole of it. Whether its first datagram goes
-    /// now. A FORWARD waits until the one before it is answered: its leader takes none after a later one. One for which
-    /// there is no room then is lost.
+    /// Keeps a copy of the first datagram of a message, if there is room for the whole message. `yes` means that the
+    /// datagram is sent now. A FORWARD waits until the one before it is answered, since the leader takes none after a
+    /// later one. A FORWARD that must wait and has no room is lost.
     pub(crate) fn begins(
         &mut self,
         alloc: Global,
@@ -221,7 +221,8 @@ impl Outbox {
         Answer { yes, has_memory }
     }
 
-    /// Keeps a copy of a later piece, if that of the first one is kept. Whether it goes now.
+    /// Keeps a copy of a later piece, if its message is one of which copies are kept. `yes` means that the piece is
+    /// sent now.
     pub(crate) fn goes_on(&mut self, alloc: Global, to: Rank, bytes: &[u8]) -> Answer
         ensures after { self.new ≡ went_on result.has_memory (datagram (Monitor to) bytes.now) self.old }
         ensures goes { result.yes ≡ goes_on_now self.old.under_way }
@@ -239,7 +240,8 @@ impl Outbox {
         }
     }
 
-    /// What is kept, was answered by what arrived, and is measured.
+    /// The first copy that the arrived message answers and whose answers are measured. It is no piece of a long
+    /// message.
     fn answered(&self, came: &Header) -> Option<&Kept>
         ensures { option_map (λ k. k.now) result ≡ answered_one came.now self.now.shelf }
     {
@@ -250,7 +252,7 @@ impl Outbox {
         })
     }
 
-    /// The measure after what arrived, which may be an answer that is measured.
+    /// The measure after a message arrived. It changes only if the message answers a measured copy.
     fn measured(&self, came: &Header, now: u64) -> Measure
         ensures { result ≡ measured_by came.now now self.now }
     {
@@ -262,7 +264,7 @@ impl Outbox {
         }
     }
 
-    /// Notes that a message came that isn't answered by a copy: what it answers is kept no longer.
+    /// Notes an arrived message that no copy answers: measures it, and drops the copies that it answers.
     fn hears(&mut self, came: &Header, now: u64)
         ensures { self.new ≡ heard came.now now self.old }
     {
@@ -280,7 +282,7 @@ impl Outbox {
             .any(|kept| is_asked_again(&kept.note.header, came))
     }
 
-    /// Notes that a question came: the answer that is kept goes again. Whether there is one.
+    /// Makes the kept answer to an arrived question due again. Returns whether there is such an answer.
     fn answers(&mut self, came: &Header, now: u64) -> bool
         ensures after { self.new ≡ answered came.now now self.old }
         ensures knows { result ≡ knows came.now self.old.shelf }
@@ -292,8 +294,9 @@ impl Outbox {
         true
     }
 
-    /// Notes that a message came. Whether the copy of its answer alone answers it, and not the monitor. A BEGIN would be
-    /// synced once more, and a CHUNK that is made anew has pieces that don't complete those of the one before.
+    /// Notes an arrived message. `yes` means that the kept answer is sent again and the message isn't handed up. The
+    /// monitor would sync a repeated BEGIN once more, and a new CHUNK's pieces don't complete those of the earlier one.
+    /// A FORWARD is always handed up.
     pub(crate) fn comes(&mut self, alloc: Global, came: &Header, bytes: &[u8], now: u64) -> Answer
         ensures after { self.new ≡ received result.has_memory came.now bytes.now now self.old }
         ensures known { result.yes ≡ is_known came.now bytes.now self.old }
@@ -320,7 +323,7 @@ impl Outbox {
         }
     }
 
-    /// Keeps the last GET_CHUNK that came, and counts it if memory is refused. Whether there was memory.
+    /// Remembers an arrived GET_CHUNK as the last one. Returns false, and counts it, if memory is refused.
     fn is_asked(&mut self, alloc: Global, bytes: &[u8]) -> bool
         ensures { self.new ≡ counted_if (not result) self.old
             (record self.old { asked = if result then bytes.now else [] }) }
@@ -332,9 +335,10 @@ impl Outbox {
         has_memory
     }
 
-    /// Whether a PROPOSE isn't handed up, given the epoch of the last message that went to any monitor, or 0 after a PROBE. One
-    /// of an earlier epoch than that of a quorum rests after the one before it. One that was acknowledged isn't handed up if
-    /// its monitor hears no acknowledgement.
+    /// Notes an arrived PROPOSE, and returns whether it isn't handed up. `own` is the epoch of the last message that
+    /// was sent to any monitor, or 0 after a PROBE. In a quorum, a PROPOSE of an earlier epoch is dropped during the
+    /// rest that follows the last one that was handed up. A PROPOSE that was acknowledged is dropped if its sender
+    /// hears no acknowledgement.
     pub(crate) fn drops(&mut self, epoch: u64, own: u64, now: u64) -> bool
         ensures after { self.new ≡ called epoch own now self.old }
         ensures drops { result ≡ is_dropped epoch own now self.old }
@@ -365,8 +369,8 @@ impl Outbox {
         }
     }
 
-    /// Notes that a later piece came. It says nothing of the CHUNK that is asked for if it is of the one before, which came
-    /// again.
+    /// Notes a later piece of a long message. It changes when the GET_CHUNK is due, unless it is a late piece of the
+    /// message that the GET_CHUNK follows.
     pub(crate) fn hears_piece(&mut self, piece: Piece, now: u64)
         ensures { self.new ≡ piece_came piece now self.old }
     {
@@ -384,7 +388,7 @@ impl Outbox {
         }
     }
 
-    /// Notes that what goes now went. What went before goes again only if `again` allows it.
+    /// Updates the copies after the due ones were sent. Without `again`, only held copies were sent.
     pub(crate) fn passes(&mut self, again: bool, now: u64)
         ensures { self.new ≡ passed again now self.old }
     {
@@ -393,7 +397,7 @@ impl Outbox {
     }
 }
 
-/// What is under way after the first datagram of a message that has room, or none.
+/// What is under way after the first datagram of a message, given whether there is room for the whole message.
 fn under_way_of(note: Note, fits: bool) -> UnderWay
     ensures { result ≡ under_way_of note fits }
 {

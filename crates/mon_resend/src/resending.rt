@@ -1,4 +1,4 @@
-//! A link that sends again.
+//! A link over another one that sends unanswered messages again.
 
 ghost use Rattle.std.specs.Prelude.{◌≡◌, ◌<◌, ◌++◌, ◌∷◌, ◌⊎◌, [], Ok, slice_get, option_map};
 ghost use Rattle.mon_resend.specs.Copied.{AreOf, AsksOnce, datagram};
@@ -15,7 +15,7 @@ use mon_link::{Clock, Got, Link, Peer};
 use mon_types::{Rank, Stop};
 use std::alloc::Global;
 
-/// How many datagrams are taken one after the other before copies go although more may wait.
+/// After this many datagrams in a row copies are sent, although more datagrams may wait in the link below.
 pub(crate) const RUN: u64 = 64;
 
 /// A link, and copies of what it was given to send to monitors: for each monitor at most 160 datagrams of 6 MiB in all.
@@ -30,7 +30,7 @@ pub struct Resending<L: Link + Drop, C: Clock + Drop> {
 }
 
 impl<L: Link + Drop, C: Clock + Drop> Resending<L, C> {
-    /// Nothing is kept yet.
+    /// A link over `inner` that keeps nothing yet.
     pub fn new(alloc: Global, inner: L, clock: C) -> Resending<L, C>
         ensures inner { result.inner ≡ inner }
         ensures copies { result.copies ≡ fresh }
@@ -46,7 +46,7 @@ impl<L: Link + Drop, C: Clock + Drop> Resending<L, C> {
         }
     }
 
-    /// Sends one of the datagrams that are kept for a monitor, if it goes now.
+    /// Sends one of the copies for a monitor, if it is due. A failure of the link below is ignored.
     fn repeat_one(&mut self, place: usize, at: usize, again: bool, now: u64)
         requires { place < 15 }
         ensures sends { SendsEach (going_at again now (slice_get (box_of place self.old.copies).shelf at)) (L.state self.old.inner) (L.state self.new.inner) }
@@ -61,7 +61,7 @@ impl<L: Link + Drop, C: Clock + Drop> Resending<L, C> {
         let _ = self.inner.send(kept.out.to, kept.out.bytes.as_slice());
     }
 
-    /// Sends those of the datagrams that are kept for a monitor that go now.
+    /// Sends the due copies for one monitor.
     fn repeat_at(&mut self, place: usize, again: bool, now: u64)
         requires { place < 15 }
         ensures sends { SendsEach (going again now (box_of place self.old.copies).shelf) (L.state self.old.inner) (L.state self.new.inner) }
@@ -72,7 +72,7 @@ impl<L: Link + Drop, C: Clock + Drop> Resending<L, C> {
         }
     }
 
-    /// Sends what goes now, monitor by monitor.
+    /// Sends the due copies, monitor by monitor, and updates their notes.
     fn repeat(&mut self, again: bool, now: u64)
         ensures sends { SendsEach (all_going again now self.old.copies) (L.state self.old.inner) (L.state self.new.inner) }
         ensures kept { self.new.copies ≡ all_passed again now self.old.copies }
@@ -96,8 +96,8 @@ impl<L: Link + Drop, C: Clock + Drop> Resending<L, C> {
         sent
     }
 
-    /// Counts the datagrams that came in a row. Whether copies may go of what went before: an answer to it may be among
-    /// the datagrams that wait in the link.
+    /// Counts consecutive datagrams. Returns whether messages may be sent again: if the link below gave no datagram, or
+    /// `RUN` in a row. Until then, an answer may be among the datagrams that wait in it.
     fn counts(&mut self, got: &Got) -> bool
         ensures may { result ≡ may_go got.now self.old.run }
         ensures run { self.new ≡ record self.old { run = run_after got.now self.old.run } }
@@ -112,7 +112,7 @@ impl<L: Link + Drop, C: Clock + Drop> Resending<L, C> {
         true
     }
 
-    /// Notes what came. Whether it isn't handed up.
+    /// Notes what the link below gave. `yes` means that it isn't handed up.
     fn note(&mut self, got: &Got, now: u64) -> Answer
         ensures kept { self.new ≡ record self.old { copies = with_got result.has_memory got.now now self.old.copies } }
         ensures known { result.yes ≡ isnt_handed_up got.now now self.old.copies }
@@ -126,7 +126,7 @@ impl<L: Link + Drop, C: Clock + Drop> Resending<L, C> {
         }
     }
 
-    /// Keeps a copy of what is to be sent. Whether it goes now.
+    /// Keeps a copy of a datagram if its message is sent again. `yes` means that the datagram is sent now.
     fn keeps(&mut self, to: Rank, bytes: &[u8], now: u64) -> Answer
         ensures kept { self.new ≡ record self.old { copies = sent result.has_memory to bytes.now now self.old.copies } }
         ensures goes { result.yes ≡ goes_now to bytes.now now self.old.copies }
@@ -140,7 +140,8 @@ impl<L: Link + Drop, C: Clock + Drop> Link for Resending<L, C> {
 
     ghost state = { λ r. record { told = None; faults = (L.state r.inner).faults; losses = r.losses } };
 
-    /// Asks the link once for what comes, and waits no longer than until a copy is due. Then copies may go.
+    /// Asks the link below once, and waits at most until a copy is due. Then sends the due copies. Returns `Idle` for a
+    /// datagram that isn't handed up, and an error of the link below at once.
     fn next(&mut self, wait: u64) -> Result<Got, Stop>
         ensures exactly { Receives wait (C.left self.old.clock) self.old.run self.old.copies (L.state self.old.inner) result self.new.run self.new.copies (L.state self.new.inner) }
         ensures asks { AsksOnce wait (outs self.old.copies) result (L.state self.old.inner) (L.state self.new.inner) }
@@ -160,7 +161,8 @@ impl<L: Link + Drop, C: Clock + Drop> Link for Resending<L, C> {
         Ok(got)
     }
 
-    /// Sends a datagram, or keeps it until what went to that monitor before is answered.
+    /// Sends a datagram, or keeps a FORWARD until the one before it is answered. `Ok` doesn't mean that it was sent:
+    /// one that must wait is lost if there is no room or memory for it.
     fn send(&mut self, to: Peer, bytes: &[u8]) -> Result<(), Stop>
         ensures exactly { Sends to bytes.now (C.left self.old.clock) self.old.copies (L.state self.old.inner) result self.new.copies (L.state self.new.inner) }
         ensures sends { (CallsSend to bytes.now result (L.state self.old.inner) (L.state self.new.inner))

@@ -12,7 +12,7 @@ use mon_wire::Kind;
 pub enum Way {
     /// It isn't kept.
     Never,
-    /// After a time, since its answer may be missing.
+    /// If it isn't answered within a time.
     ByTime,
     /// When its question arrives again.
     WhenAsked,
@@ -48,7 +48,7 @@ pub(crate) fn way_of(kind: Kind) -> Way
     }
 }
 
-/// Whether the epoch of a message of this kind counts.
+/// Whether the epoch of a message of this kind is compared with others: a greater one ends copies of an earlier one.
 pub(crate) fn is_of_epoch(kind: Kind) -> bool
     ensures { result ≡ is_of_epoch kind }
 {
@@ -99,7 +99,7 @@ fn is_chunk(kind: Kind) -> bool
     is_either(kind, Kind::Chunk, Kind::LastChunk)
 }
 
-/// Whether a message of a kind that begins to go to a monitor ends the copies of one of another kind to it.
+/// Whether a new message of kind `sent` to a monitor ends the copies of kind `kept` for that monitor.
 pub(crate) fn ends(sent: Kind, kept: Kind) -> bool
     ensures { result ≡ ends sent kept }
 {
@@ -188,7 +188,7 @@ pub(crate) fn is_answered(kept: &Header, came: &Header) -> bool
     }
 }
 
-/// Whether what arrived is the question that this one answers.
+/// Whether the message `came` is the question that `kept` answers.
 pub(crate) fn is_asked_again(kept: &Header, came: &Header) -> bool
     ensures { result ≡ is_asked_again kept.now came.now }
 {
@@ -230,7 +230,7 @@ pub(crate) fn is_asked_again(kept: &Header, came: &Header) -> bool
     }
 }
 
-/// Whether the answer to such a message is measured. It is one whose answer is made at once, or after a sync.
+/// Whether the time of the answer to such a message is measured. These are answered at once, or after one sync.
 pub(crate) fn is_measured(kind: Kind) -> bool
     ensures { result ≡ is_measured kind }
 {

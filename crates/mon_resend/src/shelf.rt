@@ -10,8 +10,8 @@ use mon_link::{Outgoing, Peer};
 use std::alloc::Global;
 use std::marker::Model;
 
-/// How many datagrams are kept for a monitor, and how many bytes of them: 64 requests of the greatest length, in two pieces
-/// each, and a COMMIT and a BEGIN of the greatest length.
+/// The most datagrams that are kept for one monitor, and the most bytes in all. Both suffice for 64 requests of the
+/// greatest length, in two pieces each, and a COMMIT and a BEGIN of the greatest length.
 pub(crate) const MOST_KEPT: usize = 160;
 
 pub(crate) const MOST_KEPT_BYTES: usize = 6_291_456;
@@ -23,7 +23,8 @@ pub struct Kept {
     pub note: Note,
 }
 
-/// At most 160 datagrams, of 6 MiB in all, in the order in which they came.
+/// At most 160 datagrams, in the order in which they were added. Callers ask `has_room` first, which bounds them by 6
+/// MiB in all.
 #[derive(Drop)]
 pub struct Shelf {
     kept: Vec<Kept>,
@@ -73,7 +74,7 @@ impl Shelf {
             && (self.bytes() as u64).saturating_add(bytes) <= MOST_KEPT_BYTES as u64
     }
 
-    /// Takes a copy of one more, if there is room and memory. Whether it did.
+    /// Adds a copy of a datagram, if fewer than 160 are kept and memory suffices. Returns whether it was added.
     pub(crate) fn push(&mut self, alloc: Global, to: Peer, bytes: &[u8], note: Note) -> bool
         ensures { self.new ≡ (if result then self.old ++ record { out = datagram to bytes.now; note = note } ∷ []
             else self.old) }
@@ -91,7 +92,7 @@ impl Shelf {
         self.kept.push(Kept { out, note }).is_ok()
     }
 
-    /// When the next one goes.
+    /// When the next copy is due, or `NEVER`.
     #[tactic(auto, using(crate::proofs::Dues::due_more))]
     pub(crate) fn due(&self) -> u64
         ensures { result ≡ first_due self.now }
@@ -103,7 +104,7 @@ impl Shelf {
         due
     }
 
-    /// Does what an event does to each of them.
+    /// Drops the copies that an event ends, and updates the notes of the others.
     pub(crate) fn apply(&mut self, event: Event, now: u64)
         ensures { self.new ≡ applied event now self.old }
     {
@@ -113,7 +114,7 @@ impl Shelf {
         }
     }
 
-    /// Notes that those that go went, and drops those that went often enough.
+    /// Updates the notes after the due copies were sent, and drops the copies that are due again after `TIMES` copies.
     pub(crate) fn went(&mut self, again: bool, now: u64)
         ensures { self.new ≡ went again now self.old }
     {
