@@ -19,7 +19,7 @@ use Rattle.mon_frag.specs.Headers.{is_piece, header_of}
 
 -- ---- one message
 
--- its parts, of which none is there but one
+-- the parts of a message of which only one is there
 abbrev pub begun : Header → List ℕ → List (Option (List ℕ))
 begun h bytes = slice_set (replicate (piece_count h.total) None) (h.place / PART) (Some bytes)
 
@@ -27,7 +27,7 @@ begun h bytes = slice_set (replicate (piece_count h.total) None) (h.place / PART
 abbrev pub grown : List (Option (List ℕ)) → Joined
 grown parts = if list_all is_some parts then joined.Whole (flat_map (λ part. unwrap_or part []) parts) else joined.More
 
--- what comes at a place of which no part is there yet, or of which this one is
+-- what a part at place k is for a message, given what is there: no such place, no part yet, or a part
 abbrev pub joined_at : List (Option (List ℕ)) → ℕ → List ℕ → Option (Option (List ℕ)) → Joined
 joined_at parts k bytes None = joined.Clash
 joined_at parts k bytes (Some None) = grown (slice_set parts k (Some bytes))

@@ -1,4 +1,4 @@
--- What a peer sends, what comes of it, and what an assembly answers to that.
+-- What a peer sends, which of it arrives, and what an assembly answers to that.
 use Rattle.std.specs.Prelude.{◌≡◌, ◌≤◌, ◌<◌, ◌^◌, ℕ, false, List, [], ◌∷◌, length, Option, Some, None, Ok, Err}
 use Rattle.std.specs.List.{Contains, AllByRecursion}
 use Rattle.mon_bytes.specs.declared.limits.TheConstants.{MOST_MESSAGE}
@@ -22,7 +22,7 @@ pub record IsMessage (m : Message) : Type 0 where
   pub seq : m.seq < 2 ^ 64
   pub no_piece : is_piece m.bytes ≡ false
 
--- it is longer than a datagram
+-- the message is longer than a datagram
 abbrev pub IsLong : Message → Type 0
 IsLong m = DATAGRAM < length m.bytes
 
@@ -36,15 +36,15 @@ pub record FromPeer : Type 0 where
   pub from : Peer
   pub bytes : List ℕ
 
--- They are a datagram of one of these messages.
+-- These bytes are a datagram of one of these messages.
 abbrev pub IsDatagram : List Message → List ℕ → Type 0
 IsDatagram sent bytes = (m : Message) × Contains sent m × Contains (pieces_of m.bytes m.boot m.seq) bytes
 
--- They are one of these messages, whole.
+-- These bytes are one of these messages, whole.
 abbrev pub IsWhole : List Message → List ℕ → Type 0
 IsWhole sent bytes = (m : Message) × Contains sent m × (m.bytes ≡ bytes)
 
--- if they are from this peer
+-- a property of the bytes, if they are from this peer
 abbrev pub From : Peer → (List ℕ → Type 0) → FromPeer → Type 0
 From q P d = q ≡ d.from → P d.bytes
 

@@ -72,7 +72,7 @@ fn place_from_clients(kept: &[Partial]) -> Option<usize>
     kept.iter().position(|p| is_from_client(&p.from))
 }
 
-/// The place of the first one from a client, if there are as many of them as are kept.
+/// The place of the first one from a client, if there are `MOST_OF_CLIENTS` of them.
 fn first_from_clients(kept: &[Partial]) -> Option<usize>
     ensures { result ≡ first_of MOST_OF_CLIENTS (λ p. is_client p.from) kept.now }
 {
@@ -90,7 +90,7 @@ fn place_of(kept: &[Partial], from: &Peer, boot: u64, seq: u64) -> Option<usize>
     kept.iter().position(|p| p.is_of(from, boot, seq))
 }
 
-/// The place of the one that goes for a new one.
+/// The place of the oldest message that is dropped for a new one of this peer, if the limits require one.
 fn oldest(kept: &[Partial], from: &Peer) -> Option<usize>
     ensures place { result ≡ oldest_against from.now kept.now }
     ensures within { IfSome result (λ i. i < length kept.now) }
@@ -105,7 +105,7 @@ fn oldest(kept: &[Partial], from: &Peer) -> Option<usize>
 }
 
 impl Assembly {
-    /// Nothing came yet. It takes no memory.
+    /// An assembly before anything arrives. It takes no memory.
     pub fn new(alloc: Global) -> Assembly
         ensures { result ≡ [] }
     {
@@ -114,7 +114,7 @@ impl Assembly {
         }
     }
 
-    /// Keeps what is begun, in the place of the one that goes for it.
+    /// Keeps a message of which one piece arrived, and drops the oldest one if the limits require it.
     #[tactic(auto, using(crate::proofs::Lists::remove_earlier))]
     fn keep(&mut self, partial: Partial) -> Result<(), OutOfMemory>
         ensures ok { OnOk result (self.new ≡ without self.old (oldest_against partial.from self.old) ++ partial ∷ []) }
@@ -128,7 +128,7 @@ impl Assembly {
         Ok(())
     }
 
-    /// Takes the first piece of a message.
+    /// Takes a piece of a message of which no piece is kept.
     fn begin(
         &mut self,
         alloc: Global,
@@ -144,7 +144,7 @@ impl Assembly {
         Ok(None)
     }
 
-    /// Takes a piece of the message at a place.
+    /// Takes a piece of the kept message at a place.
     #[tactic(auto, using(crate::proofs::Lists::joined_ok))]
     fn add(
         &mut self,

@@ -105,7 +105,7 @@ pub fn behind_header(datagram: &[u8]) -> &[u8]
     bytes
 }
 
-/// The header of a piece. Refused with the first field that doesn't fit or isn't as it is in a piece.
+/// The header of a piece. A refusal names the first field that doesn't fit or isn't as it is in a piece.
 pub fn read_header(datagram: &[u8]) -> Result<Header, FragRefused>
     ensures header { result ≡ header_of datagram.now }
     ensures within { IfOk result (λ h. h.place < h.total) }

@@ -10,7 +10,7 @@ use mon_link::Peer;
 use std::alloc::Global;
 use std::marker::Model;
 
-/// The parts of a message that have come.
+/// The parts of a message, each `None` until it arrives.
 #[derive(Drop)]
 pub struct Parts {
     parts: Vec<Option<Bytes>>,
@@ -34,16 +34,16 @@ pub struct Partial {
     pub parts: Parts,
 }
 
-/// What a piece does to an incomplete message.
+/// What a piece is for an incomplete message.
 #[derive(Drop)]
 pub enum Joined {
     /// It contradicts an earlier one.
     Clash,
-    /// It came before.
+    /// It is there already.
     Known,
-    /// It is one more part.
+    /// It is one more part, and others are still missing.
     More,
-    /// It is the last part of this message.
+    /// It was the only missing part. This is the message.
     Whole(Bytes),
 }
 
@@ -65,7 +65,7 @@ fn are_there(parts: &[Option<Bytes>]) -> bool
 }
 
 impl Parts {
-    /// A message of this many parts, of which one has come.
+    /// The parts of a message of `count` parts, of which the one at a place is there.
     fn begin(alloc: Global, count: usize, at: usize, bytes: &[u8]) -> Result<Parts, OutOfMemory>
         requires { at < count }
         ensures { IfOk result (λ parts. parts ≡ slice_set (replicate count None) at (Some bytes.now)) }
@@ -88,7 +88,8 @@ impl Parts {
         are_there(front) && are_there(back)
     }
 
-    /// The bytes of the parts, with these at a place. They are `total`, and so much room is made for them at first.
+    /// The bytes of the parts, with these at a place. Room for `total` bytes is made at first, which suffices for a
+    /// whole message.
     fn around(
         &self,
         alloc: Global,
@@ -127,7 +128,7 @@ impl Parts {
         Ok(Joined::Whole(Bytes::new(whole)))
     }
 
-    /// What comes of a part at a place of a message of `total` bytes.
+    /// What a part at a place is for a message of `total` bytes.
     #[tactic(auto, using(crate::proofs::Lists::grown_is))]
     fn join(
         &self,
@@ -164,7 +165,7 @@ impl Parts {
 }
 
 impl Partial {
-    /// What a piece begins.
+    /// The incomplete message that begins with a piece, which may be any of its pieces.
     pub fn begin(
         alloc: Global,
         from: Peer,
@@ -192,7 +193,7 @@ impl Partial {
         *from == self.from && boot == self.boot && seq == self.seq
     }
 
-    /// What a piece does to it.
+    /// What a piece is for it. Changes nothing: the caller puts a part that is new.
     pub fn join(&self, alloc: Global, header: Header, bytes: &[u8]) -> Result<Joined, OutOfMemory>
         ensures joined { IfOk result (λ joined. joined ≡ joins self.now header bytes.now) }
         ensures room { IfOk result (λ joined. joined ≡ Joined.More → header.place / PART < length self.now.parts) }

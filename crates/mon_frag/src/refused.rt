@@ -1,7 +1,7 @@
 use mon_bytes::{OutOfMemory, Short};
 use thiserror::Error;
 
-/// Why a datagram wasn't taken. What was kept before it is kept.
+/// Why a datagram wasn't taken. A refusal leaves what is kept unchanged.
 #[derive(Clone, Copy, Debug, PartialEq, Eq, Error)]
 pub enum FragRefused {
     /// It has more than 60,000 bytes.

@@ -1,4 +1,4 @@
--- What a link that greets asks of the link below, and makes of what that gives.
+-- What a link that greets asks of the link below, and what it hands up.
 use Rattle.std.specs.Prelude.{◌≡◌, ◌⊎◌, ℕ, zero, suc, ◌+◌, nat_le, ◌==◌, Bool, false, List, [], ◌∷◌, ◌++◌, Option, Some, None, IfSome, option_map, Result, Ok, Err, if◌then◌else◌}
 use Rattle.mon_link.specs.Clocks.{Readings, reading, after}
 use Rattle.mon_link.specs.Links.{LinkState, CallsNext, CallsSend}
@@ -16,12 +16,12 @@ use Rattle.mon_hello.specs.declared.hello.TheConstants.{MARK}
 use Rattle.mon_hello.specs.declared.greeting.TheConstants.{INTERVAL}
 use Rattle.mon_hello.specs.Formats.{hello_of}
 
--- a datagram of the layer begins with the byte 04
+-- a hello begins with the byte 04
 abbrev pub is_hello : List ℕ → Bool
 is_hello [] = false
 is_hello (b ∷ bytes) = b == MARK
 
--- nothing came in place of such a datagram
+-- what is handed up: Idle in place of a hello
 abbrev pub passed : Got → Got
 passed (Datagram from bytes) = if is_hello bytes then Idle else Datagram from bytes
 passed Idle = Idle
@@ -67,8 +67,8 @@ rounds due left = record { due = due; left = left }
 abbrev pub is_due : ℕ → Rounds → Bool
 is_due now r = nat_le r.due now
 
--- What goes when this came at that time: an answer to a client that sent a hello, and a hello to each other monitor if a
--- round is due.
+-- The hellos that are sent after the link below gave something at this time: an answer to a client that sent one, and
+-- one to each other monitor if a round is due.
 abbrev pub hellos : Member → List ℕ → Rounds → (now : ℕ) → Got → List Outgoing
 hellos member bytes r now got =
     answer bytes (asker got) ++ (if is_due now r then round member.rank member.monitors bytes else [])
@@ -89,17 +89,17 @@ SendsAll (out ∷ outs) result old new =
 
 -- ---- a call of `next`
 
--- what came is handed on once all was sent
+-- what the link below gave is handed up once all hellos were sent
 abbrev pub handed : Got → Result (Unit {0}) Stop → Result Got Stop
 handed got (Ok x) = Ok (passed got)
 handed got (Err e) = Err e
 
--- a round that went is followed by one 10 s later
+-- after a round was sent, the next one is due 10 s later
 abbrev pub due_after : Result (Unit {0}) Stop → Rounds → (now : ℕ) → ℕ
 due_after (Ok x) r now = if is_due now r then now + INTERVAL else r.due
 due_after (Err e) r now = r.due
 
--- The link below gave this. The clock is read once, and what is to go at the time that it shows is sent.
+-- The link below gave `got`. The clock is read once, and the hellos that are due at that time are sent.
 pub record Greets (member : Member) (bytes : List ℕ) (got : Got) (result : Result Got Stop) (r after_it : Rounds)
     (old new : LinkState) : Type 0 where
   pub now : ℕ
@@ -110,21 +110,22 @@ pub record Greets (member : Member) (bytes : List ℕ) (got : Got) (result : Res
   pub hands : result ≡ handed got went
   pub due : after_it.due ≡ due_after went r now
 
--- Memory ran out before any hello went: the one answer without a cause. A round that is due stays so.
+-- Memory ran out before any hello was sent, which may happen whatever the link below gave. A due round stays due.
 pub record FindsNoMemory (result : Result Got Stop) (r after_it : Rounds) (old new : LinkState) : Type 0 where
   pub reads : after_it.left ≡ option_map after r.left
   pub answer : result ≡ Err OutOfMemory
   pub due : after_it.due ≡ r.due
   pub below : new ≡ old
 
--- What the link below gave is greeted and handed on. An error is returned as it is, and nothing is done.
+-- After the link below gave something, hellos are sent and it is handed up. An error is returned as it is, and nothing
+-- is done.
 abbrev pub Passes : Member → List ℕ → (gave result : Result Got Stop) → (r after_it : Rounds) → (old new : LinkState)
     → Type 0
 Passes member bytes (Err e) result r after_it old new = (result ≡ Err e) × (after_it ≡ r) × (new ≡ old)
 Passes member bytes (Ok got) result r after_it old new =
     Greets member bytes got result r after_it old new ⊎ FindsNoMemory result r after_it old new
 
--- The link below was asked once, for as long, and then only to send hellos.
+-- The link below was asked once, with the same wait, and then only to send hellos.
 pub record AsksOnce (member : Member) (bytes : List ℕ) (wait : ℕ) (result : Result Got Stop) (r after_it : Rounds)
     (old new : LinkState) : Type 0 where
   pub gave : Result Got Stop

@@ -12,11 +12,11 @@ use crate::sending::greet;
 use mon_link::{Clock, Got, Link, Peer};
 use mon_types::Stop;
 
-/// How long it is from one round of hellos to the next, in milliseconds.
+/// The time from one round of hellos to the next, in milliseconds.
 pub const INTERVAL: u64 = 10_000;
 
-/// A link that sends what a monitor says of itself to each other monitor, at its first call that receives and then every
-/// 10 s, and to each client that greets. It takes what others say of themselves, and says how they differ.
+/// A link that sends its monitor's hello to each other monitor, at the first call of `next` and then every 10 s, and to
+/// each client that sent one. It takes the hellos of others, and writes lines about how they differ.
 #[derive(Drop)]
 pub struct Greeting<L: Link + Drop, C: Clock + Drop, S: Say + Drop> {
     pub inner: L,
@@ -29,7 +29,7 @@ pub struct Greeting<L: Link + Drop, C: Clock + Drop, S: Say + Drop> {
     pub losses: u64,
 }
 
-/// What is handed on of what came.
+/// What is handed up: `Idle` in place of a hello.
 fn passed(got: Got) -> Got
     ensures { result ≡ passed got }
 {
@@ -46,7 +46,7 @@ fn passed(got: Got) -> Got
 }
 
 impl<L: Link + Drop, C: Clock + Drop, S: Say + Drop> Greeting<L, C, S> {
-    /// A link over this one, which has sent nothing yet.
+    /// A link over `inner` that has sent no hello yet.
     pub fn new(inner: L, clock: C, say: S, own: Own, heard: Heard) -> Greeting<L, C, S>
         ensures inner { result.inner ≡ inner }
         ensures clock { result.clock ≡ clock }
@@ -71,9 +71,9 @@ impl<L: Link + Drop, C: Clock + Drop, S: Say + Drop> Link for Greeting<L, C, S> 
 
     ghost state = { λ r. record { told = None; faults = (L.state r.inner).faults; losses = r.losses } };
 
-    /// Asks the link once for what comes. Then a client that sent a hello is answered, and each other monitor is greeted
-    /// if a round is due. A hello whose send fails is left out. If memory runs out, that is the answer, what came is
-    /// dropped, and a round that was due stays so.
+    /// Asks the link below once, with the same wait. Then it answers a client that sent a hello, and greets each other
+    /// monitor if a round is due. A hello whose send fails is left out. If memory runs out, that is the error, what was
+    /// received is dropped, and a due round stays due.
     fn next(&mut self, wait: u64) -> Result<Got, Stop>
         ensures asks { AsksOnce self.old.own.member self.old.own.datagram wait result
             (rounds self.old.due (C.left self.old.clock)) (rounds self.new.due (C.left self.new.clock))

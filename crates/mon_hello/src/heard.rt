@@ -15,31 +15,32 @@ const MOST_LINES: u32 = 20;
 
 const LINES_INTERVAL: u64 = 10_000;
 
-/// What is known of a monitor.
+/// What a monitor said of itself, and which lines were said about it.
 #[derive(Drop)]
 pub struct Known {
     /// Its newest hello.
     pub hello: Option<Hello>,
-    /// When that came, in milliseconds of the link's clock.
+    /// When that hello arrived, in milliseconds of the link's clock.
     pub heard: u64,
-    /// What was said of it since it last agreed, by reason.
+    /// By reason, whether a line was said since the monitor last agreed.
     said: [bool; 6],
 }
 
-/// What other monitors said of themselves, in order of rank, and what was said of them.
+/// What other monitors said of themselves, in order of rank, and which lines were said about them.
 #[derive(Drop)]
 pub struct Heard {
     pub known: Vec<Known>,
     /// The bytes with which each framed datagram of one's own quorum begins.
     frame: Bytes,
-    /// The lines of the interval that began at that time.
+    /// How many lines were said in the current interval, and when it began.
     lines: u32,
     begun: u64,
     alloc: Global,
 }
 
 impl Heard {
-    /// Nothing was heard of this number of monitors. The frame of an empty datagram is how each one of the quorum begins.
+    /// The state before any of this many monitors is heard. `frame` is an empty datagram in the frame of one's own
+    /// quorum, and so the beginning of each datagram of it.
     pub fn new(alloc: Global, monitors: u8, frame: Bytes) -> Result<Heard, OutOfMemory> {
         let mut known = Vec::new(alloc);
         for _ in 0..monitors {
@@ -58,7 +59,7 @@ impl Heard {
         })
     }
 
-    /// Counts a line, if one more may be said.
+    /// Counts a line. Returns whether it may be said in this interval.
     fn counts(&mut self, now: u64) -> bool {
         if now >= self.begun.saturating_add(LINES_INTERVAL) {
             self.begun = now;
@@ -71,7 +72,8 @@ impl Heard {
         true
     }
 
-    /// Whether a line of a monitor was said for this reason since it last agreed. If there is no such monitor, it was.
+    /// Whether a line about a monitor was said for this reason since it last agreed. True if there is no such monitor,
+    /// so that no line is said about it.
     fn was_said(&self, from: Rank, reason: Reason) -> bool {
         match self.known.get(usize::from(from.get())) {
             Some(known) => known.said[reason.place()],
@@ -85,7 +87,8 @@ impl Heard {
         }
     }
 
-    /// Says a line, unless it was said since the monitor last agreed. It agrees if the line is empty.
+    /// Says a line, unless it was said since the monitor last agreed, or too many were said. An empty line means that
+    /// the monitor agrees.
     fn says<S: Say>(&mut self, from: Rank, reason: Reason, line: &str, now: u64, say: &mut S) {
         if line.is_empty() {
             self.set_said(from, reason, false);
@@ -119,7 +122,7 @@ impl Heard {
         }
     }
 
-    /// Takes that a monitor's datagram was in the frame of one's own quorum, or wasn't.
+    /// Notes whether a monitor's datagram was in the frame of one's own quorum, and says a line if it wasn't.
     fn frames<S: Say>(&mut self, from: Rank, framed: bool, now: u64, say: &mut S) {
         if framed {
             self.set_said(from, Reason::Unnamed, false);

@@ -9,7 +9,7 @@ use mon_types::{Rank, RankSet};
 use std::alloc::{AllocError, Global};
 use std::fmt::Write;
 
-/// What lines are said to.
+/// A receiver of lines.
 pub trait Say {
     /// Says a line, which is given without its end.
     fn say(&mut self, line: &str);
@@ -27,7 +27,7 @@ pub(crate) enum Reason {
 }
 
 impl Reason {
-    /// Those that a hello shows.
+    /// The differences that a hello can show.
     pub(crate) const IN_HELLO: [Reason; 5] = [
         Reason::Name,
         Reason::Monitors,
@@ -36,7 +36,7 @@ impl Reason {
         Reason::Version,
     ];
 
-    /// Its place among them.
+    /// The place of the reason among all six.
     pub(crate) fn place(self) -> usize
         ensures { result < 6 }
     {
@@ -51,7 +51,7 @@ impl Reason {
     }
 }
 
-/// The line that says how a monitor's hello differs from one's own in this; empty if it doesn't.
+/// The line that says how a monitor's hello differs from one's own for this reason. It is empty if it doesn't differ.
 pub(crate) fn line_of(
     alloc: Global,
     reason: Reason,
@@ -71,7 +71,7 @@ pub(crate) fn line_of(
     Ok(line)
 }
 
-/// The line of a monitor whose datagrams have no frame, or that of another quorum.
+/// The line about a monitor whose datagrams have no frame, or the frame of another quorum.
 pub(crate) fn unnamed_line(alloc: Global, from: Rank) -> Result<String, AllocError> {
     let mut line = String::new(alloc);
     let rank = from.get();

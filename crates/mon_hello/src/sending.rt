@@ -1,4 +1,4 @@
-//! Sending hellos. One that failed isn't sent again: the next round follows.
+//! Sending hellos. A hello whose send fails isn't repeated: the next round follows.
 
 ghost use Rattle.std.specs.Prelude.{◌≡◌, ◌++◌, ◌∷◌, [], if◌then◌else◌};
 ghost use Rattle.mon_hello.specs.Greets.{SendsAll, answer, outgoing, round, to_other};
@@ -58,7 +58,8 @@ fn greet_if<L: Link>(link: &mut L, own: &Own, due: bool) -> Result<(), Stop>
     }
 }
 
-/// Answers a client, if one asked, and greets each other monitor, if that is due. The error is that memory ran out.
+/// Answers a client, if one asked, and greets each other monitor, if a round is due. The only error is that memory ran
+/// out.
 pub(crate) fn greet<L: Link>(
     link: &mut L,
     own: &Own,

@@ -1,4 +1,4 @@
--- What a link that watches asks of the link below, and makes of what that gives.
+-- What a link that watches asks of the link below, and what it hands up.
 use Rattle.std.specs.Prelude.{◌≡◌, ◌⊎◌, ℕ, List, Option, Some, None, IfSome, IsSome, Result, Ok, Err, if◌then◌else◌}
 use Rattle.serde_json.specs.Written.{compact_text}
 use Rattle.mon_link.specs.Clocks.{Readings, reading}
@@ -17,7 +17,7 @@ use Rattle.mon_watch.specs.Reports.{report_data}
 use Rattle.mon_watch.specs.Requests.{answer_text, is_watch, request_of}
 use Rattle.mon_watch.specs.Traffic.{notes_got}
 
--- nothing came in place of a datagram of the watch
+-- what is handed up: Idle in place of a datagram of the watch
 abbrev pub passed : Got → Got
 passed (Datagram from bytes) = if is_watch bytes then Idle else Datagram from bytes
 passed Idle = Idle
@@ -36,7 +36,7 @@ asker (Datagram (Monitor j) bytes) = None
 asker Idle = None
 asker Closed = None
 
--- what the call of `next` answers after a send: one that failed is lost, and no memory is an error
+-- the result of a send: one that failed is lost and no error; that memory ran out is an error
 abbrev pub after_send : Result (Unit {0}) Stop → Result (Unit {0}) Stop
 after_send (Ok x) = Ok tt
 after_send (Err Failed) = Ok tt
@@ -51,7 +51,7 @@ abbrev pub SendsTo : (client : ℕ) → List ℕ → (went : Result (Unit {0}) S
 SendsTo client bytes went old new =
     (answered : Result (Unit {0}) Stop) × CallsSend (Client client) bytes answered old new × (went ≡ after_send answered)
 
--- A link was asked for nothing but to send the answer to who asked.
+-- A link was asked for nothing but to send the answer to the client that asked.
 abbrev pub SendsAnswer : Option Asker → Member → Notes → (went : Result (Unit {0}) Stop) → (old new : LinkState) → Type 0
 SendsAnswer None m n went old new = (went ≡ Ok tt) × (new ≡ old)
 SendsAnswer (Some asker) m n went old new =
@@ -59,12 +59,12 @@ SendsAnswer (Some asker) m n went old new =
 
 -- ---- a call of `next`
 
--- what came is handed on, unless there was no memory for the answer
+-- what the link below gave is handed up, unless memory ran out for the answer
 abbrev pub handed : Got → Result (Unit {0}) Stop → Result Got Stop
 handed got (Ok x) = Ok (passed got)
 handed got (Err e) = Err e
 
--- The link below gave this. The clock is read once, it is noted, and an answer goes to who asked.
+-- The link below gave `got`. The clock is read once, `got` is noted, and an answer is sent to a client that asked.
 pub record Answers (m : Member) (clock : Option Readings) (got : Got) (result : Result Got Stop) (before after : Notes)
     (old new : LinkState) : Type 0 where
   pub now : ℕ
@@ -75,12 +75,12 @@ pub record Answers (m : Member) (clock : Option Readings) (got : Got) (result : 
       ⊎ (IsSome (asker got) × (went ≡ Err OutOfMemory) × (new ≡ old))
   pub hands : result ≡ handed got went
 
--- What it gave ended the call, or was passed on after answering.
+-- An error of the link below ended the call; anything else was handed up after answering.
 abbrev pub Passes : (m : Member) → Option Readings → Result Got Stop → Result Got Stop → (before after : Notes) → LinkState → LinkState → Type 0
 Passes m clock (Err e) result before after old new = (result ≡ Err e) × (after ≡ before) × (new ≡ old)
 Passes m clock (Ok got) result before after old new = Answers m clock got result before after old new
 
--- The link below was asked once, for as long, and then only to send an answer.
+-- The link below was asked once, with the same wait, and then only to send an answer.
 pub record AsksOnce (m : Member) (clock : Option Readings) (wait : ℕ) (result : Result Got Stop) (before after : Notes)
     (old new : LinkState) : Type 0 where
   pub gave : Result Got Stop

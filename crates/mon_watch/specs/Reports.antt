@@ -1,4 +1,4 @@
--- The text by which a monitor answers what is known of it: one JSON object, its keys in order.
+-- The text with which a monitor answers a client that asks what is known of it: one JSON object, its keys in order.
 use Rattle.std.specs.Prelude.{ℕ, ◌-◌, List, take, map, codes, Option, Some, None}
 use Rattle.serde_json.specs.Data.{Data, Items, Members, array, item, member, no_items, no_members, null, number, object, put, string, unsigned}
 use Rattle.serde_json.specs.View.{items_of}

@@ -1,5 +1,5 @@
--- What is known of a monitor from the headers of the messages that it sends and gets. Where they don't show what its core knows, less is
--- known.
+-- What is known of a monitor from the headers of the messages that it sends and gets. This may be less than its core
+-- knows.
 use Rattle.std.specs.Prelude.{ℕ, max, ◌+◌, ◌==◌, ◌&&◌, Bool, true, false, nat_le, List, Option, Some, None, is_some, slice_set, slice_index_or, replicate, if◌then◌else◌}
 use Rattle.mon_types.specs.Faults.{risen}
 use Rattle.mon_link.specs.declared.link.Peer.{Peer}
@@ -21,11 +21,11 @@ use Rattle.mon_watch.specs.declared.seen.Victory.{Victory}
 abbrev pub no_contact : Contact
 no_contact = record { heard = None; asked = None }
 
--- It was heard. So nothing waits for it.
+-- The monitor was heard, so it has nothing to answer.
 abbrev pub heard_at : ℕ → Contact
 heard_at now = record { heard = Some now; asked = None }
 
--- what it is to answer and was sent first after it was heard
+-- when it was first sent something to answer since it was heard: at the time noted, if there is one, and otherwise now
 abbrev pub or_first : ℕ → Option ℕ → Option ℕ
 or_first now None = Some now
 or_first now (Some at) = Some at
@@ -33,7 +33,7 @@ or_first now (Some at) = Some at
 abbrev pub asked_at : ℕ → Contact → Contact
 asked_at now c = record { heard = c.heard; asked = or_first now c.asked }
 
--- it was sent something to answer, and not heard for ten seconds
+-- something to answer was sent at the time noted, ten seconds ago or earlier
 abbrev pub is_past : ℕ → Option ℕ → Bool
 is_past now None = false
 is_past now (Some at) = nat_le (at + SILENCE) now
@@ -73,12 +73,12 @@ led_by own to phase.Active = Some own
 led_by own to phase.Peon = Some to
 led_by own to p = None
 
--- from whom it takes a store, until it is in a quorum
+-- the monitor from which it takes a store, until it is in a quorum
 abbrev pub taken_from : (to : ℕ) → Phase → Option ℕ → Option ℕ
 taken_from to phase.Synchronizing old = Some to
 taken_from to p old = if is_member p then None else old
 
--- an election begins, or begins anew in a later epoch
+-- how many elections began: one more if it elects now and didn't before, or did in an earlier epoch
 abbrev pub elections_after : (epoch : ℕ) → Phase → Seen → ℕ
 elections_after epoch phase.Electing s =
     if same_phase s.phase phase.Electing && nat_le epoch s.epoch then s.elections else risen s.elections

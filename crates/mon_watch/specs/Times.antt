@@ -49,6 +49,6 @@ after_write at bytes t = record t { writes = risen t.writes; written = plus t.wr
 abbrev pub after_read : (bytes : ℕ) → DiskTimes → DiskTimes
 after_read bytes t = record t { reads = risen t.reads; fetched = plus t.fetched bytes }
 
--- the disk was this long
+-- the disk had this length when it was asked
 abbrev pub after_length : (length : ℕ) → DiskTimes → DiskTimes
 after_length length t = record t { length = length }

@@ -12,7 +12,7 @@ use Rattle.mon_watch.specs.declared.notes.Notes.{Notes}
 use Rattle.mon_watch.specs.declared.traffic.Traffic.{Traffic}
 use Rattle.mon_watch.specs.Seen.{after_sent, after_came, nothing_seen}
 
--- where a datagram counts: at the byte of the kind that it names, or at 0 if it is a piece of a long message
+-- the place at which a datagram counts: the byte of the kind that it names, or 0 if it is a piece of a long message
 abbrev pub place : List ℕ → Option Kind → Option ℕ
 place bytes (Some k) = Some (kind_byte k)
 place bytes None = if is_piece bytes then Some 0 else None
@@ -37,7 +37,7 @@ with_received None t = record t { refused = risen t.refused }
 abbrev pub no_notes : Notes
 no_notes = record { seen = nothing_seen; traffic = no_traffic; now = 0 }
 
--- The monitor of rank `own` sent a datagram. It counts as sent when the link last gave something.
+-- The monitor of rank `own` sent a datagram. It is noted at the time at which the link below last gave something.
 abbrev pub notes_sent : (own : ℕ) → Peer → List ℕ → Notes → Notes
 notes_sent own to bytes n =
     let k = kind_named bytes in
@@ -48,7 +48,7 @@ notes_came from bytes n =
     let k = kind_named bytes in
     record n { seen = after_came n.now from k bytes n.seen; traffic = with_received (place bytes k) n.traffic }
 
--- the link gave this at a time
+-- the link below gave this at this time
 abbrev pub notes_got : (now : ℕ) → Got → Notes → Notes
 notes_got now (Datagram from bytes) n = notes_came from bytes (record n { now = now })
 notes_got now Idle n = record n { now = now }

@@ -1,11 +1,11 @@
 ghost use Rattle.std.specs.Prelude.{◌≡◌};
 ghost use Rattle.mon_watch.specs.Seen.{asked_at, heard_at, is_past, is_silent, no_contact, or_first};
 
-/// How long a monitor may say nothing after it was sent something that it is to answer, in milliseconds.
+/// A monitor is silent if it sends nothing for this long after it was sent something to answer, in milliseconds.
 pub const SILENCE: u64 = 10_000;
 
-/// When another monitor was heard last, and since when something that it is to answer has waited without its being heard.
-/// The times are milliseconds of the link's clock.
+/// When another monitor was heard last, and when it was first sent something to answer since then. The times are
+/// milliseconds of the link's clock.
 #[derive(Clone, Copy)]
 pub struct Contact {
     pub heard: Option<u64>,
@@ -31,7 +31,7 @@ fn is_past(now: u64, at: Option<u64>) -> bool
 }
 
 impl Contact {
-    /// Nothing was sent or heard yet.
+    /// The contact before anything is sent or heard.
     pub(crate) fn none() -> Contact
         ensures { result ≡ no_contact }
     {
@@ -41,7 +41,7 @@ impl Contact {
         }
     }
 
-    /// It was heard.
+    /// The contact after the monitor was heard: it has nothing to answer.
     pub(crate) fn heard_at(now: u64) -> Contact
         ensures { result ≡ heard_at now }
     {
@@ -51,7 +51,7 @@ impl Contact {
         }
     }
 
-    /// It was sent something that it is to answer.
+    /// The contact after the monitor was sent something to answer.
     pub(crate) fn asked_at(self, now: u64) -> Contact
         ensures { result ≡ asked_at now self }
     {
@@ -61,7 +61,7 @@ impl Contact {
         }
     }
 
-    /// Whether it was sent something to answer, and not heard for ten seconds.
+    /// Whether it was sent something to answer ten seconds ago or earlier, and hasn't been heard since.
     pub fn is_silent(self, now: u64) -> bool
         ensures { result ≡ is_silent now self }
     {

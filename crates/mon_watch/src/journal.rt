@@ -47,7 +47,7 @@ impl<W: Tell + Drop, C: Clock + Drop> Journal<W, C> {
         }
     }
 
-    /// Says how many lines were left out, if the interval is over.
+    /// Begins the next interval if this one is over, and then writes how many lines were left out, if any.
     fn renews(&mut self, now: u64) {
         let left_out = self.ration.renews(now);
         if left_out > 0
@@ -71,26 +71,26 @@ impl<W: Tell + Drop, C: Clock + Drop> Journal<W, C> {
     }
 }
 
-/// A journal that several share; or none, where no line is wanted.
+/// A handle to a journal that several share, or to none, which drops all lines.
 #[derive(Drop)]
 pub struct Shared<W: Tell + Drop, C: Clock + Drop> {
     journal: Option<Rc<RefCell<Journal<W, C>>>>,
 }
 
 impl<W: Tell + Drop, C: Clock + Drop> Shared<W, C> {
-    /// One that writes to this journal.
+    /// A handle to this journal.
     pub fn new(alloc: Global, journal: Journal<W, C>) -> Result<Shared<W, C>, AllocError> {
         Ok(Shared {
             journal: Some(Rc::new(alloc, RefCell::new(journal))?),
         })
     }
 
-    /// One that writes nothing.
+    /// A handle to no journal.
     pub fn silent() -> Shared<W, C> {
         Shared { journal: None }
     }
 
-    /// One that writes to the same journal.
+    /// Another handle to the same journal.
     pub fn share(&self) -> Result<Shared<W, C>, AllocError> {
         match &self.journal {
             Some(journal) => Ok(Shared {

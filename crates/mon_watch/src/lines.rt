@@ -11,15 +11,15 @@ use mon_wire::Phase;
 use std::alloc::{AllocError, Global};
 use std::fmt::Write;
 
-/// How often it is looked whether a monitor is silent, in milliseconds.
+/// The least time between two checks for silent monitors and slow syncs, in milliseconds.
 const LOOK: u64 = 1000;
 
-/// What takes lines.
+/// A receiver of lines.
 pub trait Tell {
     /// Takes a line, which is given without its end.
     fn tell(&mut self, line: &str);
 
-    /// Time passed.
+    /// Is called about once a second, so that a receiver can write lines that depend on time.
     fn rest(&mut self);
 }
 
@@ -47,16 +47,16 @@ impl Standing {
     }
 }
 
-/// What the last lines said.
+/// What the last lines said, so that only changes are written.
 #[derive(Clone, Copy)]
 pub(crate) struct Said {
     standing: Standing,
     source: Option<u8>,
-    /// Since when each monitor is silent, of those about which a line says so.
+    /// Since when each monitor is silent about which a line says so, by rank.
     silent: [Option<u64>; 15],
     slow_a: u64,
     slow_b: u64,
-    /// When it is next looked who is silent.
+    /// When silent monitors and slow syncs are checked next.
     due: u64,
 }
 
@@ -127,7 +127,7 @@ fn write_if<S: Tell>(lines: &mut S, line: Result<String, AllocError>) {
 }
 
 impl Said {
-    /// No line was written yet.
+    /// The state before any line is written.
     pub(crate) fn new() -> Said {
         Said {
             standing: Standing::Unknown,
@@ -139,7 +139,7 @@ impl Said {
         }
     }
 
-    /// Says what the monitor does, if that changed.
+    /// Writes a line if the monitor has its whole store again, and one if it does something else than before.
     pub(crate) fn changes<S: Tell + Drop>(&mut self, watch: &mut Watch<S>, notes: &Notes)
         ensures { watch.new.member ≡ watch.old.member }
     {
@@ -158,7 +158,7 @@ impl Said {
         }
     }
 
-    /// Names a monitor that became silent, or was heard again.
+    /// Writes a line if a monitor became silent, or was heard again.
     fn looks_at<S: Tell>(&mut self, alloc: Global, lines: &mut S, rank: Rank, notes: &Notes) {
         let place = usize::from(rank.get());
         let contact = notes.seen.contacts[place];
@@ -179,7 +179,7 @@ impl Said {
         }
     }
 
-    /// Names slow syncs.
+    /// Writes a line for each disk that had a slow sync since the last check.
     fn looks_at_disks<S: Tell>(
         &mut self,
         alloc: Global,
@@ -197,7 +197,7 @@ impl Said {
         }
     }
 
-    /// Says what changed with time, once a second.
+    /// Writes lines about slow syncs and silent monitors, at most once a second.
     pub(crate) fn passes<S: Tell + Drop>(&mut self, watch: &mut Watch<S>, notes: &Notes)
         ensures { watch.new.member ≡ watch.old.member }
     {

@@ -9,7 +9,8 @@ use crate::traffic::Traffic;
 use mon_link::{Got, Peer};
 use mon_types::Rank;
 
-/// All that a link noted of its monitor, and when it last gave something, in milliseconds of its clock.
+/// All that a link noted of its monitor. `now` is when the link below last gave something, in milliseconds of the
+/// clock.
 #[derive(Clone, Copy)]
 pub struct Notes {
     pub seen: Seen,
@@ -18,7 +19,7 @@ pub struct Notes {
 }
 
 impl Notes {
-    /// Nothing yet.
+    /// The notes before anything is sent or received.
     pub fn new() -> Notes
         ensures { result ≡ no_notes }
     {
@@ -29,7 +30,8 @@ impl Notes {
         }
     }
 
-    /// The monitor of rank `own` sends this. Returns whether it may show another phase than before.
+    /// Notes a datagram that the monitor of rank `own` sends. Returns whether its kind shows a phase, which may be a
+    /// new one.
     pub(crate) fn sends(&mut self, own: Rank, to: &Peer, bytes: &[u8]) -> bool
         ensures notes { self.new ≡ notes_sent own to.now bytes.now self.old }
         ensures shows { result ≡ shows (kind_named bytes.now) }
@@ -48,7 +50,7 @@ impl Notes {
         self.traffic.gets(bytes, kind);
     }
 
-    /// The link gives this.
+    /// Notes what the link below gave at this time.
     pub(crate) fn gets(&mut self, got: &Got, now: u64)
         ensures { self.new ≡ notes_got now got.now self.old }
     {

@@ -1,12 +1,12 @@
 ghost use Rattle.std.specs.Prelude.{◌≡◌, if◌then◌else◌};
 ghost use Rattle.mon_watch.specs.Rations.{admits, from_now, is_over, renewed, with_line};
 
-/// How many lines are written in an interval at most, and how long it is, in milliseconds.
+/// The most lines that are written in an interval, and the length of an interval in milliseconds.
 const MOST: u32 = 20;
 
 const INTERVAL: u64 = 10_000;
 
-/// How many lines were written and left out in the interval that began at that time.
+/// How many lines were written and left out in the interval that began at `begun`.
 #[derive(Clone, Copy)]
 pub struct Ration {
     begun: u64,
@@ -15,7 +15,7 @@ pub struct Ration {
 }
 
 impl Ration {
-    /// An interval that begins at that time.
+    /// An interval that begins now and has no lines yet.
     pub fn from_now(now: u64) -> Ration
         ensures { result ≡ from_now now }
     {
@@ -26,7 +26,8 @@ impl Ration {
         }
     }
 
-    /// Begins the next interval, if this one is over. Returns how many lines were left out in it then, and otherwise 0.
+    /// Begins the next interval if this one is over, and returns how many lines this one left out. Returns 0 if it
+    /// isn't over.
     pub fn renews(&mut self, now: u64) -> u64
         ensures after { self.new ≡ renewed now self.old }
         ensures left_out { result ≡ if is_over now self.old then self.old.left_out else 0 }

@@ -1,4 +1,4 @@
-//! The text by which a monitor answers what is known of it.
+//! The text with which a monitor answers a client that asks what is known of it.
 
 ghost use Rattle.std.specs.Prelude.{◌≡◌, IfOk, OnOk, string_bytes};
 ghost use Rattle.serde_json.specs.Data.{array, item, no_items, put, string};

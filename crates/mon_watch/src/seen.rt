@@ -22,7 +22,7 @@ pub struct Victory {
 pub struct Seen {
     /// The phase that the kinds of its messages show.
     pub phase: Phase,
-    /// The epoch of its last message to a monitor whose kind shows a phase.
+    /// The epoch of its last message to a monitor that shows a phase by its kind.
     pub epoch: u64,
     /// The rank that leads its quorum.
     pub leader: Option<u8>,
@@ -30,15 +30,15 @@ pub struct Seen {
     pub source: Option<u8>,
     /// The victory of the latest epoch.
     pub victory: Option<Victory>,
-    /// The last version that it named.
+    /// The greatest last version that its messages named, or 0.
     pub version: u64,
-    /// How many elections began.
+    /// How many elections it was seen to take part in. One that begins anew in a later epoch counts again.
     pub elections: u64,
-    /// Each monitor, by rank.
+    /// When each monitor was heard and asked, by rank.
     pub contacts: [Contact; 15],
 }
 
-/// The phase of a monitor that sends such a message to another one.
+/// The phase of a monitor that sends a message of this kind to another one, if the kind shows it.
 fn shown(kind: Kind) -> Option<Phase>
     ensures { result ≡ shown kind }
 {
@@ -157,7 +157,7 @@ fn announces(kind: Option<Kind>) -> bool
     matches!(kind, Some(Kind::Victory))
 }
 
-/// The header of a message that comes, if it announces a victory.
+/// The header of a message that arrived, if it announces a victory.
 fn header_heard(kind: Option<Kind>, bytes: &[u8]) -> Option<Header>
     ensures { result ≡ header_heard kind bytes.now }
 {
@@ -190,7 +190,7 @@ fn victory_after(
 }
 
 impl Seen {
-    /// Nothing is known yet.
+    /// What is known before anything is sent or received.
     pub fn new() -> Seen
         ensures { result ≡ nothing_seen }
     {
@@ -206,7 +206,7 @@ impl Seen {
         }
     }
 
-    /// The quorum, with bit r for rank r: 0 if it isn't known.
+    /// The quorum, with bit r for rank r, or 0 if it isn't known.
     pub fn quorum(&self) -> u64
         ensures { result ≡ quorum_of self.now.leader self.now.epoch self.now.victory }
     {
@@ -237,7 +237,7 @@ impl Seen {
         }
     }
 
-    /// The monitor of rank `own` sends a message of this header, which shows this phase.
+    /// Notes that the monitor of rank `own` sends a message of this header, which shows this phase.
     fn shows(&mut self, own: u8, to: u8, header: Header, phase: Phase)
         ensures { self.new ≡ after_phase own to header (Some phase) self.old }
     {
@@ -250,7 +250,7 @@ impl Seen {
         self.version = self.version.max(named(header.kind, header.first));
     }
 
-    /// The monitor of rank `own` sends a message of this header.
+    /// Notes the header of a message that the monitor of rank `own` sends, if it was read.
     fn says(&mut self, own: u8, to: u8, header: Option<Header>)
         ensures { self.new ≡ after_header own to header self.old }
     {
@@ -261,7 +261,7 @@ impl Seen {
         }
     }
 
-    /// The monitor of rank `from` sent a message of this header.
+    /// Notes the header of a message from the monitor of rank `from`, if it was read.
     fn hears_of(&mut self, from: u8, header: Option<Header>)
         ensures { self.new ≡ after_heard from header self.old }
     {
@@ -290,7 +290,7 @@ impl Seen {
         self.contacts[usize::from(from.get())] = Contact::heard_at(now);
     }
 
-    /// The monitor of rank `own` sends a datagram of a message of this kind, or of none.
+    /// Notes a datagram that the monitor of rank `own` sends. `kind` is the kind that it names, if any.
     pub(crate) fn sends(&mut self, own: Rank, to: Peer, kind: Option<Kind>, bytes: &[u8], now: u64)
         ensures { self.new ≡ after_sent own now to kind bytes.now self.old }
     {
@@ -303,7 +303,7 @@ impl Seen {
         }
     }
 
-    /// A datagram of a message of this kind, or of none, came.
+    /// Notes a datagram that arrived. `kind` is the kind that it names, if any.
     pub(crate) fn gets(&mut self, from: Peer, kind: Option<Kind>, bytes: &[u8], now: u64)
         ensures { self.new ≡ after_came now from kind bytes.now self.old }
     {

@@ -9,8 +9,8 @@ use mon_types::Stop;
 use std::cell::Cell;
 use std::rc::Rc;
 
-/// A disk over another one, which it is in all that can be seen. It counts the calls, and times the syncs, for whoever
-/// shares its times.
+/// A disk that passes each call to another one and returns its result. It counts the calls and times the syncs in
+/// `times`, which others may share and read.
 #[derive(Drop)]
 pub struct Timed<D: Disk + Drop, C: Clock + Drop> {
     pub inner: D,
@@ -19,7 +19,7 @@ pub struct Timed<D: Disk + Drop, C: Clock + Drop> {
 }
 
 impl<D: Disk + Drop, C: Clock + Drop> Timed<D, C> {
-    /// A disk over this one.
+    /// A disk over `inner` that counts in `times`.
     pub fn new(inner: D, clock: C, times: Rc<Cell<DiskTimes>>) -> Timed<D, C>
         ensures { result.inner ≡ inner }
     {

@@ -3,17 +3,18 @@
 ghost use Rattle.std.specs.Prelude.{◌≡◌, ◌≤◌};
 ghost use Rattle.mon_watch.specs.Times.{after_length, after_read, after_sync, after_write, bucket_of, counted_in, no_times};
 
-/// From how many milliseconds on a sync is slow.
+/// The least time of a slow sync, in milliseconds.
 pub const SLOW: u64 = 1000;
 
-/// How many calls a disk got, of how many bytes, and how long its syncs took, in milliseconds. The counts and sums
-/// saturate.
+/// How many calls a disk got, of how many bytes, and how long its syncs took, in milliseconds. Calls that failed count
+/// too. The counts and sums saturate.
 #[derive(Clone, Copy)]
 pub struct DiskTimes {
     pub syncs: u64,
     pub total: u64,
     pub greatest: u64,
-    /// How many syncs took less than 1, 2, 4, .. 16,384 ms and no less than the bound before, and how many took longer.
+    /// How many syncs took less than 1, 2, 4, .. 16,384 ms and no less than the bound before, and how many took 16,384
+    /// ms or longer.
     pub buckets: [u64; 16],
     /// How many syncs took a second or longer, and how long the last one of them took.
     pub slow: u64,
@@ -22,7 +23,7 @@ pub struct DiskTimes {
     pub written: u64,
     pub reads: u64,
     pub fetched: u64,
-    /// How long the disk is, as far as its calls show.
+    /// The length of the disk in bytes, as far as its calls show.
     pub length: u64,
 }
 
@@ -45,7 +46,7 @@ fn counted_in(bucket: usize, buckets: [u64; 16]) -> [u64; 16]
 }
 
 impl DiskTimes {
-    /// No call was made yet.
+    /// The counts before any call.
     pub fn new() -> DiskTimes
         ensures { result ≡ no_times }
     {
@@ -64,7 +65,7 @@ impl DiskTimes {
         }
     }
 
-    /// After a sync that took this many milliseconds.
+    /// The counts after a sync that took this many milliseconds.
     pub fn after_sync(self, time: u64) -> DiskTimes
         ensures { result ≡ after_sync time self }
     {
@@ -84,7 +85,7 @@ impl DiskTimes {
         }
     }
 
-    /// After a write of this many bytes at a place.
+    /// The counts after a write of this many bytes at a place.
     pub fn after_write(self, at: u64, bytes: u64) -> DiskTimes
         ensures { result ≡ after_write at bytes self }
     {
@@ -96,7 +97,7 @@ impl DiskTimes {
         }
     }
 
-    /// After a read of this many bytes.
+    /// The counts after a read of this many bytes.
     pub fn after_read(self, bytes: u64) -> DiskTimes
         ensures { result ≡ after_read bytes self }
     {
@@ -107,7 +108,7 @@ impl DiskTimes {
         }
     }
 
-    /// After a call that returned the disk's length.
+    /// The counts after a call that returned the disk's length.
     pub fn after_length(self, length: u64) -> DiskTimes
         ensures { result ≡ after_length length self }
     {

@@ -6,8 +6,8 @@ ghost use Rattle.mon_watch.specs.Traffic.{counted_at, no_traffic, place, with_re
 use mon_frag::PIECE;
 use mon_wire::Kind;
 
-/// How many datagrams were sent and came: at the byte of its kind each that names one, at 0 the pieces of long messages,
-/// and how many of those that came are neither.
+/// How many datagrams were sent and received: those that name a kind at its byte, and pieces of long messages at 0.
+/// `refused` counts the received ones that are neither.
 #[derive(Clone, Copy)]
 pub struct Traffic {
     pub sent: [u64; 26],
@@ -76,7 +76,7 @@ fn count(place: usize, counts: &mut [u64; 26])
 }
 
 impl Traffic {
-    /// No datagram yet.
+    /// The counts before any datagram.
     pub fn new() -> Traffic
         ensures { result ≡ no_traffic }
     {
@@ -87,7 +87,7 @@ impl Traffic {
         }
     }
 
-    /// A datagram of this kind is sent.
+    /// Counts a datagram that is sent. `kind` is the kind that it names, if any.
     pub(crate) fn sends(&mut self, bytes: &[u8], kind: Option<Kind>)
         ensures { self.new ≡ with_sent (place bytes.now kind) self.old }
     {
@@ -96,7 +96,7 @@ impl Traffic {
         }
     }
 
-    /// A datagram of this kind came.
+    /// Counts a datagram that arrived. `kind` is the kind that it names, if any.
     pub(crate) fn gets(&mut self, bytes: &[u8], kind: Option<Kind>)
         ensures { self.new ≡ with_received (place bytes.now kind) self.old }
     {

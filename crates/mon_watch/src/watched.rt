@@ -19,7 +19,7 @@ use std::alloc::Global;
 use std::cell::Cell;
 use std::rc::Rc;
 
-/// Who is watched, what is counted of its disks, and where lines about it go.
+/// The monitor that is watched, the counts of its two disks, and the receiver of lines about it.
 #[derive(Drop)]
 pub struct Watch<S: Tell + Drop> {
     pub member: Member,
@@ -29,8 +29,8 @@ pub struct Watch<S: Tell + Drop> {
     pub alloc: Global,
 }
 
-/// A link that changes nothing of what goes over it. It notes the headers of what its monitor sends and gets, writes
-/// lines about what they show, and answers clients that ask for it.
+/// A link that passes on what its monitor sends and gets, except datagrams of the watch. It notes the headers of these
+/// messages, writes lines about what they show, and answers clients that ask for it.
 #[derive(Drop)]
 pub struct Watched<L: Link + Drop, C: Clock + Drop, S: Tell + Drop> {
     pub inner: L,
@@ -41,7 +41,7 @@ pub struct Watched<L: Link + Drop, C: Clock + Drop, S: Tell + Drop> {
     said: Said,
 }
 
-/// What is handed on of what came.
+/// What is handed up: `Idle` in place of a datagram of the watch.
 fn passed(got: Got) -> Got
     ensures { result ≡ passed got }
 {
@@ -79,7 +79,7 @@ fn asker(got: &Got) -> Option<Asker>
     }
 }
 
-/// What is answered after a send: one that failed is lost.
+/// The result of a send: one that failed is lost and no error; that memory ran out is an error.
 fn after_send(sent: Result<(), Stop>) -> Result<(), Stop>
     ensures after { result ≡ after_send sent }
     ensures memory { IfErr result (λ e. e ≡ no_memory) }
@@ -100,7 +100,7 @@ fn answer_to(alloc: Global, id: u64, report: &Report) -> Result<Bytes, OutOfMemo
 }
 
 impl<L: Link + Drop, C: Clock + Drop, S: Tell + Drop> Watched<L, C, S> {
-    /// A link over this one, of which nothing is noted yet.
+    /// A link over `inner` that has noted nothing yet.
     pub fn new(inner: L, clock: C, watch: Watch<S>) -> Watched<L, C, S>
         ensures inner { result.inner ≡ inner }
         ensures clock { result.clock ≡ clock }
@@ -128,7 +128,7 @@ impl<L: Link + Drop, C: Clock + Drop, S: Tell + Drop> Watched<L, C, S> {
         after_send(self.inner.send(Peer::Client(client), bytes))
     }
 
-    /// Sends the answer to who asked.
+    /// Sends a report to the client that asked.
     fn answers(&mut self, asker: Asker) -> Result<(), Stop>
         ensures sends { SendsAnswer (Some asker) self.old.watch.member self.old.notes result (L.state self.old.inner) (L.state self.new.inner)
             ⊎ ((result ≡ Err no_memory) × (L.state self.new.inner ≡ L.state self.old.inner)) }
@@ -149,7 +149,7 @@ impl<L: Link + Drop, C: Clock + Drop, S: Tell + Drop> Watched<L, C, S> {
         self.sends_to(asker.client, datagram.as_slice())
     }
 
-    /// Sends the answer, if somebody asked.
+    /// Sends a report, if a client asked.
     fn answers_if(&mut self, asker: Option<Asker>) -> Result<(), Stop>
         ensures sends { SendsAnswer asker self.old.watch.member self.old.notes result (L.state self.old.inner) (L.state self.new.inner)
             ⊎ (IsSome asker × (result ≡ Err no_memory) × (L.state self.new.inner ≡ L.state self.old.inner)) }
@@ -169,7 +169,8 @@ impl<L: Link + Drop, C: Clock + Drop, S: Tell + Drop> Link for Watched<L, C, S> 
 
     ghost state = { λ r. record { told = None; faults = (L.state r.inner).faults; losses = r.losses } };
 
-    /// Asks the link once for what comes, for as long. Then an answer may go.
+    /// Asks the link below once, with the same wait. Then it writes lines and answers a client that asked. If memory
+    /// runs out for the answer, that is the error, and what was received is dropped.
     fn next(&mut self, wait: u64) -> Result<Got, Stop>
         ensures asks { AsksOnce self.old.watch.member (C.left self.old.clock) wait result self.old.notes self.new.notes
             (L.state self.old.inner) (L.state self.new.inner) }
