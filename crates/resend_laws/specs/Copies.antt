@@ -14,15 +14,15 @@ use Rattle.mon_resend.specs.World.{box_of}
 use Rattle.mon_wire.specs.declared.kind.Kind.TheVariants as kind
 use Rattle.resend_laws.specs.Runs.{Step, Sends, Hears, Passes, run}
 
--- what is noted of each copy of x
+-- what holds of the note of each copy of x
 abbrev pub EachOf : Outgoing → (Note → Type 0) → List Kept → Type 0
 EachOf x Holds kept = AllByRecursion (λ k. k.out ≡ x → Holds k.note) kept
 
--- what is noted of each copy of x that is kept for a monitor
+-- what holds of the note of each copy of x that is kept for a monitor
 abbrev pub EachAt : (rank : ℕ) → Outgoing → (Note → Type 0) → Copies → Type 0
 EachAt rank x Holds c = EachOf x Holds (box_of rank c).shelf
 
--- No copy of x is kept for it, so x isn't sent again.
+-- No copy of x is kept for the monitor, so x isn't sent again.
 abbrev pub IsOver : (rank : ℕ) → Outgoing → Copies → Type 0
 IsOver rank x c = EachAt rank x (λ n. ⊥) c
 
@@ -39,9 +39,10 @@ IsNotSent x steps = AllByRecursion (IsOther x) steps
 abbrev pub StaysOver : (rank : ℕ) → Outgoing → Copies → Type 0
 StaysOver rank x c = (steps : List Step) → IsNotSent x steps → IsOver rank x (run steps c)
 
--- ---- why
+-- ---- when copies are dropped
 
--- It goes by time and waits for no other. It went at the latest at `since`, and goes again at most `wait` later. A GET_CHUNK waits longer for each piece that arrives.
+-- The copy is sent again by time, isn't held, is due `wait` after `since` at the latest, and each of its waits is at
+-- most `wait`. It is no GET_CHUNK, since that waits longer for each piece that arrives.
 pub record IsTried (wait since : ℕ) (n : Note) : Type 0 where
   pub by_time : way_of n.header.kind ≡ way.ByTime
   pub waits_for_none : same_kind n.header.kind kind.GetChunk ≡ false
@@ -50,7 +51,7 @@ pub record IsTried (wait since : ℕ) (n : Note) : Type 0 where
   pub due : n.due ≤ since + wait
   pub times : n.times ≤ 16
 
--- it is of a quorum of this epoch or an earlier one
+-- the copy is of a quorum's message of this epoch or an earlier one
 pub record IsUpTo (greatest : ℕ) (n : Note) : Type 0 where
   pub counts : is_of_epoch n.header.kind ≡ true
   pub epoch : n.header.epoch ≤ greatest

@@ -1,4 +1,4 @@
--- The FORWARDs that go to one monitor, by their numbers.
+-- The FORWARDs that are sent to one monitor, by their numbers.
 use Rattle.std.specs.Prelude.{ℕ, ◌-◌, ◌^◌, ◌≤◌, ◌<◌, ◌&&◌, ◌==◌, List, [], ◌∷◌, ◌++◌, filter, Option, Some, None, if◌then◌else◌}
 use Rattle.std.specs.List.{AllByRecursion, flat_map}
 use Rattle.mon_decode.specs.declared.header.Header.{Header}
@@ -19,7 +19,7 @@ use Rattle.resend_laws.specs.Runs.{Step, Sends, Hears, Passes, step, time_of}
 abbrev pub number_of : Header → List ℕ
 number_of h = if same_kind h.kind kind.Forward then h.first ∷ [] else []
 
--- ---- those that begin to go, in their order
+-- ---- FORWARDs that are given to send, in their order
 
 abbrev pub begun_in : Option Part → List ℕ
 begun_in (Some (Whole h)) = number_of h
@@ -35,7 +35,7 @@ begun_by rank (Passes again now) = []
 abbrev pub begun : (rank : ℕ) → List Step → List ℕ
 begun rank steps = flat_map (begun_by rank) steps
 
--- ---- those that are kept
+-- ---- FORWARDs that are kept
 
 abbrev pub numbers : List Kept → List ℕ
 numbers kept = flat_map (λ k. number_of k.note.header) kept
@@ -49,13 +49,13 @@ long under_way.Nothing = []
 abbrev pub kept_for : (rank : ℕ) → Copies → List ℕ
 kept_for rank c = numbers (box_of rank c).shelf ++ long (box_of rank c).under_way
 
--- none of a lesser number is kept
+-- no FORWARD of a number below q is kept
 abbrev pub IsLeast : (rank q : ℕ) → Copies → Type 0
 IsLeast rank q c = AllByRecursion (λ p. q ≤ p) (kept_for rank c)
 
--- ---- those of which a datagram leaves, once for each datagram
+-- ---- FORWARDs of which a datagram is sent, once for each datagram
 
--- A later piece counts if pieces of its message are kept. Otherwise no datagram of that message goes again.
+-- A later piece counts if pieces of its message are kept. Otherwise no datagram of that message is sent again.
 abbrev pub sent_in : Option Part → UnderWay → List ℕ
 sent_in (Some (Whole h)) u = number_of h
 sent_in (Some (First h total)) u = number_of h
@@ -71,6 +71,6 @@ abbrev pub leave : (rank : ℕ) → List Step → Copies → List ℕ
 leave rank [] c = []
 leave rank (s ∷ steps) c = leave_in rank s c ++ leave rank steps (step s c)
 
--- The clock never shows its greatest number: that is when a copy is due that waits to be called.
+-- The clock never shows its greatest number: at that time a copy is due that waits for an event.
 abbrev pub IsBeforeEnd : List Step → Type 0
 IsBeforeEnd steps = AllByRecursion (λ s. time_of s < 2 ^ 64 - 1) steps

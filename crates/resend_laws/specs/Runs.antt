@@ -4,11 +4,11 @@ use Rattle.mon_resend.specs.declared.copies.Copies.{Copies}
 use Rattle.mon_resend.specs.World.{sent, arrived, all_passed}
 
 pub data Step : Type 0 where
-  -- a datagram is to go to a monitor
+  -- a datagram is given to send to a monitor
   Sends : (memory : Bool) (rank : ℕ) (bytes : List ℕ) (now : ℕ) → Step
-  -- one arrives from a monitor
+  -- a datagram arrives from a monitor
   Hears : (memory : Bool) (rank : ℕ) (bytes : List ℕ) (now : ℕ) → Step
-  -- what is due goes, and of what went before only if `again` allows it
+  -- the due copies are sent; without `again`, only the held ones
   Passes : (again : Bool) (now : ℕ) → Step
 
 abbrev pub step : Step → Copies → Copies
@@ -32,7 +32,7 @@ abbrev pub IsInOrder : (since : ℕ) → List Step → Type 0
 IsInOrder since [] = Unit {0}
 IsInOrder since (s ∷ steps) = (since ≤ time_of s) × IsInOrder (time_of s) steps
 
--- how often copies may go, counting only times that are this far apart
+-- how often copies may be sent again, counting only times that are at least `apart` after the one counted before
 abbrev pub rounds : (apart since : ℕ) → List Step → ℕ
 rounds apart since [] = 0
 rounds apart since (Passes true now ∷ steps) = if nat_le (since + apart) now then suc (rounds apart now steps) else rounds apart since steps

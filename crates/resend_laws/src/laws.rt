@@ -21,16 +21,17 @@ ghost use Rattle.resend_laws.specs.Copies.{EachAt, IsNotSent, IsOver, IsTried, I
 ghost use Rattle.resend_laws.specs.Forwards.{IsBeforeEnd, IsLeast, begun, kept_for, leave, leave_in};
 ghost use Rattle.resend_laws.specs.Runs.{IsInOrder, Step, rounds, run};
 
-/// Nothing that goes by time is kept for ever. Let a copy wait at most `wait` milliseconds, a second or more. It is kept no
-/// longer once copies could go 17 times, each at least `wait` after the one before, whatever else is sent and arrives.
+/// No copy that is sent again by time is kept for ever, unless it is held or a GET_CHUNK. Let each of its waits be at
+/// most `wait` milliseconds, and `wait` a second or more. The copy is dropped by the time that copies could be sent 17
+/// times, each at least `wait` after the one before, whatever else is sent and arrives.
 pub fn law_gone()
     ensures { (c : Copies) (rank : ℕ) (x : Outgoing) (wait since : ℕ) (steps : List Step) → 1000 ≤ wait
         → EachAt rank x (IsTried wait since) c → IsNotSent x steps → IsInOrder since steps
         → 16 < rounds wait since steps → IsOver rank x (run steps c) }
 {}
 
-/// A message in one datagram that goes now, by time, and is no GET_CHUNK, waits at most 2 seconds each time. So its copy is
-/// kept no longer once copies could go 17 times, 2 seconds apart.
+/// A message in one datagram that is sent now, is sent again by time and is no GET_CHUNK waits at most 2 seconds each
+/// time. So, by `law_gone`, its copy is dropped by the time that copies could be sent 17 times, 2 seconds apart.
 pub fn law_tried()
     ensures { (h : Header) (length now : ℕ) (b : Outbox) → way_of h.kind ≡ ByTime → same_kind h.kind GetChunk ≡ false
         → (note_of h length length now b).held ≡ false → IsTried 2000 now (note_of h length length now b) }
@@ -45,16 +46,17 @@ pub fn law_answered()
         → EachAt rank x (λ n. is_answered n.header h ≡ true) c → StaysOver rank x (arrived memory rank bytes now c) }
 {}
 
-/// No copy of a quorum's message outlasts its epoch. Once a message of a greater epoch than all before went or arrived, what
-/// was kept before is over, until it is sent anew.
+/// No copy of a quorum's message outlasts its epoch. Once a message of a greater epoch than all before was sent or
+/// arrived, the copies of earlier epochs are dropped. They aren't sent again until their messages are sent anew.
 pub fn law_older()
     ensures { (c : Copies) (rank : ℕ) (x : Outgoing) (steps : List Step) → EachAt rank x (IsUpTo c.epoch) c
         → IsNotSent x steps → c.epoch < (run steps c).epoch → IsOver rank x (run steps c) }
 {}
 
-/// FORWARDs go in order. Let none be kept for a monitor, and let the numbers of those that begin to go to it never fall.
-/// Then the numbers of those of which a datagram leaves for it never fall, later pieces and copies included. When one leaves,
-/// none of a lesser number is kept: it was answered or given up, a greater epoch or a PROBE ended it, or it had no copy.
+/// FORWARDs are sent in order. Let none be kept for a monitor, and let the numbers of those that are given to send to
+/// it never decrease. Then the numbers of those whose datagrams are sent to it never decrease, later pieces and copies
+/// included. When one is sent, none of a lesser number is kept: each was answered or given up, or ended by a greater
+/// epoch or a PROBE, or it had no copy.
 pub fn law_forwards()
     ensures in_order { (c : Copies) (rank : ℕ) (steps : List Step) → kept_for rank c ≡ []
         → IsNonDecreasing (begun rank steps) → IsBeforeEnd steps → IsNonDecreasing (leave rank steps c) }
@@ -63,8 +65,8 @@ pub fn law_forwards()
         → AllByRecursion (λ q. IsLeast rank q (run (steps ++ s ∷ []) c)) (leave_in rank s (run steps c)) }
 {}
 
-/// The next FORWARD goes once none before it is kept. After copies could go, the first one that is kept went already, or it
-/// goes when copies can go again.
+/// The next FORWARD is sent once none before it is kept. After a time at which copies could be sent, the first FORWARD
+/// that is kept was sent already, or it is sent at the next such time.
 pub fn law_turn()
     ensures { (c : Copies) (rank : ℕ) (before again : Bool) (since now : ℕ) (k : Kept)
         → first_forward (box_of rank (all_passed before since c)).shelf ≡ Some k → k.note.held ≡ true → since ≤ now

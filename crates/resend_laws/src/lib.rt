@@ -1,4 +1,4 @@
-//! The laws of what is sent again.
+//! The laws of the copies that are sent again.
 #![tactic(auto)]
 
 mod laws;

@@ -1,4 +1,4 @@
--- What is seen of a monitor after each event is so.
+-- What is seen of a monitor after each event is true, or lags.
 use Rattle.election_rules.specs.declared.scores.Scores.{Scores}
 use Rattle.mon_bytes.specs.declared.command.Command.TheVariants as command
 use Rattle.mon_bytes.specs.declared.command.Command.{Command}

@@ -1,4 +1,4 @@
--- What is seen of a monitor is so in every run.
+-- What is seen of a monitor is true, or lags, in every run.
 use Rattle.mon_msg.specs.Protocol.Course.{Course}
 use Rattle.mon_msg.specs.Protocol.Entering.{is_even}
 use Rattle.mon_msg.specs.Protocol.Phases.{is_member, is_peon, same_phase}

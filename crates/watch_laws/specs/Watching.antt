@@ -1,4 +1,4 @@
--- What a link that watches shows of its monitor is so, up to the next message that shows a phase.
+-- What a link that watches shows of its monitor is true, or lags until the next message that shows a phase.
 use Rattle.std.specs.Prelude.{◌≡◌, ◌⊎◌, ◌<◌, ◌&&◌, ◌||◌, ◌==◌, ℕ, Bool, true, false, List, [], ◌∷◌, Some, None, Result, Ok, Err, if◌then◌else◌}
 use Rattle.std.specs.List.{list_any}
 use Rattle.mon_decode.specs.Headers.{heading, kind_in, same_kind}
@@ -26,7 +26,8 @@ use Rattle.quorum_model.specs.World.{Comes, Event, World, first_world, plain_of,
 
 -- ---- what is read of what a monitor sends
 
--- A message that is longer than a datagram goes in pieces, of which nothing is read. Of the messages that show a phase, LAST alone may be.
+-- Which messages are read. One that is longer than a datagram is sent in pieces, which aren't read. Of the messages
+-- that show a phase, only a LAST may be so long.
 abbrev pub ReadsShort : (is_read : Message → Bool) → Type 0
 ReadsShort is_read = (m : Message) → same_kind (kind_in m.body) kind.Last ≡ false → is_read m ≡ true
 
@@ -41,7 +42,8 @@ module _ (own : ℕ) (is_read : Message → Bool) where
 
 -- ---- what that shows of the monitor
 
--- the phases that show as this one: the messages of a leader don't tell them apart
+-- whether a monitor in the phase `actual` may be seen in the phase `shown`: a leader's messages don't show all its
+-- phases
 abbrev pub fits : (shown actual : Phase) → Bool
 fits phase.Probing p = same_phase p phase.Probing
 fits phase.Synchronizing p = same_phase p phase.Synchronizing
@@ -51,13 +53,13 @@ fits phase.Active p = is_active p
 fits phase.Peon p = is_peon p
 fits shown p = false
 
--- The watch lags: its monitor hasn't started, or has shown no phase since. Or the election in which it took part is over, and it has shown
--- no phase since.
+-- The watch lags: the monitor hasn't started, or has shown no phase since its start. Or it was seen in an election that
+-- is over, and it has shown no phase since.
 abbrev pub lags : (shown actual : Phase) → Bool
 lags shown p =
     same_phase p phase.Booting || same_phase shown phase.Booting || (same_phase shown phase.Electing && is_member p)
 
--- It shows the monitor's phase and epoch, who leads its quorum, and from whom it takes a store.
+-- What is seen agrees with the monitor's phase and epoch, with who leads its quorum, and from whom it takes a store.
 pub record IsShown (own : ℕ) (seen : Seen) (now : ℕ) (s : State) : Type 0 where
   pub shows : fits seen.phase s.phase ≡ true
   pub epoch : seen.epoch ≡ now
@@ -89,7 +91,7 @@ module _ (i : ℕ) (is_read : Message → Bool) where
   seen_from ms w [] s = s
   seen_from ms w (e ∷ es) s = seen_on (λ next. seen_from ms next es (seen_at e (meets ms w (plain_of e)) s)) s (happens ms w e)
 
--- After any events, what is seen of a monitor that is up, and isn't alone, is so.
+-- After any events of two monitors or more, what is seen of a monitor that is up is true, or lags.
 abbrev pub WatchIsSo : Type 0
 WatchIsSo =
     (ms : Monitors) (events : List Event) → AllFit ms.count events → 1 < ms.count
@@ -105,7 +107,7 @@ module _ (is_read : Message → Bool) where
   is_seen (sent.Message to m) = is_read m && shows (Some (kind_in m.body))
   is_seen (sent.Reply session r) = false
 
--- It lags until the next such message: after an event in which a monitor sends one, what is seen is shown by the monitor.
+-- The watch lags until the next such message: after an event in which a monitor sends one, what is seen agrees with it.
 abbrev pub LagEnds : Type 0
 LagEnds =
     (ms : Monitors) (events : List Event) → AllFit ms.count events → 1 < ms.count

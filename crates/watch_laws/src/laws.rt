@@ -1,13 +1,14 @@
 ghost use Rattle.watch_laws.specs.Watching.{LagEnds, WatchIsSo};
 
-/// What a link that watches shows of its monitor is so, in every run of any monitors: its phase, its epoch, who leads its
-/// quorum and from whom it takes a store. It may lag: a monitor that followed a new leader shows so by its next message to
-/// it, and until then is seen to take part in the election.
+/// In every run of two monitors or more, what a link that watches shows of its monitor is true: its phase, its epoch,
+/// who leads its quorum and from whom it takes a store. It may lag: a monitor that has just started shows nothing, and
+/// one that follows a new leader is seen to take part in the election, until its next message that shows a phase.
 pub fn law_watch()
     ensures { WatchIsSo }
 {}
 
-/// It lags no longer than until the monitor sends the next message that shows a phase.
+/// The lag of `law_watch` ends when the monitor sends a message that shows a phase and can be read. A LAST that is
+/// longer than a datagram may be one that can't.
 pub fn law_lag()
     ensures { LagEnds }
 {}

@@ -1,4 +1,4 @@
-//! That what a link that watches shows of its monitor is so.
+//! Laws: what a link that watches shows of its monitor is true.
 #![tactic(auto)]
 
 mod laws;
