@@ -1,4 +1,4 @@
-//! The link that sends again: what goes again and when, and what it doesn't hand up.
+//! The link that sends again: which messages it repeats and when, and what it doesn't hand up.
 
 use crate::again_calls::{EARLIER, FORGOTTEN, HEARD, OF_OTHERS, RIVAL, UNHEARD};
 use crate::again_copies::{
@@ -16,21 +16,22 @@ use mon_types::{Moment, Rank};
 use std::alloc::Global;
 use std::test::Fail;
 
-/// What is done at a time. A message has its kind, an epoch, and a number that is the first one and the second one of its body.
+/// What a step does. Its message has a kind, an epoch, and a number that is both the first and the second one of its
+/// body.
 #[derive(Clone, Copy, PartialEq, Eq)]
 pub(crate) enum Does {
-    /// A message goes to monitor 1.
+    /// A message is sent to monitor 1.
     Sends,
-    /// The same to monitor 2.
+    /// A message is sent to monitor 2.
     SendsToAnother,
-    /// A message comes from monitor 1.
+    /// A message arrives from monitor 1.
     Hears,
-    /// Nothing comes.
+    /// Nothing arrives.
     Rests,
 }
 
-/// The time in milliseconds; what is done, with a message's kind, epoch and number; how many datagrams go out then, and whether
-/// what came is handed up.
+/// A step: the time in milliseconds, what is done, the message's kind, epoch and number, how many datagrams are sent
+/// then, and whether a datagram is handed up.
 pub(crate) type Step = (u64, Does, u8, u64, u64, usize, bool);
 
 pub(crate) const PROBE: u8 = 1;
@@ -71,10 +72,10 @@ pub(crate) const CHUNK: u8 = 19;
 
 pub(crate) const LAST_CHUNK: u8 = 20;
 
-/// No kind of a message: the second piece of a long message with this number, of three.
+/// In place of a kind: the second of three pieces of a long message with this number.
 pub(crate) const PIECE: u8 = 101;
 
-/// The third piece.
+/// In place of a kind: the third of these pieces.
 pub(crate) const LAST_PIECE: u8 = 102;
 
 /// How many bytes a piece has of its message, and how many such a message has.
@@ -163,7 +164,7 @@ fn sends(alloc: Global, link: &mut Tried, to: u8, step: &Step) -> Result<bool, F
     Ok(false)
 }
 
-/// Whether a datagram is handed up.
+/// Asks the link once. Returns whether a datagram is handed up.
 fn asks(link: &mut Tried) -> Result<bool, Fail> {
     let got = link.next(60_000)?;
     let is_datagram = matches!(got, Got::Datagram { .. });
@@ -171,7 +172,7 @@ fn asks(link: &mut Tried) -> Result<bool, Fail> {
     Ok(is_datagram)
 }
 
-/// Whether a step goes as it says.
+/// Whether a step sends and hands up what it states.
 fn goes(alloc: Global, link: &mut Tried, step: &Step) -> Result<bool, Fail> {
     let (_, does, _, _, _, sent, is_up) = step;
     let before = link.inner.sent().len();
@@ -184,7 +185,7 @@ fn goes(alloc: Global, link: &mut Tried, step: &Step) -> Result<bool, Fail> {
     Ok(went == *sent && handed_up == *is_up)
 }
 
-/// The time of the first step that doesn't go as it says.
+/// The time of the first step that doesn't send and hand up what it states.
 fn first_wrong(alloc: Global, steps: &[Step]) -> Result<Option<u64>, Fail> {
     let mut link = tried(alloc, steps)?;
     let mut wrong = None;

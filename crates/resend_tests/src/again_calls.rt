@@ -32,7 +32,7 @@ pub(crate) const FORGOTTEN: &[Step] = &[
     (102_000, Hears, PROPOSE, 5, 0, 0, true),
 ];
 
-// One of the own epoch or a later one is always handed up, and so is one at a monitor that elects or probes.
+// A PROPOSE of one's own epoch or a later one is always handed up, and so is each one while one elects or probes.
 pub(crate) const OF_OTHERS: &[Step] = &[
     (0u64, Sends, LEASE_ACK, 6u64, 0u64, 1usize, false),
     (1, Hears, PROPOSE, 5, 0, 0, true),
@@ -67,7 +67,7 @@ pub(crate) const UNHEARD: &[Step] = &[
     (22_001, Hears, PROPOSE, 5, 0, 0, true),
 ];
 
-// One that comes again when its election ended is always handed up, and so is one of another epoch.
+// An acknowledged PROPOSE that arrives again after its election is always handed up, and so is one of another epoch.
 pub(crate) const HEARD: &[Step] = &[
     (0u64, Hears, PROPOSE, 5u64, 0u64, 0usize, true),
     (1, Sends, ACK, 5, 0, 1, false),
@@ -93,7 +93,7 @@ pub(crate) const HEARD: &[Step] = &[
     (25_000, Hears, PROPOSE, 7, 0, 0, true),
 ];
 
-// One of a monitor whose PROPOSE wasn't acknowledged is always handed up.
+// A PROPOSE of a monitor whose PROPOSE wasn't acknowledged is always handed up.
 pub(crate) const RIVAL: &[Step] = &[
     (0u64, Sends, PROPOSE, 5u64, 0u64, 1usize, false),
     (1_000, Hears, PROPOSE, 5, 0, 0, true),

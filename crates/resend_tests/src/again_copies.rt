@@ -1,4 +1,4 @@
-//! What goes again and when.
+//! Which messages are sent again, and when.
 
 use crate::again::Does::{Hears, Rests, Sends, SendsToAnother};
 use crate::again::{
@@ -20,7 +20,7 @@ pub(crate) const ACKNOWLEDGED: &[Step] = &[
     (60_000, Rests, 0, 0, 0, 0, false),
 ];
 
-// A PROPOSE of an earlier epoch ends nothing, and one of a later epoch ends it.
+// A PROPOSE of an earlier epoch doesn't end the copies of one's own; one of a later epoch does.
 pub(crate) const OUTVOTED: &[Step] = &[
     (0u64, Sends, PROPOSE, 5u64, 0u64, 1usize, false),
     (100, Hears, PROPOSE, 3, 0, 0, true),
@@ -29,7 +29,7 @@ pub(crate) const OUTVOTED: &[Step] = &[
     (60_000, Rests, 0, 0, 0, 0, false),
 ];
 
-// An ACK that goes to anyone ends it.
+// An ACK to any monitor ends the copies of one's own PROPOSE.
 pub(crate) const DEFERRED: &[Step] = &[
     (0u64, Sends, PROPOSE, 5u64, 0u64, 1usize, false),
     (100, SendsToAnother, ACK, 5, 0, 1, false),
@@ -155,7 +155,7 @@ pub(crate) const COMMITTED_BEFORE: &[Step] = &[
     (60_000, Rests, 0, 0, 0, 0, false),
 ];
 
-// FORWARDs go one after the other: the second when the ROUTE of the first comes.
+// FORWARDs are sent one after the other: the second when the ROUTE of the first arrives.
 pub(crate) const FORWARDED: &[Step] = &[
     (0u64, Sends, FORWARD, 6u64, 1u64, 1usize, false),
     (1, Sends, FORWARD, 6, 2, 0, false),
@@ -227,7 +227,7 @@ pub(crate) const LEFT_BEHIND: &[Step] = &[
     (1_502, Rests, 0, 0, 0, 0, false),
 ];
 
-// A copy is given up after it went sixteen times.
+// A copy is dropped after it was sent sixteen times.
 pub(crate) const GIVEN_UP: &[Step] = &[
     (0u64, Sends, PROPOSE, 5u64, 0u64, 1usize, false),
     (500, Rests, 0, 0, 0, 1, false),

@@ -49,7 +49,7 @@ fn altered(
     Ok(altered)
 }
 
-/// Whether this message is whole with these bytes. One that is another is refused.
+/// Whether these bytes complete the message. It is an error if they complete another one.
 fn whole(assembly: &mut Assembly, bytes: &[u8], message: &[u8]) -> Result<bool, Fail> {
     match assembly.take(CLIENT, bytes)? {
         Some(made) => {
@@ -65,7 +65,7 @@ fn whole(assembly: &mut Assembly, bytes: &[u8], message: &[u8]) -> Result<bool, 
     }
 }
 
-/// How long this piece of the message is, and whether the message is whole with it.
+/// The length of this piece of the message, and whether it completes the message.
 fn whole_with(
     alloc: Global,
     assembly: &mut Assembly,
@@ -79,7 +79,7 @@ fn whole_with(
     Ok((length, whole?))
 }
 
-/// The same of the last piece twice, of the first one, and of the first one twice more.
+/// `whole_with` of the last piece twice, and then of the first piece three times.
 fn put_together(
     alloc: Global,
     assembly: &mut Assembly,
@@ -137,7 +137,8 @@ fn refused(assembly: &mut Assembly, bytes: &[u8]) -> Option<FragRefused> {
     }
 }
 
-/// The length to which a piece is cut whose two bytes are replaced, and why it is refused.
+/// For each fault: the place of two bytes of a piece, what replaces them, the length to which the piece is then cut,
+/// and why it is refused.
 const FAULTS: [(usize, [u8; 2], usize, FragRefused); 10] = [
     (0, [2, 0], 1, FragRefused::Cut { at: 1 }),
     (0, [2, 0], 27, FragRefused::Cut { at: 24 }),
@@ -151,7 +152,7 @@ const FAULTS: [(usize, [u8; 2], usize, FragRefused); 10] = [
     (28, [8, 9], 1_029, FragRefused::Clash),
 ];
 
-/// Whether a piece that was taken before is refused for this, once it is altered so.
+/// Whether a piece that was taken before is refused as a fault states, once it is altered by that fault.
 fn is_refused_so(
     alloc: Global,
     assembly: &mut Assembly,
@@ -165,7 +166,7 @@ fn is_refused_so(
     Ok(found == Some(*wanted))
 }
 
-/// Whether it is refused for each of them.
+/// Whether the piece is refused for each of the faults.
 fn are_refused_so(alloc: Global, assembly: &mut Assembly, piece: &[u8]) -> Result<bool, Fail> {
     for fault in &FAULTS {
         if !is_refused_so(alloc, assembly, piece, fault)? {
@@ -183,7 +184,7 @@ fn is_too_long(alloc: Global, assembly: &mut Assembly) -> Result<bool, Fail> {
     Ok(found == Some(FragRefused::TooLong))
 }
 
-/// Whether that is refused, and a piece with each fault, once the piece was taken.
+/// Whether a datagram that is too long, and the piece with each fault, are refused once the piece was taken.
 fn faults_are_refused(alloc: Global, assembly: &mut Assembly, piece: &[u8]) -> Result<bool, Fail> {
     let taken = refused(assembly, piece).is_none();
     Ok(taken && is_too_long(alloc, assembly)? && are_refused_so(alloc, assembly, piece)?)

@@ -5,7 +5,7 @@ use std::io::ErrorKind;
 use std::net::{Ipv4Addr, Net, SocketAddr, TcpListener, TcpStream, UdpSocket};
 use std::test::Fail;
 
-/// Who sent what came, its first byte, or else a null, and how many it has.
+/// The sender of a datagram that arrived, its first byte, or 0 if it is empty, and its length.
 fn shown(got: Result<Got, Stop>) -> Result<Option<(Peer, u8, usize)>, Stop> {
     match got? {
         Got::Datagram { from, bytes } => {

@@ -63,7 +63,8 @@ fn each_number_has_its_schedule(rt: HostRuntime) -> Result<(), Fail> {
     Ok(())
 }
 
-/// Whether the opening begins with this schedule, and how many events are read of it, and whether it is printed so again.
+/// Whether the opening begins with a number's schedule, how many events are read of it, and whether it is printed the
+/// same again.
 fn read_again(alloc: Global, number: u64, events: u32) -> Result<(bool, usize, bool), Fail> {
     let text = printed(alloc, number, events)?;
     let opens = OPENING.as_bytes().starts_with(&text);

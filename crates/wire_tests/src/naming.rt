@@ -50,7 +50,8 @@ fn next_of<L: Link>(alloc: Global, link: &mut L) -> Result<String, Fail> {
 /// A datagram in the frame of the tag.
 const OWN: &str = "030102030405060708aa";
 
-/// What comes from the address of a monitor, or else of a client, and what the link gives: nothing, if it is foreign.
+/// For each row: whether a datagram arrives from the address of a monitor, or else of a client, the datagram, and what
+/// the link gives.
 const CAME: &[(bool, &str, &str)] = &[
     (true, "", "foreign"),
     (true, "03", "foreign"),
@@ -159,7 +160,8 @@ fn what_follows_a_foreign_datagram_is_the_answer(rt: HostRuntime) -> Result<(), 
     Ok(())
 }
 
-/// What is sent, and what goes over the wire: to a client, and after the frame to a monitor. The life has the number 9.
+/// What is sent, and what is written on the wire: alone to a client, and after the frame to a monitor. The life has the
+/// number 9.
 const SENT: &[(&str, &str)] = &[
     ("", ""),
     ("01010102", "01010102"),

@@ -72,7 +72,7 @@ impl Print for Narrow {
     }
 }
 
-/// How writing three bytes goes if this many are taken at once, and then none.
+/// The results of writing three bytes to an output that takes this many at once, and then of writing none.
 fn wrote(width: usize) -> (Result<(), Stop>, Result<usize, Stop>) {
     let mut sink = StdoutSink::new(&Narrow { width });
     (write_all(&mut sink, b"abc"), sink.write(b""))
@@ -85,7 +85,7 @@ fn an_output_takes_all_or_fails(rt: HostRuntime) {
     assert!(rt; wrote(9) == (Err(Stop::Failed), Err(Stop::Failed)));
 }
 
-/// How a reading goes, and what is in its room then.
+/// The result of a read, and what its buffer holds then.
 fn read(fails: bool) -> (Result<usize, Stop>, [u8; 4]) {
     let mut room = [0; 4];
     let read = StdinSource::new(&Given { fails }).read(&mut room);

@@ -40,8 +40,8 @@ const EXAMPLES: &str = "\
     000078
 ";
 
-/// Which message has which byte changed to what, and the fault that decoding then names: the message and the place from 0 on,
-/// the byte, the kind of the fault and its place.
+/// For each row: the message and the place of a byte in it, both from 0 on, the new value of that byte, and the fault
+/// that decoding then names, by its kind and place.
 const FAULTS: &str = "\
 0 0 0 Format 0
 0 1 0 Kind 1
@@ -137,7 +137,7 @@ fn fault(alloc: Global, bytes: &[u8]) -> Result<Option<(MsgKind, usize)>, Fail> 
     }
 }
 
-/// The same of the bytes that the digits encode.
+/// The fault that decoding names in the bytes that the digits encode, or nothing if there is none.
 fn fault_of(alloc: Global, digits: &str) -> Result<Option<(MsgKind, usize)>, Fail> {
     let bytes = hex::decode(alloc, digits)?;
     let found = fault(alloc, &bytes);
@@ -171,7 +171,7 @@ fn is_whole(alloc: Global, digits: &str) -> Result<bool, Fail> {
     Ok(found? == Some((MsgKind::Rest, digits.len() / 2)))
 }
 
-/// Whether a message is neither shorter nor longer.
+/// Whether each proper prefix of a message is refused as too short, and one byte more as too many.
 fn is_as_long(alloc: Global, digits: &str) -> Result<bool, Fail> {
     Ok(all_fronts_are_cut(alloc, digits)? && is_whole(alloc, digits)?)
 }
@@ -223,7 +223,7 @@ fn fault_of_changed(
     found
 }
 
-/// Whether a row's byte makes the fault that it says.
+/// Whether the changed byte of a row makes the fault that the row states.
 fn is_told(alloc: Global, row: &str) -> Result<bool, Fail> {
     let mut words = row.splitn(4, ' ');
     let (message, place) = (number(words.next())?, number(words.next())?);
