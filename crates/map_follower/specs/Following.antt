@@ -1,4 +1,4 @@
--- What a follower holds that takes the replies of one run.
+-- The copy of a follower that takes the replies of one run.
 use Rattle.std.specs.Prelude.{◌≡◌, ℕ, ◌≤◌, List, length}
 use Rattle.std.specs.List.{Contains}
 use Rattle.mon_msg.specs.Fold.{incrementals}

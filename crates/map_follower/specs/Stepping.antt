@@ -1,4 +1,4 @@
--- What calls return that apply incrementals.
+-- What the calls that apply incrementals return.
 use Rattle.std.specs.Prelude.{◌≡◌, ℕ, Option, Some, None, Result, Ok, Err}
 use Rattle.mon_wire.specs.declared.reply.ShownMap.{ShownMap}
 use Rattle.map_follower.specs.declared.stepping.Unapplied.{Unapplied}

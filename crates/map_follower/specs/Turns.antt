@@ -114,7 +114,7 @@ abbrev pub all_turned : (n : ℕ) → Course → List (Result Got Stop) → Turn
 all_turned n c [] = record { course = asked n c; stop = None }
 all_turned n c (g ∷ earlier) = and_turned n g (all_turned n c earlier)
 
--- ---- what was done of it
+-- ---- how much of an iteration was done
 
 abbrev pub first_sent : ℕ → Told → Told
 first_sent k t = record t { sent = take k t.sent }

@@ -14,8 +14,8 @@ use std::alloc::Global;
 /// and after each iteration in which nothing came, to the monitors one after the other, and writes the line `SERVICE
 /// version=VERSION MAP` whenever the copy is newer. An iteration waits for one second at most.
 ///
-/// `Closed` comes if and only if the link reported it, and `TurnsUsed` if and only if `turns` iterations were made.
-/// `LinkFault` and `WriteFault` come only if the link or the sink counted a fault.
+/// Returns `Closed` if and only if the link reported it, and `TurnsUsed` if and only if `turns` iterations were made.
+/// Returns `LinkFault` or `WriteFault` only if the link or the sink counted a fault.
 pub fn follow<L: Link, K: Sink>(
     alloc: Global,
     follower: &mut Follower,

@@ -105,7 +105,7 @@ pub(crate) fn hear(
     }
 }
 
-/// The line of a copy.
+/// The line that is written for a copy.
 fn line(alloc: Global, follower: &Follower) -> Result<String, AllocError>
     ensures { IfOk result (λ text. string_bytes text ≡ copy_text follower.now) }
 {

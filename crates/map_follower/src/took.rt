@@ -5,12 +5,12 @@ use mon_types::Version;
 pub enum Took {
     /// The copy is now at this version.
     Newer { version: Version },
-    /// It has nothing above the copy's version, which is this.
+    /// The reply has nothing newer than the copy, which is at this version.
     Known { version: Version },
-    /// Its incrementals begin above the copy's version, after this one.
+    /// The reply's incrementals begin after this version, which is above the copy's: those between are missing.
     Ahead { from: Version },
     /// The incremental at this place of the reply's list, counted from 0, isn't one. The copy is unchanged.
     Bad { index: u64 },
-    /// It isn't a map or incrementals of this service.
+    /// The reply isn't a map or incrementals of this service.
     Other,
 }

@@ -20,7 +20,7 @@ use std::alloc::Global;
 /// The longest wait of the link, in milliseconds.
 const WAIT: u64 = 1000;
 
-/// Takes a datagram.
+/// Takes the reply that a datagram completes, if any, and writes the copy if it is newer.
 fn take_datagram<K: Sink>(
     alloc: Global,
     follower: &mut Follower,
@@ -48,7 +48,7 @@ fn take_datagram<K: Sink>(
     }
 }
 
-/// Sends a request, as part of an iteration.
+/// Sends a request. The same as `ask`, with its effect stated on the state of an iteration.
 pub(crate) fn ask_on<L: Link>(
     alloc: Global,
     monitors: u8,
@@ -71,7 +71,7 @@ pub(crate) fn ask_on<L: Link>(
     Ok(())
 }
 
-/// Makes one iteration.
+/// Makes one iteration: waits for the link once, and takes a datagram, or sends the next request if none came.
 pub(crate) fn turn<L: Link, K: Sink>(
     alloc: Global,
     follower: &mut Follower,

@@ -22,7 +22,7 @@ list_all-weaker p q h (x ∷ xs) all =
     let parts = both (p x) (list_all p xs) all in
     rw (h x parts.0, list_all-weaker p q h xs parts.1) refl
 
--- pieces that are at most so long
+-- pieces whose length is at most `most`
 pub length-flat_map_le : {A : Type 0} (p : A → Bool) (f : A → List ℕ) (most : ℕ) → ((x : A) → IsTrue (p x) → length (f x) ≤ most) → (xs : List A) → IsTrue (list_all p xs) → length (flat_map f xs) ≤ most * length xs
 length-flat_map_le p f most h [] all = omega arith
 length-flat_map_le p f most h (x ∷ xs) all =

@@ -153,7 +153,7 @@ within_upto most n h = grind (arith, nat_tests)
 upto_within : (most n : ℕ) → IsTrue (leb n most) → IsTrue (within 0 most n)
 upto_within most n h = grind (arith, nat_tests)
 
--- a number of at most so much
+-- a number of at most `most`
 pub upto_form : (most : ℕ) → most < 2 ^ 64 → IsForm ℕ (number_of 0 most) decimal (λ n. leb n most)
 upto_form most small = record {
   takes = λ f n e. let t = number_takes 0 most f n small e in (t.0, within_upto most n t.1);

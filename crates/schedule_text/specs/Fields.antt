@@ -20,7 +20,7 @@ abbrev pub Is : {X Y : Type 0} → (X → Y) → Result X ScheduleKind → Resul
 Is view (Ok x) read = read ≡ Ok (view x)
 Is view (Err e) read = read ≡ Err e
 
--- the same of a call that left new
+-- the same for a call after which the state is `new`
 abbrev pub Steps : {X Y S : Type 0} → (X → Y) → Result X ScheduleKind → S → Result (Y × S) ScheduleKind → Type 0
 Steps view (Ok x) new read = read ≡ Ok (view x, new)
 Steps view (Err e) new read = read ≡ Err e
@@ -60,7 +60,7 @@ field_at read rest = do
 abbrev pub digit : ℕ → Bool
 digit b = nat_le 48 b && nat_le b 57
 
--- digits, with no zero before another
+-- a decimal number without a leading zero
 abbrev pub is_numeral : List ℕ → Bool
 is_numeral [] = false
 is_numeral (c ∷ []) = digit c

@@ -55,7 +55,7 @@ plain_at n rest = do
   word ← next rest
   plain_by n word.0 word.1
 
--- an event with the call of a disk that fails, and the image that is left of it
+-- a crash or a disk's fault: the disk, the number of its call, the image of what it keeps, and the event
 unfoldable pub upset_at : (Side → ℕ → ℕ → Plain → Event) → ℕ → Option (List ℕ) → Result Event ScheduleKind
 upset_at upset n rest = do
   disk ← field_at side_of rest
@@ -90,7 +90,7 @@ abbrev pub Gives : {X Y : Type 0} → (X → Y) → Result X LineRefused → Res
 Gives view (Ok x) read = read ≡ Ok (view x)
 Gives view (Err e) read = Fails e read
 
--- the same of a call that left new
+-- the same for a call after which the state is `new`
 abbrev pub GivesStep : {X Y S : Type 0} → (X → Y) → Result X LineRefused → S → Result (Y × S) ScheduleKind → Type 0
 GivesStep view (Ok x) new read = read ≡ Ok (view x, new)
 GivesStep view (Err e) new read = Fails e read

@@ -37,7 +37,7 @@ plain_text (Timer rank kind at) = spaced (codes "timer") (spaced (decimal rank) 
 plain_text (Client rank at session asked) =
     spaced (codes "client") (spaced (decimal rank) (spaced (decimal at) (spaced (decimal session.client) (spaced (decimal session.id) (request_text asked)))))
 
--- the disk, its call and the image that is left of it, before the event
+-- the text of a crash or a disk's fault after its word: the disk, its call, the image of what it keeps, and the event
 abbrev pub upset_text : Side → ℕ → ℕ → Plain → List ℕ
 upset_text disk call image plain = spaced (side_text disk) (spaced (decimal call) (spaced (decimal image) (plain_text plain)))
 
@@ -81,7 +81,7 @@ rule_text (Connectivity set) = codes "connectivity" ++ behind 61 (ranks_text set
 abbrev pub header : ℕ → Rule → List ℕ
 header n rule = spaced (codes "monitors") (spaced (decimal n) (rule_text rule))
 
--- the sets name monitors of the map, and a rule that disallows does so to one at least
+-- The sets name only ranks below n. A rule that disallows names at least one.
 abbrev pub RuleFits : ℕ → Rule → Type 0
 RuleFits n Classic = Unit {0}
 RuleFits n (Disallow set) = (set ≡ below n set) × IsTrue (is_some (ranks_text set))
@@ -103,7 +103,7 @@ most_events = MOST_EVENTS
 abbrev pub most_bytes : ℕ
 most_bytes = MOST_SCHEDULE
 
--- what has a text that is read
+-- the schedules that have a text, which is then read back
 pub record HasText (s : Schedule) : Type 0 where
   pub monitors : IsTrue (within 1 15 s.monitors)
   pub rule : RuleFits s.monitors s.rule

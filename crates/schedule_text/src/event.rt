@@ -14,7 +14,7 @@ pub enum Plain {
         message: u64,
         at: Moment,
     },
-    /// A timer of the monitor comes.
+    /// A timer of the monitor fires.
     Timer {
         rank: Rank,
         kind: mon_wire::Timer,

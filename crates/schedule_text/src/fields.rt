@@ -34,7 +34,7 @@ fn all_digits(field: &[u8]) -> bool
     field.iter().all(|b| *b >= 48 && *b <= 57)
 }
 
-/// Whether it is digits, with no zero before another.
+/// Whether the field is a decimal number without a leading zero.
 fn is_numeral(field: &[u8]) -> bool
     ensures { result ≡ is_numeral field.now }
 {
@@ -45,7 +45,7 @@ fn is_numeral(field: &[u8]) -> bool
     }
 }
 
-/// The digits' value, if it fits.
+/// The value of the digits, if it fits in 64 bits.
 fn value_of(field: &[u8]) -> Option<u64>
     requires { IsTrue (is_numeral field.now) }
     ensures some { IfSome result (λ n. n ≡ digits_value 10 field.now) }
@@ -168,7 +168,7 @@ fn printable_text(alloc: Global, bytes: &[u8]) -> Result<Text, OutOfMemory>
     }
 }
 
-/// What is left of a line, or that nothing is.
+/// The rest of a line that isn't read yet, or `None` after the last field.
 #[derive(Drop)]
 pub struct Fields<'a> {
     rest: Option<&'a [u8]>,
@@ -222,7 +222,7 @@ impl<'a> Fields<'a> {
         }
     }
 
-    /// `x`, if nothing is left.
+    /// Returns `x` if the line has no further field.
     pub fn end<T: Drop>(&mut self, x: T) -> Result<T, ScheduleKind>
         ensures { Is (λ y. y) result (ended self.old x) }
     {

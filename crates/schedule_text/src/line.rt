@@ -99,7 +99,7 @@ fn plain_at(alloc: Global, monitors: u8, fields: &mut Fields<'_>) -> Result<Plai
     plain_by(alloc, monitors, word, fields)
 }
 
-/// A crash.
+/// Reads a crash, after its word.
 #[tactic(auto, unfolding(crate::specs::Lines::upset_at))]
 fn crash_at(alloc: Global, monitors: u8, fields: &mut Fields<'_>) -> Result<Event, LineRefused>
     requires { monitors ≤ 15 }
@@ -117,7 +117,7 @@ fn crash_at(alloc: Global, monitors: u8, fields: &mut Fields<'_>) -> Result<Even
     })
 }
 
-/// A disk's fault.
+/// Reads a disk's fault, after its word.
 #[tactic(auto, unfolding(crate::specs::Lines::upset_at))]
 fn fail_at(alloc: Global, monitors: u8, fields: &mut Fields<'_>) -> Result<Event, LineRefused>
     requires { monitors ≤ 15 }

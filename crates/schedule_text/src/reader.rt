@@ -20,7 +20,7 @@ fn at(line: u32, kind: ScheduleKind) -> ScheduleRefused
     ScheduleRefused::At { line, kind }
 }
 
-/// One more event, after this many.
+/// Reads the line of one more event, after `count` events.
 #[tactic(auto, unfolding(crate::specs::Schedule::event_line_at))]
 fn event_line_at(
     alloc: Global,
@@ -43,7 +43,7 @@ fn event_line_at(
     }
 }
 
-/// As many events as there are lines, so that their list has its room from the start.
+/// The number of lines, at most `MOST_EVENTS`: the room that the list of events has from the start.
 fn room_of(body: &[u8]) -> usize
     ensures { result ≤ most_events }
 {
@@ -76,7 +76,7 @@ fn events_of(alloc: Global, monitors: u8, body: &[u8]) -> Result<Items<Event>, S
     }
 }
 
-/// What the first line says.
+/// The number of monitors and the rule that the first line names.
 fn first_line(line: &[u8]) -> Result<(u8, Rule), ScheduleRefused>
     ensures value { Gives (λ x. x) result (on_first_line (header_at line.now)) }
     ensures most { IfOk result (λ x. x.0 ≤ 15) }

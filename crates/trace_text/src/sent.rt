@@ -33,7 +33,7 @@ fn put_last(out: &mut String, last: Version) -> Result<(), AllocError>
     write!(out, " last={last}")
 }
 
-/// The versions that are kept.
+/// Appends the first and the last version that the sender keeps.
 fn put_kept(out: &mut String, first: Version, last: Version) -> Result<(), AllocError>
     ensures { OnOk result (string_bytes out.new ≡ string_bytes out.old ++ kept_text first last) }
 {
@@ -60,7 +60,7 @@ fn pending_number(pending: &Option<Told>) -> u64
     }
 }
 
-/// This many committed values, and the pending one.
+/// Appends the number of committed values, and the number of the pending one.
 fn put_told(
     out: &mut String,
     whole: bool,
@@ -82,7 +82,7 @@ fn put_vote(out: &mut String, pn: Pn, version: Version) -> Result<(), AllocError
     write!(out, " pn={pn} v={version}")
 }
 
-/// The first and the last of this many versions.
+/// Appends the first and the last of this many versions.
 fn put_versions(out: &mut String, from: Version, count: usize) -> Result<(), AllocError>
     requires { count < 2 ^ 63 }
     ensures { OnOk result (string_bytes out.new ≡ string_bytes out.old ++ versions_text from count) }
@@ -129,7 +129,7 @@ fn put_asked(out: &mut String, cookie: Cookie, place: &Place) -> Result<(), Allo
     put_key(out, &place.key)
 }
 
-/// This many values and entries.
+/// Appends what was asked for, and the numbers of values and entries.
 fn put_chunk(
     out: &mut String,
     cookie: Cookie,
@@ -158,7 +158,7 @@ fn put_granted(
     put_last(out, last)
 }
 
-/// The fields of a message of an election or of Paxos, each after a space.
+/// Appends the fields of a message of an election or of Paxos, each after a space.
 fn put_agreeing(out: &mut String, body: &Body) -> Result<(), AllocError>
     ensures { OnOk result (string_bytes out.new ≡ string_bytes out.old ++ agreeing_text body.now) }
 {
@@ -196,7 +196,7 @@ fn put_agreeing(out: &mut String, body: &Body) -> Result<(), AllocError>
     }
 }
 
-/// The fields of a message of a synchronization, each after a space.
+/// Appends the fields of a message of a synchronization, each after a space.
 fn put_copying(out: &mut String, body: &Body) -> Result<(), AllocError>
     ensures { OnOk result (string_bytes out.new ≡ string_bytes out.old ++ copying_text body.now) }
 {
@@ -232,7 +232,7 @@ fn put_copying(out: &mut String, body: &Body) -> Result<(), AllocError>
     }
 }
 
-/// The fields of a message, each after a space.
+/// Appends the fields of a message, each after a space.
 fn put_fields(out: &mut String, body: &Body) -> Result<(), AllocError>
     ensures { OnOk result (string_bytes out.new ≡ string_bytes out.old ++ fields_text body.now) }
 {
@@ -253,7 +253,7 @@ fn put_message(out: &mut String, sent: &Numbered) -> Result<(), AllocError>
     out.push_str("\n")
 }
 
-/// The line of each message, in order.
+/// Appends the line of each message, in order.
 pub fn put_sent(out: &mut String, sent: &[Numbered]) -> Result<(), AllocError>
     ensures { OnOk result (string_bytes out.new ≡ string_bytes out.old ++ flat_map sent_line sent.now) }
 {

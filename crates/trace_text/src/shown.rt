@@ -41,7 +41,7 @@ fn put_member<S: Serializer>(out: &mut S, key: &str, value: &str) -> Result<(), 
     out.str(value)
 }
 
-/// The members of an object, and its end.
+/// Serializes the members of an object, and its end.
 fn put_members<S: Serializer>(out: &mut S, entries: Iter<'_, String, Text>) -> Result<(), S::Error>
     ensures { OnOk result (AllLogged (S.written out.old) (S.written out.new) (members_events (pairs entries.entry))) }
 {
@@ -68,7 +68,7 @@ fn put_item<S: Serializer>(out: &mut S, inc: &LogInc) -> Result<(), S::Error>
     out.end_seq()
 }
 
-/// The items of an array, and its end.
+/// Serializes the items of an array, and its end.
 fn put_items<S: Serializer>(out: &mut S, incs: &[LogInc]) -> Result<(), S::Error>
     ensures { OnOk result (AllLogged (S.written out.old) (S.written out.new) (items_events incs.now)) }
 {

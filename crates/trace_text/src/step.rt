@@ -51,7 +51,7 @@ impl Replies {
         }
     }
 
-    /// Appends a reply. An `Err` leaves the replies.
+    /// Appends a reply. After an `Err` the replies are unchanged.
     pub fn push(&mut self, reply: Replied) -> Result<(), OutOfMemory>
         ensures ok { OnOk result (self.new ≡ self.old ++ reply ∷ []) }
         ensures err { OnErr result (self.new ≡ self.old) }

@@ -13,10 +13,10 @@ use schedule_text::{Event, service_word};
 use std::alloc::{AllocError, Global};
 use std::fmt::Write;
 
-/// The lines of most events are no longer than this.
+/// The room, in bytes, with which the lines of an event begin: most are no longer.
 const ROOM: usize = 512;
 
-/// The text of a reply with this many incrementals.
+/// Appends the text of a reply with this many incrementals.
 fn put_since(
     out: &mut String,
     service: Service,
