@@ -107,7 +107,7 @@ grown_more parts i bytes within missing =
     let written = slice_set parts i (Some bytes) in
     sym (ap (λ (all : Bool). cond all (Whole (flat_map (λ part. unwrap_or part []) written)) More) (all_written parts i bytes within ∙ missing))
 
--- where none is
+-- the whole message, if no other part is missing
 pub grown_whole : (parts : List (Option (List ℕ))) (i : ℕ) (bytes whole : List ℕ) → i < length parts
     → (list_all is_some (take i parts) && list_all is_some (drop (i + 1) parts)) ≡ true
     → whole ≡ flat_map (λ part. unwrap_or part []) (take i parts) ++ bytes ++ flat_map (λ part. unwrap_or part []) (drop (i + 1) parts)
@@ -125,7 +125,7 @@ by_all false whole e = cc
 pub grown_is : (parts : List (Option (List ℕ))) → grown parts ≡ Clash → ⊥
 grown_is parts e = by_all (list_all is_some parts) (flat_map (λ part. unwrap_or part []) parts) e
 
--- ---- the oldest that stands against a new one
+-- ---- the oldest message that is dropped for a new one
 
 pub oldest_monitor : (from : Peer) (r : ℕ) (kept : List Partial) → from ≡ Monitor r → oldest_against from kept ≡ first_of 4 (λ p. same_peer from p.from) kept
 oldest_monitor from r kept e = subst (λ (x : Peer). oldest_against x kept ≡ first_of 4 (λ p. same_peer x p.from) kept) (sym e) refl
@@ -135,7 +135,7 @@ pub oldest_client : (from : Peer) (c : ℕ) (kept : List Partial) → from ≡ C
 oldest_client from c kept e =
     subst (λ (x : Peer). oldest_against x kept ≡ or_else (first_of 1 (λ p. same_peer x p.from) kept) (first_of 64 (λ p. is_client p.from) kept)) (sym e) refl
 
--- what is found of a piece's message
+-- the place of a piece's message among those that are kept
 pub piece_found : (from : Peer) (h : Header) (bytes : List ℕ) (kept : List Partial) (at : Option ℕ) → at ≡ position (is_of from h.boot h.seq) kept
     → at_found from h bytes kept at ≡ piece_taken from bytes kept h
 piece_found from h bytes kept at e = ap (at_found from h bytes kept) e

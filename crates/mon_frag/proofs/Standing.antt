@@ -272,7 +272,7 @@ module _ (q : Peer) (Sent : Message → Type 0) where
       let fits : ltb 60000 (length bytes) ≡ false = le-ltb 60000 (length bytes) short in
       rw fits (plain_kept kept bytes (is_piece bytes) (header_of bytes >>= piece_taken from (drop 28 bytes) kept) plain)
 
-  -- ---- whatever comes from another peer
+  -- ---- whatever arrives from another peer
 
   module _ (from : Peer) (apart : q ≡ from → ⊥) where
     other_part : (p : Partial) (h : Header) (bytes : List ℕ) → from ≡ p.from → Stands (with_part h bytes p)
@@ -317,7 +317,7 @@ pub stand_more : (q : Peer) (S T : Message → Type 0) → ((m : Message) → S 
 stand_more q S T up [] all = tt
 stand_more q S T up (p ∷ kept) all = ((λ same. let k = all.0 same in (k.0, up k.0 k.1, k.2)), stand_more q S T up kept all.1)
 
--- ---- all that comes
+-- ---- all that arrives
 
 -- the long ones of a list of messages
 abbrev pub LongOf : List Message → Message → Type 0

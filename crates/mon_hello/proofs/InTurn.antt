@@ -17,7 +17,7 @@ sends_then (x ∷ xs) ys r a b c p q = (p.0, p.1, p.2, goes_on (λ rest. sends_t
     goes_on go (Err Failed) rest = go rest
     goes_on go (Err OutOfMemory) rest = absurd cc
 
--- what is left isn't sent
+-- after an error, the datagrams that follow aren't sent
 pub sends_no_more : (xs ys : List Outgoing) (e : Stop) (a b : LinkState) → SendsAll xs (Err e) a b → SendsAll (xs ++ ys) (Err e) a b
 sends_no_more [] ys e a b p = absurd cc
 sends_no_more (x ∷ xs) ys e a b p = (p.0, p.1, p.2, goes_on (sends_no_more xs ys e p.1 b) p.0 p.3)

@@ -133,7 +133,7 @@ impl Heard {
         }
     }
 
-    /// Takes what a monitor sent.
+    /// Takes a monitor's datagram: a hello, or another one, of which only the frame is looked at.
     fn came<S: Say>(
         &mut self,
         own: &Own,
@@ -157,7 +157,8 @@ impl Heard {
         }
     }
 
-    /// Takes what came, and says how its sender differs. Returns the client that sent a hello, if one did.
+    /// Takes what the link below gave, and says how its sender differs. Returns the client that sent a hello, if one
+    /// did.
     pub(crate) fn takes<S: Say>(
         &mut self,
         own: &Own,

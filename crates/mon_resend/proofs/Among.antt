@@ -78,7 +78,7 @@ all_passed_among again now c =
     joined (outs c) (all_passed again now c).boxes
     (of_all_passed (IsAmong (outs c)) (none_among (outs c)) (lasts_among (outs c)) again now c (split (outs c) c.boxes (same (outs c))))
 
--- ---- what goes
+-- ---- copies that are sent
 
 if_goes : (those : List Outgoing) (k : Kept) (kept : List Kept) (b : Bool) → AreOf those (k.out ∷ []) → IsAmong those kept → IsAmong those (cond b (k ∷ kept) kept)
 if_goes those k kept true one a = both those (k.out ∷ []) (outs_on kept) one a

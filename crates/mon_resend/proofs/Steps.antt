@@ -31,7 +31,7 @@ use Rattle.mon_wire.specs.declared.kind.Kind.TheVariants as kind
 abbrev pub Of : (List Kept → UnderWay → Type 0) → Outbox → Type 0
 Of P b = P b.shelf b.under_way
 
--- a FORWARD's turn comes only as a part of what happens
+-- whether an event is a FORWARD's turn, which happens only as a part of another event
 abbrev pub is_turn : Event → Bool
 is_turn (Turn seq) = true
 is_turn (Sent sent) = false

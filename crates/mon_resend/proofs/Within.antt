@@ -1,4 +1,4 @@
--- What is kept for each monitor stays within its bounds.
+-- The copies that are kept for each monitor stay within their bounds.
 use Rattle.std.specs.Prelude.{◌≡◌, ℕ, ◌+◌, ◌≤◌, ◌^◌, min, ◌-◌, Bool, true, false, ◌&&◌, refl, List, [], ◌∷◌, length, map, filter}
 use Rattle.std.specs.List.{sum_by}
 use Rattle.std.proofs.Common.{cond, leb, arith}

@@ -1,4 +1,5 @@
-//! A link that repeats the messages of a monitor to others until they are answered.
+//! A link that sends a monitor's messages to others again: questions until they are answered, and answers when the
+//! question arrives again.
 #![tactic(auto)]
 
 mod calls;

@@ -41,7 +41,7 @@ impl Measure {
 
     /// The measure after an answer that arrived `time` milliseconds after its message was last sent. The message was
     /// sent `copies` times as a copy. After a copy, the answer may belong to an earlier sending, so that `time` is too
-    /// short. Such an answer counts only if it took longer than usual.
+    /// short. Such an answer counts only if it took longer than usual, or came soon after the first copy.
     pub(crate) fn after(self, time: u64, copies: u8) -> Measure
         ensures { result ≡ measured time copies self }
     {

@@ -264,7 +264,8 @@ impl Outbox {
         }
     }
 
-    /// Notes an arrived message that no copy answers: measures it, and drops the copies that it answers.
+    /// Notes an arrived message that no copy answers: measures it if it is an answer, and drops the copies that it
+    /// answers.
     fn hears(&mut self, came: &Header, now: u64)
         ensures { self.new ≡ heard came.now now self.old }
     {

@@ -43,7 +43,7 @@ is_silent now c = is_past now c.asked
 
 -- ---- a message that is sent
 
--- the phase of a monitor that sends such a message to another one
+-- the phase of a monitor that sends a message of this kind to another one, if the kind shows it
 abbrev pub shown : Kind → Option Phase
 shown kind.Probe = Some phase.Probing
 shown kind.Propose = Some phase.Electing

@@ -42,7 +42,7 @@ fn phase_name(phase: Phase) -> &'static str
     }
 }
 
-/// An object with one member more.
+/// Puts a member into an object.
 fn add(
     alloc: Global,
     members: &mut Map<String, Value>,

@@ -1,4 +1,4 @@
--- What arrives ends what it answers.
+-- A message that arrives ends the copies that it answers.
 use Rattle.std.specs.Prelude.{◌≡◌, ℕ, Bool, true, false, ◌||◌, not, refl, List, [], Option, Some}
 use Rattle.std.specs.Str.{bytes_eq}
 use Rattle.std.proofs.Common.{cond, sym, subst}

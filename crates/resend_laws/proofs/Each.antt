@@ -1,4 +1,4 @@
--- What is noted of each copy of a datagram after a step.
+-- What holds of the note of each copy of a datagram after a step.
 use Rattle.std.specs.Prelude.{◌≡◌, ℕ, Bool, true, false, not, refl, List, [], ◌∷◌, ◌++◌, map, filter}
 use Rattle.std.proofs.Common.{cond}
 use Rattle.mon_link.specs.declared.link.Outgoing.{Outgoing}
@@ -19,7 +19,7 @@ if_first : (x : Outgoing) (G : Note → Type 0) (f : Note → Note) (k : Kept) (
 if_first x G f k those true one h = (one refl, h)
 if_first x G f k those false one h = h
 
--- some stay, and change
+-- some copies stay, with changed notes
 pub each_changed : (x : Outgoing) (F G : Note → Type 0) (f : Note → Note) (p : Kept → Bool) → ((k : Kept) → p k ≡ true → F k.note → G (f k.note)) → (kept : List Kept)
     → EachOf x F kept → EachOf x G (map (λ k. with_note (f k.note) k) (filter p kept))
 each_changed x F G f p a [] h = tt
@@ -32,14 +32,14 @@ each_more x F out other n (k ∷ kept) h = (h.0, each_more x F out other n kept 
 pub each_grows : (x : Outgoing) (F : Note → Type 0) (out : Outgoing) → (out ≡ x → ⊥) → Grows (EachOf x F) out
 each_grows x F out other n kept room h = each_more x F out other n kept h
 
--- what an event leaves
+-- a property of notes that stays true after each event
 abbrev pub IsStable : (Note → Type 0) → Type 0
 IsStable F = (event : Event) (now : ℕ) (n : Note) → F n → F (after event now n)
 
 pub each_lasts : (x : Outgoing) (F : Note → Type 0) → IsStable F → Lasts (EachOf x F)
 each_lasts x F stable event now kept h = each_changed x F F (after event now) (λ k. not (is_ended event k.note)) (λ k e g. stable event now k.note g) kept h
 
--- ---- nothing is kept of it
+-- ---- no copy of a datagram is kept
 
 never : IsStable (λ n. ⊥)
 never event now n h = h

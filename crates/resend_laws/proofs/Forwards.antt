@@ -1,4 +1,4 @@
--- FORWARDs go in order.
+-- FORWARDs are sent in order.
 use Rattle.std.specs.Prelude.{◌≡◌, ℕ, zero, suc, ◌-◌, ◌^◌, ◌≤◌, ◌<◌, Bool, true, false, ◌&&◌, ◌||◌, not, refl, List, [], ◌∷◌, ◌++◌, length, filter, Option, Some, None, is_some, ◌⊎◌, get_or}
 use Rattle.std.specs.List.Sorted.{IsNonDecreasing}
 use Rattle.std.proofs.Common.{cond, eqb, leb, arith, inl, inr, sym, subst}
@@ -33,14 +33,14 @@ use Rattle.resend_laws.proofs.Unchanged.{header_stays, forward_by_time, forward_
 
 -- ---- what holds of the copies for a monitor
 
--- The numbers that are kept are in line, none is below `low`, and none above `from`.
+-- The FORWARDs that are kept are a queue: their numbers never decrease, none is below `low`, and none above `from`.
 record Line (low from : ℕ) (kept : List Kept) : Type 0 where
   bound : low ≤ from
   climbs : Climbs low (numbers kept)
   above : All (λ q. q ≤ from) (numbers kept)
   queue : Queue kept
 
--- It is the last one in line. It waits, or went last.
+-- The FORWARD is the last one in line. It waits, or its number was sent last.
 record IsLast (low from : ℕ) (ns : List ℕ) (n : Note) : Type 0 where
   least : low ≤ n.header.first
   most : n.header.first ≤ from
@@ -104,7 +104,7 @@ in_line_lasts low from event now kept u other h =
 
 -- ---- time passes
 
--- The first one's number went.
+-- The lowest number rises to that of the first FORWARD, which was sent.
 raised : (low from : ℕ) (ns : List ℕ) (u : UnderWay) → Climbs low ns → low ≤ from → All (λ q. q ≤ from) ns → IsLong low from ns u
     → (low ≤ first_or low ns) × (first_or low ns ≤ from) × Climbs (first_or low ns) ns × IsLong (first_or low ns) from ns u
 raised low from [] u c le b l = (omega arith, le, tt, l)
@@ -195,7 +195,7 @@ went_on_in_line low from (under_way.Kept n) memory out b e g =
 went_on_in_line low from under_way.Lost memory out b e g = subst (InLine low from b.shelf) (sym e) g
 went_on_in_line low from under_way.Nothing memory out b e g = subst (InLine low from b.shelf) (sym e) g
 
--- ---- a FORWARD begins to go
+-- ---- a FORWARD is given to send
 
 none_first : (kept : List Kept) → is_some (first_forward kept) ≡ false → numbers kept ≡ []
 none_first [] e = refl
@@ -206,7 +206,7 @@ none_first (k ∷ kept) e = elim (cases_Bool (is_forward k.note.header)) [
       subst (λ b. cond b (k.note.header.first ∷ []) [] ++ numbers kept ≡ []) (sym isnt) (none_first kept f)
 ]
 
--- what becomes of the lowest number when these leave
+-- datagrams of these numbers are sent: all have one number, at least `low`, of which P holds
 record Went (low : ℕ) (left : List ℕ) (P : ℕ → Type 0) : Type 0 where
   now : ℕ
   up : low ≤ now
@@ -227,7 +227,7 @@ module _ (memory : Bool) (to : ℕ) (bytes : List ℕ) (now : ℕ) (c : Copies) 
   out = datagram (Monitor to) bytes
 
   module _ (h : Header) (total : ℕ) where
-    -- what is kept when it begins to go
+    -- the box of the monitor after the epoch of the message was noted
     abbrev found : Outbox
     found = box_of to (begins h now c)
 
@@ -387,7 +387,7 @@ leave_in_order r (s ∷ steps) c low from before g rises =
     let w = stepped r s c low from before.0 g parts.0 in
     climbs_join low w.now (leave_in r s c) (leave r steps (step s c)) w.up w.all (leave_in_order r steps (step s c) w.now (past from (begun_by r s)) before.1 w.holds parts.1)
 
--- ---- what is kept when one leaves
+-- ---- what is kept when a FORWARD is sent
 
 all_both : (P : ℕ → Type 0) (ns ms : List ℕ) → All P ns → All P ms → All P (ns ++ ms)
 all_both P [] ms a b = b

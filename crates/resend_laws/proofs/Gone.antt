@@ -1,4 +1,4 @@
--- What goes by time is gone after its times.
+-- A copy that is sent by time is dropped after it was sent often enough.
 use Rattle.std.specs.Prelude.{◌≡◌, ℕ, suc, ◌+◌, ◌≤◌, ◌<◌, min, Bool, true, false, ◌&&◌, ◌||◌, not, refl, List, [], ◌∷◌, ◌⊎◌}
 use Rattle.std.proofs.Common.{cond, leb, ltb, arith, inl, inr, sym, subst}
 use Rattle.std.proofs.lemmas.Bool.Decides.{nat_tests}
@@ -20,7 +20,8 @@ use Rattle.resend_laws.proofs.Each.{IsStable, each_changed, each_grows, each_is,
 use Rattle.resend_laws.proofs.Unchanged.{unchanged}
 use Rattle.mon_resend.proofs.Walk.{sent_at, arrived_at, passed_at}
 
--- It went j times at least, and is due soon after `since`; or it went once more since then.
+-- The copy was sent j times at least, and is due at most `wait` after `since`; or it was sent once more, and is due at
+-- most `wait` after `now`.
 record IsAt (wait j since now : ℕ) (n : Note) : Type 0 where
   by_time : way_of n.header.kind ≡ way.ByTime
   waits_for_none : same_kind n.header.kind kind.GetChunk ≡ false
@@ -42,7 +43,7 @@ later wait j since now then_now n le h = record {
   either = elim h.either [ inl a ↦ inl a | inr b ↦ inr (omega (arith, b.0, le), b.1) ];
 }
 
--- ---- it goes
+-- ---- the copy is sent
 
 abbrev next_note : ℕ → Note → Note
 next_note now n = record n { last = now; due = plus now (doubled n.every); every = doubled n.every; times = min (n.times + 1) 255 }

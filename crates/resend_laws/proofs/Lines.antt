@@ -1,4 +1,5 @@
--- The FORWARDs that are kept for a monitor stand in line: their numbers never fall, and those after the first one wait.
+-- The FORWARDs that are kept for a monitor are a queue: their numbers never decrease, and those after the first one
+-- wait.
 use Rattle.std.specs.Prelude.{◌≡◌, ℕ, ◌-◌, ◌^◌, ◌≤◌, ◌<◌, Bool, true, false, ◌&&◌, ◌||◌, refl, List, [], ◌∷◌, ◌++◌, map, filter, Some, None, ◌⊎◌}
 use Rattle.std.specs.List.{AllByRecursion}
 use Rattle.std.proofs.Common.{cond, eqb, leb, ltb, arith, ap, inl, inr, sym, subst, ◌∙◌}
@@ -25,7 +26,7 @@ All P ns = AllByRecursion P ns
 
 -- ---- lists of numbers
 
--- they never fall, and none is below this one
+-- the numbers never decrease, and none is below `low`
 abbrev pub Climbs : (low : ℕ) → List ℕ → Type 0
 Climbs low [] = Unit {0}
 Climbs low (q ∷ ns) = (low ≤ q) × Climbs q ns
@@ -50,7 +51,7 @@ pub climbs_more : (low : ℕ) (ns : List ℕ) (q : ℕ) → Climbs low ns → lo
 climbs_more low [] q h le a = (le, tt)
 climbs_more low (n ∷ ns) q h le a = (h.0, climbs_more n ns q h.1 a.0 a.1)
 
--- the first one
+-- the first number, or this one if there is none
 abbrev pub first_or : ℕ → List ℕ → ℕ
 first_or low [] = low
 first_or low (q ∷ ns) = q
@@ -79,7 +80,7 @@ rest_all P h ns a = elim (cases_Bool (is_forward h)) [ inl e ↦ (if_first (All 
 
 -- ---- the line
 
--- it waits until it is called
+-- the copy waits until an event makes it due
 pub record Waits (n : Note) : Type 0 where
   pub held : n.held ≡ true
   pub due : n.due ≡ 2 ^ 64 - 1
@@ -253,9 +254,9 @@ queue_more (x ∷ kept) k q either = (
   λ e. queue_more kept k (q.1 e) (λ is. elim (either is) [ inl waits ↦ inl waits | inr those ↦ inr those.1 ]),
 )
 
--- ---- those that go
+-- ---- FORWARDs that are sent
 
--- one that waits doesn't go
+-- a copy that waits isn't sent
 pub waits_on : (again : Bool) (now : ℕ) (n : Note) → now < 2 ^ 64 - 1 → Waits n → goes again now n ≡ false
 waits_on again now n before waits = elim (cases_Bool (leb n.due now)) [
   | inl e ↦ absurd (grind (arith, nat_tests, e, before, waits.due))

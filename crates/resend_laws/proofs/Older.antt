@@ -74,7 +74,7 @@ module _ (r : ℕ) (x : Outgoing) (e : ℕ) where
   abbrev UpTo : Note → Type 0
   UpTo n = IsUpTo e n
 
-  -- The epoch is still this one, or nothing is kept.
+  -- The epoch is still this one, or no copy of the datagram is kept.
   abbrev Holds : Copies → Type 0
   Holds c = ((c.epoch ≡ e) × EachAt r x UpTo c) ⊎ IsOver r x c
 

@@ -1,4 +1,4 @@
--- What goes by time for the first time.
+-- The note of a message that is sent for the first time, and again by time.
 use Rattle.std.specs.Prelude.{◌≡◌, ℕ, ◌+◌, ◌≤◌, min, max, Bool, true, false, ◌&&◌, ◌||◌, not, refl, is_some}
 use Rattle.std.proofs.Common.{cond, eqb, arith, sym, subst}
 use Rattle.std.proofs.lemmas.Bool.Decides.{nat_tests}

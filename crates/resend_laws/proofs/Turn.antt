@@ -1,4 +1,4 @@
--- The first FORWARD that is kept went, or is called.
+-- The first FORWARD that is kept was sent, or is now to be sent.
 use Rattle.std.specs.Prelude.{◌≡◌, ℕ, ◌≤◌, Bool, true, false, ◌&&◌, refl, List, [], ◌∷◌, Option, Some, None}
 use Rattle.std.proofs.Common.{cond, eqb, leb, ltb, arith, inl, inr, sym, subst}
 use Rattle.std.proofs.lemmas.Bool.{cases_Bool}
@@ -15,7 +15,7 @@ use Rattle.mon_resend.proofs.Steps.{passed_at}
 use Rattle.resend_laws.proofs.Lines.{is_forward}
 use Rattle.resend_laws.proofs.Unchanged.{header_stays}
 
--- it goes from this time on
+-- the copy is due at this time, as if for the first time
 record IsCalled (now : ℕ) (n : Note) : Type 0 where
   due : n.due ≡ now
   times : n.times ≡ 0
@@ -23,7 +23,7 @@ record IsCalled (now : ℕ) (n : Note) : Type 0 where
 abbrev FirstIsCalled : ℕ → List Kept → Type 0
 FirstIsCalled now kept = (k : Kept) → first_forward kept ≡ Some k → k.note.held ≡ true → IsCalled now k.note
 
--- nothing waits
+-- if the first FORWARD isn't to be let go, it isn't held
 held_none : (k x : Kept) → if_held (Some x) ≡ None → Some x ≡ Some k → k.note.held ≡ true → ⊥
 held_none k x none is held =
     let same : x ≡ k = cc in

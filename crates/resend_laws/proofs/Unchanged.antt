@@ -1,4 +1,4 @@
--- What an event leaves of a note.
+-- What no event changes in a note.
 use Rattle.std.specs.Prelude.{◌≡◌, ℕ, Bool, true, false, ◌&&◌, ◌==◌, refl}
 use Rattle.std.proofs.Common.{cond, sym, subst}
 use Rattle.mon_decode.specs.declared.header.Header.{Header}
@@ -14,7 +14,7 @@ use Rattle.mon_resend.proofs.Steps.{is_turn}
 use Rattle.mon_wire.specs.declared.kind.Kind.{Kind}
 use Rattle.mon_wire.specs.declared.kind.Kind.TheVariants as kind
 
--- ---- its header stays
+-- ---- the header of a note
 
 same_header : (x n : Note) (b : Bool) → x.header ≡ n.header → (cond b x n).header ≡ n.header
 same_header x n true e = e
@@ -30,7 +30,7 @@ header_stays (Rose epoch) now n = refl
 header_stays Deferred now n = refl
 header_stays Left now n = refl
 
--- ---- nothing changes one that goes by time, waits for none and is no GET_CHUNK
+-- ---- no event changes the note of a copy that is sent by time, isn't held and is no GET_CHUNK
 
 not_asked : (k : Kind) (kept came : Header) → way_of k ≡ way.ByTime → is_asked_as k kept came ≡ false
 not_asked kind.Accept kept came e = absurd cc
@@ -122,7 +122,7 @@ forward_by_time k e = subst (λ k. way_of k ≡ way.ByTime) (sym (by_kind k e)) 
 pub forward_no_chunk : (k : Kind) → same_kind k kind.Forward ≡ true → same_kind k kind.GetChunk ≡ false
 forward_no_chunk k e = subst (λ k. same_kind k kind.GetChunk ≡ false) (sym (by_kind k e)) refl
 
--- ---- nor does its header change when it goes
+-- ---- sending doesn't change the header either
 
 either_header : (x y n : Note) (b : Bool) → x.header ≡ n.header → y.header ≡ n.header → (cond b x y).header ≡ n.header
 either_header x y n true e f = e

@@ -55,7 +55,7 @@ fn put_round(
     Ok(())
 }
 
-/// Appends rounds until there are this many events.
+/// Appends rounds until there are `most` events in all, or a few more.
 pub(crate) fn put_rounds(
     alloc: Global,
     events: &mut Vec<Event>,

@@ -19,7 +19,7 @@ fn rank_of(draw: u32) -> u8
     (draw % 3) as u8
 }
 
-/// Event i, if this message is the next in order.
+/// Makes event i, if `next` is the number of the next message in order.
 #[tactic(auto, unfolding(crate::specs::Made::turn))]
 fn turn(
     alloc: Global,
@@ -58,7 +58,7 @@ fn turn(
     Ok(start(rank_of(y), at))
 }
 
-/// Appends events until there are this many.
+/// Appends events until there are `most` in all.
 pub(crate) fn put_turns(
     alloc: Global,
     events: &mut Vec<Event>,

@@ -26,6 +26,6 @@ parted c (b ∷ bs) (suc k) low none here =
 pub cut_nowhere : (c : ℕ) (bs : List ℕ) → Nowhere (Passes (is_byte c) bs) 0 (length bs) → cut c bs ≡ (bs, None)
 cut_nowhere c bs none = whole c bs (λ j low. none j (omega arith) low)
 
--- where k is the first place of one
+-- if k is the first place of a separator
 pub cut_first : (c : ℕ) (bs : List ℕ) (k : ℕ) → NoneBefore (Passes (is_byte c) bs) 0 (length bs) k → Passes (is_byte c) bs k → cut c bs ≡ (take k bs, Some (drop (suc k) bs))
 cut_first c bs k none here = parted c bs k none.high (λ j low. none.before j (omega arith) low) here

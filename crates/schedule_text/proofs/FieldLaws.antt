@@ -46,7 +46,7 @@ list_all-append p (x ∷ xs) ys a b =
     let parts = both (p x) (list_all p xs) a in
     rw (parts.0, list_all-append p xs ys parts.1 b) refl
 
--- it isn't this separator
+-- a byte isn't this separator
 abbrev pub apart : ℕ → ℕ → Bool
 apart separator b = not (eqb b separator)
 

@@ -179,7 +179,7 @@ plain_takes n rest p small e =
 abbrev Upset : Type 0
 Upset = Side → ℕ → ℕ → Plain → Event
 
--- it is encoded after this word
+-- an event that is encoded after this word
 record IsUpset (upset : Upset) (word : List ℕ) : Type 0 where
   spelled : (disk : Side) (call image : ℕ) (p : Plain) → event_text (upset disk call image p) ≡ spaced word (upset_text disk call image p)
   fits : (n : ℕ) (disk : Side) (call image : ℕ) (p : Plain) → event_fits n (upset disk call image p) ≡ upset_fits n call image p
@@ -231,7 +231,7 @@ fields_take n line v small e =
     let a = bind_ok (next (Some line)) (λ word. event_by n word.0 word.1) v e in
     event_by_takes n line a.0.0 a.0.1 v small (next_reads (Some line) a.0.1 a.0.0 a.1) a.2
 
--- so is what is read from a line
+-- what is read from a line is encoded so, and is printable
 pub event_takes : (n : ℕ) (line : List ℕ) (v : Event) → n < 2 ^ 64 → event_at n line ≡ Ok v → (line ≡ event_text v) × IsTrue (event_fits n v)
 unfolding event_at
 event_takes n line v small e =

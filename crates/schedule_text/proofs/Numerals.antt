@@ -85,7 +85,7 @@ rank_takes n f r small is =
     let lt : digits_value 10 f < n = ltb-true _ _ b.0 in
     (numeral_is f a.0 (omega arith) ∙ ap decimal value, subst (λ (k : ℕ). IsTrue (ltb k n)) value b.0)
 
--- a decimal begins with 0 only if it is that
+-- a decimal begins with 0 only if it is 0
 decimal_start : (n : ℕ) → n < 2 ^ 64 → get_or (decimal n) 0 0 ≡ 48 → length (decimal n) ≡ 1
 decimal_start n small z =
     elim (cases_lt 0 n) [

@@ -52,7 +52,7 @@ next_is r (Some bytes) h =
     let same : (cut 44 bytes).0 ≡ decimal r = (bytes_eq-Decides (cut 44 bytes).0 (decimal r)).0 h in
     ap (λ (xs : List ℕ). Some xs) (sym (cut_joined 44 bytes) ∙ joined-behind 44 (cut 44 bytes).0 (cut 44 bytes).1 ∙ ap (λ (f : List ℕ). f ++ behind 44 (cut 44 bytes).1) same)
 
--- what is left is encoded by the flags that are still read
+-- the rest of the text is the encoding of the flags that are still to be read
 record IsSpelled (n count r : ℕ) (front flags : List Bool) (rest : Option (List ℕ)) : Type 0 where
   text : rest ≡ ranks_from count r (front ++ flags)
   kept : flags_below n count r (front ++ flags) ≡ flags
@@ -115,7 +115,7 @@ flag_below n (suc count) r zero set lt = ap (λ k. ltb k n && has set k) (omega 
 flag_below n (suc count) r (suc i) set lt =
     flag_below n count (suc r) i set (omega arith) ∙ ap (λ k. ltb k n && has set k) (omega arith)
 
--- no rank is in the set that isn't below n
+-- each rank of the set is below n
 only_below : (n r : ℕ) (set : List Bool) → set ≡ below n set → r < 15 → has set r ≡ true → IsTrue (ltb r n)
 unfolding below
 only_below n r set is lt h =
@@ -134,7 +134,7 @@ others_differ r q lt small =
 cut_rank : (q : ℕ) (rest : Option (List ℕ)) → q < 2 ^ 64 → cut 44 (decimal q ++ behind 44 rest) ≡ (decimal q, rest)
 cut_rank q rest small = ap (cut 44) (sym (joined-behind 44 (decimal q) rest)) ∙ cut_again 44 (decimal q) rest (no_comma q small)
 
--- a rank doesn't come if only greater ones are encoded
+-- a rank isn't the next one if only greater ones are encoded
 not_next : (count r q : ℕ) (set : List Bool) → r < q → q + count ≤ 15 → comes_next r (ranks_from count q set) ≡ false
 not_next zero r q set lt le = refl
 not_next (suc count) r q set lt le =
@@ -143,7 +143,7 @@ not_next (suc count) r q set lt le =
       | inr f ↦ rw f (not_next count r (suc q) set (omega arith) (omega arith))
     ]
 
--- the next rank comes
+-- a rank that is encoded first is the next one
 comes : (n count r : ℕ) (bytes : List ℕ) (after : Option (List ℕ)) (flags : List Bool) → cut 44 bytes ≡ (decimal r, after) → IsTrue (ltb r n)
     → flags_at n count (suc r) after ≡ (flags, None) → flags_at n (suc count) r (Some bytes) ≡ (true ∷ flags, None)
 comes n count r bytes after flags e under others =
@@ -202,7 +202,7 @@ one_less r count front set s = record {
   set_is = s.set_is ∙ sym (snoc front false (replicate count false));
 }
 
--- reading a set: the flags so far, and what is left to be read
+-- reading a set: the flags so far, and the text that is still to be read
 pub record Reading (n r count : ℕ) (set : List Bool) (rest text : Option (List ℕ)) : Type 0 where
   pub front : List Bool
   pub so_far : SoFar r count front set

@@ -48,7 +48,7 @@ regroup : (front : List Event) (event : Event) (read : Result (List Event) Sched
 regroup front event (Ok others) = ap (λ (es : List Event). Ok es) (simp append_assoc)
 regroup front event (Err f) = refl
 
--- the events of what is left
+-- the events of the text that is still to be read
 abbrev pub left : ℕ → ℕ → List ℕ → Result (List Event) ScheduleRefused
 left n count bytes = events_at n count (lines_of bytes).0 (lines_of bytes).1
 
@@ -111,7 +111,7 @@ pub whole_first : (bytes first body : List ℕ) → (cut 10 bytes).0 ≡ first �
 unfolding whole_at
 whole_first bytes first body f r = rw (lines_of-cut bytes, f, r) refl
 
--- what a refusal on the way says of the whole
+-- a refusal of the first line, or of a later one, is a refusal of the schedule
 pub first_fails : (e : ScheduleRefused) (first body : List ℕ) → Fails e (on_first_line (header_at first)) → Fails e (by_first first body)
 first_fails OutOfMemory first body h = tt
 first_fails (At l k) first body h = rw h refl

@@ -38,7 +38,7 @@ abbrev pub next : Option (List ℕ) → Result (List ℕ × Option (List ℕ)) S
 next None = Err kind.Word
 next (Some bytes) = if length (cut 32 bytes).0 == 0 then Err kind.Word else Ok (cut 32 bytes)
 
--- nothing is left
+-- the value, if the line has no further field
 abbrev pub ended : {A : Type 0} → Option (List ℕ) → A → Result A ScheduleKind
 ended None x = Ok x
 ended (Some bytes) x = Err kind.Word

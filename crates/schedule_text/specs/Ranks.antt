@@ -46,7 +46,7 @@ abbrev pub behind_next : Option (List ℕ) → Option (List ℕ)
 behind_next None = None
 behind_next (Some bytes) = (cut 44 bytes).1
 
--- of `count` ranks from `rank` on, which of them come, each below n; and what is left
+-- which of `count` ranks from `rank` on the text names in order, each below n; and the rest of the text
 abbrev pub flags_at : ℕ → ℕ → ℕ → Option (List ℕ) → List Bool × Option (List ℕ)
 flags_at n zero rank rest = ([], rest)
 flags_at n (suc count) rank rest =

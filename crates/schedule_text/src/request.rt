@@ -72,7 +72,7 @@ fn request_by(alloc: Global, word: &[u8], fields: &mut Fields<'_>) -> Result<Req
     Err(LineRefused::Kind(ScheduleKind::Word))
 }
 
-/// Reads a request from the fields that are left of a line: its word, and what follows that. The first faulty field is
+/// Reads a request from the remaining fields of a line: its word, and what follows that. The first faulty field is
 /// refused, with its kind.
 #[tactic(auto, unfolding(crate::specs::Requests::request_at))]
 pub fn request_at(alloc: Global, fields: &mut Fields<'_>) -> Result<Request, LineRefused>

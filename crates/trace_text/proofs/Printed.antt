@@ -132,7 +132,7 @@ shown_run (Log incs) last run =
     let o = opened_seq (start false) run.0 (length incs) at_start run.1 in
     after (start false) run.0 (begin_array ∷ []) (items_tokens incs) last.tokens o (items_run incs run.0 last o.0 run.2)
 
--- So that is the text of its events.
+-- A text of the events of a shown map is the text of that map.
 pub text_is : (shown : ShownMap) (log : serde.Log) (bytes : List ℕ) → AllLogged (Some []) log (shown_events shown) → IsTextOf log bytes → bytes ≡ shown_text shown
 text_is shown log bytes known h =
     let same = tokens_by false (shown_events shown) log (tokens bytes) (shown_tokens shown) known h.0 (λ s run. shown_run shown s run) in
@@ -140,7 +140,7 @@ text_is shown log bytes known h =
 
 -- ---- events that follow one another
 
--- those that are left and those that were, of all that are to follow
+-- the log so far, with the events `left` that are still to come, is the log before with all events
 abbrev pub Still : serde.Log → serde.Log → List Event → List Event → Type 0
 Still None now left all = Unit {0}
 Still (Some before) None left all = ⊥
@@ -188,11 +188,11 @@ next_item incs n inc below is = ap items_events (drop_more incs n inc below ∙ 
 pub no_item : (incs : List LogInc) (n : ℕ) → length incs ≤ n → items_events (drop n incs) ≡ seq_ends ∷ []
 no_item incs n above = ap items_events (drop_all n incs above)
 
--- at the end of a loop
+-- a loop that has only one event to log ends with all events logged
 pub all_done : {T E : Type 0} (r : Result T E) (first now last : serde.Log) (e : Event) (left all : List Event) → left ≡ e ∷ [] → OnOk r (Logs now last e) → Still first now left all → OnOk r (AllLogged first last all)
 all_done r first now last e left all none step still = on_ok r (λ h. finished first now last e all h (subst (λ (l : List Event). Still first now l all) none still)) step
 
--- and in it
+-- an iteration of a loop logs some events, and others are still to be logged
 pub one_done : (first now next : serde.Log) (one left rest all : List Event) → left ≡ one ++ rest → AllLogged now next one → Still first now left all → Still first next rest all
 one_done first now next one left rest all some step still = moved first now next one rest all step (subst (λ (l : List Event). Still first now l all) some still)
 

@@ -11,7 +11,7 @@ use std::rc::Rc;
 use std::str;
 use std::test::Fail;
 
-/// Lines, of which the last is kept.
+/// A receiver of lines that keeps the length of the last one.
 #[derive(Drop)]
 struct Kept {
     alloc: Global,
