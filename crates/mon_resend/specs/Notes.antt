@@ -65,7 +65,7 @@ is_ended (Turn seq) n = false
 abbrev pub called : ℕ → Note → Note
 called now n = record n { last = now; due = now; times = 0; held = true }
 
--- an event that doesn't end it
+-- the note after an event that doesn't end the copy
 abbrev pub after : Event → ℕ → Note → Note
 after (Asked header) now n = if is_asked_again n.header header then called now n else n
 after (Turn seq) now n = if n.held && n.header.first == seq then called now n else n

@@ -80,7 +80,7 @@ impl Acknowledged {
         }
     }
 
-    /// What is noted after an acknowledgement in this epoch.
+    /// The note after the monitor's PROPOSE was acknowledged in this epoch.
     pub(crate) fn in_epoch(self, epoch: u64, now: u64) -> Acknowledged
         ensures { result ≡ acknowledged_in epoch now self }
     {

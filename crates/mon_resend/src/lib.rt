@@ -1,5 +1,5 @@
-//! A link that sends a monitor's messages to others again: questions until they are answered, and answers when the
-//! question arrives again.
+//! A link that sends a monitor's messages to others again until they are answered, and its answers when their question
+//! arrives again.
 #![tactic(auto)]
 
 mod calls;

@@ -17,8 +17,8 @@ pub(crate) const NEVER: u64 = u64::MAX;
 /// Up to this wait, in milliseconds, each copy doubles the wait for the next one. A longer first wait stays as it is.
 pub(crate) const LONGEST: u64 = 1_000;
 
-/// The least time until a request for a copy of the store goes again, and until one for a chunk does, in milliseconds. A
-/// second request for a copy ends the first one, and a chunk takes long to read and to send.
+/// The least wait before a request for a copy of the store is sent again, and before one for a chunk is, in
+/// milliseconds. A second request for a copy ends the first one, and a chunk takes long to read and to send.
 pub(crate) const LEAST_OF_COOKIE: u64 = 2_000;
 
 pub(crate) const LEAST_OF_CHUNK: u64 = 100;
@@ -69,7 +69,7 @@ pub struct Note {
     pub held: bool,
 }
 
-/// The least time until a message of this kind goes again.
+/// The least wait before a message of this kind is sent again.
 fn least_of(kind: Kind) -> u64
     ensures { result ≡ least_of kind }
 {
@@ -137,7 +137,7 @@ impl Note {
         }
     }
 
-    /// What is noted after an event that doesn't end it.
+    /// The note after an event that doesn't end the copy.
     pub(crate) fn after(self, event: Event, now: u64) -> Note
         ensures { result ≡ after event now self }
     {

@@ -72,7 +72,7 @@ pub struct Outbox {
     /// What decides whether a PROPOSE from it is handed up: one of an earlier epoch, and one that was acknowledged.
     pub earlier: Earlier,
     pub acknowledged: Acknowledged,
-    /// How often memory was refused for what was to be kept: a copy, or the last GET_CHUNK that came. At most `u64::MAX`.
+    /// How often memory was refused for a copy, or to remember a GET_CHUNK that arrived. At most `u64::MAX`.
     pub unkept: u64,
 }
 

@@ -42,7 +42,7 @@ use Rattle.std.specs.Prelude.{is_some, slice_index_or}
 use Rattle.watch_laws.proofs.Showing.{At, Is, IsIdle, IsSilent, Shown, all, has_others, idle_alone, nobody, still, told}
 use Rattle.watch_laws.specs.Watching.{ReadsShort}
 
--- whatever comes out
+-- a condition that each result meets
 pub anyway : {A : Type 0} (r : Result A Which) → Then (λ (x : A). Unit {0}) r
 anyway (Ok x) = done tt
 anyway (Err e) = record { holds = tt }
@@ -51,7 +51,7 @@ pub then_map : {A : Type 0} (P Q : A → Type 0) (r : Result A Which) → ((x : 
 then_map P Q (Ok x) f p = done (f x p.holds)
 then_map P Q (Err e) f p = record { holds = tt }
 
--- what is remembered and sent is the same
+-- two courses with the same state and the same messages sent
 pub record Same (x y : Course) : Type 0 where
   pub state : y.state ≡ x.state
   pub out : y.out ≡ x.out
@@ -61,7 +61,7 @@ unfolding learn
 learns v [] x = done (record { state = refl; out = refl })
 learns v (value ∷ values) x = where_fits (Same x) which.Version (v + length values) _ (λ _. done (record { state = refl; out = refl }))
 
--- and so is the epoch, if values spare it
+-- two courses with the same state, messages sent and epoch
 pub record Kept (x y : Course) : Type 0 where
   pub state : y.state ≡ x.state
   pub out : y.out ≡ x.out
@@ -92,18 +92,18 @@ module _ (me : Me) (now : ℕ) (is_read : Message → Bool) (R : ReadsShort is_r
   silent_answers e None r = tt
   silent_answers e (Some o) r = silent_answer e o r
 
-  -- what shows no phase is sent besides
+  -- sending more messages that show no phase changes nothing that is seen
   pub quiet : (x : Course) (sends : List Sent) → AllByRecursion IsSilent sends → Keeps x → Keeps (say sends x)
   quiet x sends k K = subst (λ (s : Seen). At me is_read strict s (epoch_of x.readings) x.state.phase x.state.leader.quorum x.state.peon.leader x.state.requester.provider) (sym (still me is_read x.out sends k seen)) K
 
-  -- what is learned leaves what is seen
+  -- a course with the same state, messages and epoch is seen alike
   pub kept : (x y : Course) → Kept x y → Keeps x → Keeps y
   kept x y k K =
       subst (λ (out : List Sent). At me is_read strict (after out) (epoch_of y.readings) y.state.phase y.state.leader.quorum y.state.peon.leader y.state.requester.provider) (sym k.out)
       (subst (λ (e : ℕ). At me is_read strict (after x.out) e y.state.phase y.state.leader.quorum y.state.peon.leader y.state.requester.provider) (sym k.epoch)
       (subst (λ (z : State). At me is_read strict (after x.out) (epoch_of x.readings) z.phase z.leader.quorum z.peon.leader z.requester.provider) (sym k.state) K))
 
-  -- a leader that collects is seen as one that has a value of before to finish
+  -- a leader that collects is seen as one that finishes an earlier value
   pub collecting : (x : Course) → Keeps x → x.state.phase ≡ phase.Collecting → At me is_read strict (after x.out) (epoch_of x.readings) phase.Previous x.state.leader.quorum x.state.peon.leader x.state.requester.provider
   collecting x k p = subst (λ (z : Phase). At me is_read strict (after x.out) (epoch_of x.readings) z x.state.leader.quorum x.state.peon.leader x.state.requester.provider) p k
 
@@ -115,7 +115,7 @@ module _ (me : Me) (now : ℕ) (is_read : Message → Bool) (R : ReadsShort is_r
 
   -- ---- leading
 
-  -- whose quorum is itself alone was seen to stand for election at most
+  -- if its quorum is itself alone, the monitor was seen to stand for election at most
   abbrev pub Company : List Sent → List Bool → Type 0
   Company out q = is_alone me q ≡ true → IsIdle strict (after out)
 
@@ -208,13 +208,13 @@ module _ (me : Me) (now : ℕ) (is_read : Message → Bool) (R : ReadsShort is_r
   elects x = and_then (λ (y : Course). Unit {0}) Keeps (in_odd_epoch x) _ (anyway (in_odd_epoch x))
       (λ y _. done (inr (told me is_read R (body.Propose (own_table me y)) (epoch_of y.readings) phase.Electing None (λ to. refl) refl refl y.out (others me) (has_others me several) seen)))
 
-  -- it was seen to stand for election at most
+  -- a monitor wins that was seen to stand for election at most
   pub wins : (q : List Bool) (x : Course) → IsIdle strict (after x.out) → Then Keeps (win me now q x)
   unfolding win
   wins q x i = and_then (λ (y : Course). y.out ≡ x.out) Keeps (in_next_epoch x) _ (where_fits (λ (y : Course). y.out ≡ x.out) which.Epoch (suc (epoch_of x.readings)) _ (λ _. done refl))
       (λ y same. reigns q y (λ _. subst (λ (out : List Sent). IsIdle strict (after out)) (sym same) i))
 
-  -- it defers to f in an election
+  -- a monitor that defers to f is seen in an election
   deferred : (f : ℕ) (x : Course) → Shown phase.Electing (epoch_of x.readings) None (after (x.out ++ message_to me (epoch_of x.readings) body.Ack f ∷ []))
   deferred f x = told me is_read R body.Ack (epoch_of x.readings) phase.Electing None (λ to. refl) refl refl x.out (f ∷ []) refl seen
 

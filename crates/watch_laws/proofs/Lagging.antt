@@ -114,7 +114,7 @@ module _ (own : ℕ) (is_read : Message → Bool) where
   all_alike (sent.Message to m ∷ xs) s t A = all_alike xs (after_message own is_read to m s) (after_message own is_read to m t) (still_alike_by (is_read m) (shown (kind_in m.body)) to m s t A)
   all_alike (sent.Reply session r ∷ xs) s t A = all_alike xs s t A
 
-  -- whatever was seen before, the same is seen after it
+  -- whatever was seen before messages of which one shows a phase and is read, the same is seen after them
   any_alike : (xs : List Sent) (s t : Seen) → list_any (is_seen is_read) xs ≡ true → Alike (all xs s) (all xs t)
   any_alike [] s t k = no k
   any_alike (sent.Message to m ∷ xs) s t k = elim (or_cases (is_read m && is_some (shown (kind_in m.body))) (list_any (is_seen is_read) xs) k) [
@@ -123,7 +123,7 @@ module _ (own : ℕ) (is_read : Message → Bool) where
   ]
   any_alike (sent.Reply session r ∷ xs) s t k = any_alike xs s t k
 
-  -- and a phase is seen
+  -- after a message that shows a phase and is read, a phase is seen
   real_by : (b : Bool) (o : Option Phase) (to : ℕ) (m : Message) (s : Seen) → (o ≡ Some phase.Booting → ⊥) → (b && is_some o) ≡ true → (cond b (after_phase own to (heading m) o s) s).phase ≡ phase.Booting → ⊥
   real_by true (Some p) to m s N k e = N (ap Some e)
   real_by true None to m s N k e = no k
@@ -147,7 +147,7 @@ module _ (own : ℕ) (is_read : Message → Bool) where
   ]
   any_real (sent.Reply session r ∷ xs) s k = any_real xs s k
 
--- what is shown by what is seen is shown by what is seen alike
+-- what is seen alike agrees with the monitor alike
 shown_alike : (own e : ℕ) (y z : Seen) (s : State) → Alike y z → IsShown own y e s → IsShown own z e s
 shown_alike own e y z s A h = record {
   shows = ap (λ (a : Phase). fits a s.phase) (sym A.shows) ∙ h.shows;
@@ -156,7 +156,7 @@ shown_alike own e y z s A h = record {
   source = λ t. sym (A.source (fits_sync y.phase (ap (fits y.phase) (sym (sync_is s.phase t)) ∙ h.shows))) ∙ h.source t;
 }
 
--- ---- it lags no more
+-- ---- the watch lags no more
 
 module _ (me : Me) (is_read : Message → Bool) (z : Seen) (e : ℕ) (s : State) (N : z.phase ≡ phase.Booting → ⊥) where
   abbrev In : Phase → Type 0
@@ -189,7 +189,7 @@ module _ (me : Me) (is_read : Message → Bool) (z : Seen) (e : ℕ) (s : State)
 -- ---- an event
 
 module _ (ms : Monitors) (several : ltb 1 ms.count ≡ true) (is_read : Message → Bool) (R : ReadsShort is_read) (w : World) (I : InvOf ms w) where
-  -- whatever was seen before a reaction, its monitor is shown after it
+  -- whatever was seen before a reaction that sends such a message, what is seen after it agrees with the monitor
   abbrev Ends : ℕ → Reaction → Type 0
   Ends i r = (z : Seen) → list_any (is_seen is_read) r.sends ≡ true → IsShown i (after_all i is_read r.sends z) (epoch_of (readings_of (map_after w i r))) r.state
 
@@ -210,7 +210,7 @@ module _ (ms : Monitors) (several : ltb 1 ms.count ≡ true) (is_read : Message 
         subst (λ (r : Readings). IsShown A.rank (after_all A.rank is_read y.out z) (epoch_of r) y.state) (sym (tells ms several is_read R w I asked J any_told A y is))
         (shown_alike A.rank (epoch_of y.readings) first (after_all A.rank is_read y.out z) y.state (any_alike A.rank is_read y.out nothing_seen z k) shows)
 
-  -- so it is of what an event meets
+  -- this holds of each reaction that an event meets
   abbrev Of : Meeting → Type 0
   Of met = (i : ℕ) (came : Input) (r : Reaction) → met ≡ Reacts i came (Ok r) → Ends i r
 

@@ -65,7 +65,7 @@ accepted_is phase.Collecting e = no e
 accepted_is phase.Active e = no e
 accepted_is phase.Peon e = no e
 
--- who votes, and is in no quorum, elects
+-- a monitor that votes and is in no quorum elects
 pub votes_electing : (p : Phase) → votes p ≡ true → (is_member p ≡ true → ⊥) → p ≡ phase.Electing
 votes_electing phase.Electing t out = refl
 votes_electing phase.Booting t out = no t

@@ -111,7 +111,7 @@ module _ (ms : Monitors) (several : ltb 1 ms.count ≡ true) (is_read : Message 
   GoodAt j w z = (s : State) → w.state j ≡ Some s → (lt : ltb j ms.count ≡ true) × At (member_of ms j lt) is_read false z (epoch_of (readings_of (w.store j))) s.phase s.leader.quorum s.peon.leader s.requester.provider
 
   module _ (w : World) (I : InvOf ms w) (j : ℕ) (z : Seen) (G : GoodAt j w z) where
-    -- it isn't moved
+    -- what is seen of monitor j is still true in the next world
     abbrev Stays : World → Type 0
     Stays next = GoodAt j next z
 
@@ -190,7 +190,7 @@ module _ (ms : Monitors) (several : ltb 1 ms.count ≡ true) (is_read : Message 
   -- ---- what an event makes of it
 
   module _ (i : ℕ) (w : World) (I : InvOf ms w) (z : Seen) (G : GoodAt i w z) where
-    -- what becomes of what it meets
+    -- what is seen of monitor i after the event is true in the next world
     abbrev Follows : Event → Meeting → Type 0
     Follows e met = IfOk (after_meeting w e met) (λ next. GoodAt i next (seen_at i is_read e met z))
 

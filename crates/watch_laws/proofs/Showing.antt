@@ -26,7 +26,7 @@ pub record Shown (p : Phase) (e : ℕ) (l : Option ℕ) (s : Seen) : Type 0 wher
   pub epoch : s.epoch ≡ e
   pub leader : s.leader ≡ l
 
--- nothing was seen yet; or an election, unless that counts for nothing
+-- nothing was seen yet, or, unless `strict`, an election
 abbrev pub IsIdle : (strict : Bool) → Seen → Type 0
 IsIdle strict s = (s.phase ≡ phase.Booting) ⊎ ((s.phase ≡ phase.Electing) × (strict ≡ false))
 
@@ -93,7 +93,7 @@ module _ (me : Me) (is_read : Message → Bool) where
   pub still : (xs ys : List Sent) → AllByRecursion IsSilent ys → (s : Seen) → all (xs ++ ys) s ≡ all xs s
   still xs ys k s = all_append xs ys s ∙ all_silent ys k (all xs s)
 
-  -- nobody is sent anything
+  -- messages to nobody change nothing
   pub nobody : (xs : List Sent) (f : ℕ → Sent) (ks : List ℕ) → is_empty ks ≡ true → (s : Seen) → all (xs ++ map f ks) s ≡ all xs s
   nobody xs f [] t s = all_append xs [] s
   nobody xs f (k ∷ ks) t s = absurd (false≢true t)
@@ -114,7 +114,7 @@ module _ (me : Me) (is_read : Message → Bool) where
   source_by m to true t None r s = absurd cc
   source_by m to false t o r s = absurd (false≢true t)
 
-  -- one that asks for a store
+  -- a message that asks for a store is read
   pub source_one : (m : Message) (to : ℕ) → is_read m ≡ true → shown (kind_in m.body) ≡ Some phase.Synchronizing → (s : Seen) → (after_message own is_read to m s).source ≡ Some to
   source_one m to t r s = source_by m to (is_read m) t (shown (kind_in m.body)) r s
 
@@ -124,7 +124,7 @@ module _ (me : Me) (is_read : Message → Bool) where
     shown_each (k ∷ []) t s = shown_one p e l (saying me e b) k (R _ short) r refl (leads k) s
     shown_each (k ∷ j ∷ ks) t s = shown_each (j ∷ ks) refl (after_message own is_read k (saying me e b) s)
 
-    -- one is sent to each of some
+    -- such a message is sent to each of at least one monitor
     pub told : (xs : List Sent) (ks : List ℕ) → is_empty ks ≡ false → (s : Seen) → Shown p e l (all (xs ++ map (message_to me e b) ks) s)
     told xs ks t s = subst (Shown p e l) (sym (all_append xs (map (message_to me e b) ks) s)) (shown_each ks t (all xs s))
 
@@ -142,7 +142,7 @@ module _ (me : Me) (is_read : Message → Bool) where
     At s e phase.Updating q l v = IsIdle strict s ⊎ (Shown phase.Active e (Some own) s × (is_alone me q ≡ false))
     At s e phase.Peon q l v = IsIdle strict s ⊎ Shown phase.Peon e (Some l) s
 
-    -- of a course, if this was seen before it
+    -- what is seen of the monitor after a course, if `s` was seen before it
     abbrev pub Is : Seen → Course → Type 0
     Is s x = At (all x.out s) (epoch_of x.readings) x.state.phase x.state.leader.quorum x.state.peon.leader x.state.requester.provider
 
