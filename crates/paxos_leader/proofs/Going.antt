@@ -22,7 +22,7 @@ use Rattle.mon_plan.proofs.Planning.{played-append, changed-is, sending-is, spel
 use Rattle.paxos_leader.specs.Drafts.{under_way, GoesOn}
 use Rattle.paxos_leader.specs.declared.draft.Draft.{Draft}
 
--- what a plan of a leader does that names no act
+-- the effect of a leader's plan that names no act
 abbrev pub finish : List Change → List Sent → List Arming → Leader → Course → Course
 finish cs ms armings l y = record y {
   readings = played cs y.readings;

@@ -1,4 +1,4 @@
--- What a leader answers.
+-- The inputs of a leader, and the phases in which it hears them.
 use Rattle.std.specs.Prelude.{Bool, true, false, ◌&&◌, List, Option, Some, None, [], ◌∷◌}
 use Rattle.mon_msg.specs.Protocol.Records.{may_begin}
 use Rattle.mon_msg.specs.declared.input.Input.TheVariants as input

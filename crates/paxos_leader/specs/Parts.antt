@@ -34,7 +34,7 @@ commits me epoch w l = flat_map (commits_to me (at_epoch epoch w) l.lasts) (memb
 abbrev pub without_found : Leader → Leader
 without_found l = record l { found = None }
 
--- a member answered with all that it has, gave its last version, and this is found then
+-- the leader's state with a member's complete answer: its last version, and the value that is found by then
 abbrev pub with_answer : (f last : ℕ) → Option Found → Leader → Leader
 with_answer f last found l =
     record l { answered = with_rank l.answered f; lasts = slice_set l.lasts f last; found = found }
@@ -44,7 +44,7 @@ with_answer f last found l =
 abbrev pub without_value : Leader → Leader
 without_value l = record l { value = None; origin = None }
 
--- the members hear of the values from a version on and get a lease, and whoever waits for that version is answered
+-- the members get the values from a version on and a lease, and the origin of that version is answered
 abbrev pub announced : Me → (now v : ℕ) → List (List Op) → Course → Result Course Which
 announced me now v values x =
     let l = x.state.leader in

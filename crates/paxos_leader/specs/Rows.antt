@@ -47,7 +47,7 @@ NotesFound found last told (Ok new) =
 NotesFound found last told (Err stop.OutOfMemory) = Unit {0}
 NotesFound found last told (Err (stop.Spent which)) = (f : ℕ) (x : Course) → note f last told x ≡ Err which
 
--- what a leader remembers once a member answered with all that it has, or which number runs out
+-- the leader's state with a member's complete answer, or the number that runs out
 abbrev pub Notes : Leader → (f last : ℕ) → Option Told → Result Leader RoleStop → Type 0
 Notes l f last told (Ok new) = (x : Course) → x.state.leader ≡ l → note f last told x ≡ Ok (leader_is new x)
 Notes l f last told (Err stop.OutOfMemory) = Unit {0}

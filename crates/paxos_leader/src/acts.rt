@@ -25,7 +25,7 @@ use mon_tx::Transaction;
 use mon_types::{Moment, RankSet, Version, Which};
 use std::alloc::Global;
 
-/// What an active leader remembers that gives a lease now.
+/// The state of an active leader that gives a lease at `now`. Only its own acknowledgement is counted.
 fn leasing(me: &Me, mut state: Leader, now: Moment) -> Leader
     ensures { result ≡ record state { stage = stage.Active; lease = extended now; acks = only_one me.now.member.rank } }
 {
@@ -37,7 +37,7 @@ fn leasing(me: &Me, mut state: Leader, now: Moment) -> Leader
     state
 }
 
-/// Besides what was sent so far, the lease goes to all members.
+/// Appends a LEASE for each other member of the quorum to what was sent so far.
 fn tell_lease(
     act: &Act<'_>,
     out: Items<Sent>,
@@ -51,7 +51,7 @@ fn tell_lease(
     tell(act, out, quorum, lease)
 }
 
-/// The leader is active, and gives a lease to all members.
+/// The leader becomes active, and gives a lease to all other members of its quorum.
 pub(crate) fn be_active(
     act: &Act<'_>,
     last: Version,
@@ -74,7 +74,7 @@ pub(crate) fn be_active(
     })
 }
 
-/// What a leader remembers whose value waits for its members.
+/// The leader's state while its value awaits acceptances. The leader has accepted the value itself.
 fn valued(
     me: &Me,
     mut state: Leader,
@@ -96,7 +96,7 @@ fn valued(
     state
 }
 
-/// The other members are asked to accept a value.
+/// Appends a BEGIN with the value for each other member of the quorum to what was sent so far.
 fn ask(
     act: &Act<'_>,
     out: Items<Sent>,
@@ -116,7 +116,7 @@ fn ask(
     tell(act, out, state.quorum, begin)
 }
 
-/// The leader accepts a value itself, and asks its members to. What it remembers stays the same.
+/// The leader votes for a value itself, and sends a BEGIN to each other member. Its state stays the same.
 fn put_to_vote(
     act: &Act<'_>,
     draft: Draft,
@@ -138,7 +138,7 @@ fn put_to_vote(
     Ok(Draft { tx, out, state })
 }
 
-/// A value is put to the vote, and the leader waits for its members.
+/// Puts a value to the vote. The leader then awaits the acceptances of the other members.
 pub(crate) fn begin_with(
     act: &Act<'_>,
     draft: Draft,
@@ -164,7 +164,7 @@ pub(crate) fn begin_with(
     })
 }
 
-/// What a leader remembers that is active.
+/// The leader's state with the stage `Active`. Nothing else in it changes.
 pub(crate) fn at_rest(mut state: Leader) -> Leader
     ensures { result ≡ record state { stage = stage.Active } }
 {
@@ -172,7 +172,7 @@ pub(crate) fn at_rest(mut state: Leader) -> Leader
     state
 }
 
-/// A quorum of the leader alone commits a value at once. Nobody is answered.
+/// A leader that is alone in its quorum commits a value at once. No client is answered.
 pub(crate) fn begin_alone(
     alloc: Global,
     draft: Draft,
@@ -202,7 +202,7 @@ pub(crate) fn begin_alone(
     })
 }
 
-/// A value is begun for which nobody waits.
+/// Begins a value that no client waits for. `Spent` names the version after `last` if it would pass 2^62.
 pub(crate) fn begin_value(
     act: &Act<'_>,
     last: Version,

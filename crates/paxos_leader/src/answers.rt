@@ -45,7 +45,7 @@ pub(crate) struct Answer<'a> {
     pub(crate) pending: &'a Option<Told>,
 }
 
-/// Whether a version and a number are greater than those of what was found.
+/// Whether a pending value ranks above the one that was found: by version, and then by proposal number.
 fn is_after(version: Version, pn: Pn, found: &Found) -> bool
     ensures { result ≡ newer version pn (Some found.now) }
 {
@@ -53,7 +53,7 @@ fn is_after(version: Version, pn: Pn, found: &Found) -> bool
         || (version.get() == found.version.get() && found.pn.get() < pn.get())
 }
 
-/// Whether a version and a number are greater than those of what was found, if anything was.
+/// Whether a pending value ranks above the one that was found so far. Any value does if none was found.
 fn is_newer(version: Version, pn: Pn, found: &Option<Found>) -> bool
     ensures { result ≡ newer version pn found.now }
 {
@@ -63,8 +63,8 @@ fn is_newer(version: Version, pn: Pn, found: &Option<Found>) -> bool
     }
 }
 
-/// What is found after a member reported this pending value, which is for the version after its last one. A value
-/// that is too long to be proposed counts as none.
+/// The value that is found once a member reported `last` as its last version, and this pending value for the version
+/// after it. A value that is too long to be proposed counts as none.
 fn found_with(found: Option<Found>, last: Version, told: &Told) -> Result<Option<Found>, RoleStop>
     requires found { may_begin_found found ≡ true }
     requires told { may_begin told.now.value ≡ true }
@@ -90,7 +90,7 @@ fn found_with(found: Option<Found>, last: Version, told: &Told) -> Result<Option
     }))
 }
 
-/// What is found once a member answered, whether or not it reported a pending value.
+/// The value that is found once a member reported `last` as its last version, and perhaps a pending value.
 fn found_with_any(
     found: Option<Found>,
     last: Version,
@@ -107,7 +107,7 @@ fn found_with_any(
     }
 }
 
-/// What a leader remembers once a member answered with all that it has, and reported its last version.
+/// The leader's state with a member's complete answer: its rank, its last version, and the value that is found by then.
 fn answered(mut state: Leader, from: Rank, last: Version, found: Option<Found>) -> Leader
     ensures { result ≡ with_answer from last found state }
 {
@@ -117,7 +117,7 @@ fn answered(mut state: Leader, from: Rank, last: Version, found: Option<Found>) 
     state
 }
 
-/// What a leader remembers once a member answered with all that it has, by what the member reported.
+/// The leader's state with a member's complete answer, by what the member reported.
 fn note(state: Leader, answer: &Answer<'_>) -> Result<Leader, RoleStop>
     requires found { may_begin_found state.found ≡ true }
     requires told { may_begin_told answer.now.pending.now ≡ true }
@@ -135,7 +135,7 @@ fn note(state: Leader, answer: &Answer<'_>) -> Result<Leader, RoleStop>
     }
 }
 
-/// A member answered with all that it has.
+/// Notes a member's complete answer. The leader settles if all of the quorum answered.
 fn hear_whole(
     act: &Act<'_>,
     stored: &Stored<'_>,
@@ -157,7 +157,7 @@ fn hear_whole(
     settle(act, stored, draft)
 }
 
-/// The values of an answer are learned: what follows.
+/// Goes on after the values of an answer are learned: notes a complete answer, or collects again for the rest.
 fn go_on(
     act: &Act<'_>,
     stored: &Stored<'_>,
@@ -180,7 +180,7 @@ fn go_on(
     ask_again(act, stored, quorum, above)
 }
 
-/// What follows, by the store after these changes.
+/// The same as `go_on`, with the store as it is after these changes.
 fn go_on_after(
     here: &Here<'_>,
     tx: &Transaction,
@@ -201,7 +201,7 @@ fn go_on_after(
     go_on(&act, &stored, state, answer)
 }
 
-/// A plan after changes that came before it.
+/// The plan with these changes before its own.
 fn behind(mut tx: Transaction, mut plan: Plan<Leader>) -> Result<Plan<Leader>, OutOfMemory>
     ensures { IfOk result (λ p. p ≡ record plan { tx = tx ++ plan.tx }) }
 {
@@ -210,7 +210,7 @@ fn behind(mut tx: Transaction, mut plan: Plan<Leader>) -> Result<Plan<Leader>, O
     Ok(plan)
 }
 
-/// The values of an answer above the last version are learned.
+/// Learns the values of an answer above the last version.
 fn learn_news(tx: &mut Transaction, own: Version, answer: &Answer<'_>) -> Result<(), RoleStop>
     requires short { AllByRecursion (λ ops. length (text ops) ≤ most) answer.now.values.now }
     requires few { length answer.now.values.now ≤ MOST_ITEMS }
@@ -258,7 +258,8 @@ fn hear_answer(
     }
 }
 
-/// Whether a member lacks so much, or has so much more, that only a synchronization helps the leader.
+/// Whether a member no longer keeps the version after the leader's last one. Only a synchronization then helps the
+/// leader.
 fn is_behind(own: Version, answer: &Answer<'_>) -> bool
     ensures { result ≡ (nat_lt (suc own) answer.now.first && nat_lt own answer.now.last) }
 {

@@ -1,4 +1,4 @@
-//! Members that lack versions.
+//! What is sent to members that lack versions.
 
 ghost use Rattle.std.specs.Prelude.{◌≡◌, ◌++◌, flat_map, IfOk, OnOk};
 ghost use Rattle.mon_msg.specs.Protocol.Collecting.{commits_to};
@@ -16,7 +16,8 @@ use mon_types::{Rank, Version};
 /// How many bytes a COMMIT takes besides its values.
 const BESIDES: usize = 22;
 
-/// What follows the version that a member reported, as much as one message takes, if there is anything.
+/// Appends a COMMIT with the versions after the one that a member reported, as many as one message takes. Nothing is
+/// appended if there are none.
 fn commit_to(
     act: &Act<'_>,
     stored: &Stored<'_>,
@@ -58,7 +59,7 @@ fn catch_up(
     Ok(())
 }
 
-/// Besides what was sent so far, each other member of the quorum is sent what follows the version that it reported.
+/// Appends a COMMIT for each other member of the quorum that lacks versions, by the last version that it reported.
 pub(crate) fn send_missed(
     act: &Act<'_>,
     stored: &Stored<'_>,

@@ -25,7 +25,7 @@ use mon_tx::Transaction;
 use mon_types::{Moment, Pn, RankSet, Version, Which, next_pn};
 use std::alloc::Global;
 
-/// A value was found: it is begun if it is for the next version.
+/// Begins a value that was found, if it is for the next version. Otherwise the leader becomes active.
 fn begin_if_next(
     act: &Act<'_>,
     last: Version,
@@ -45,7 +45,7 @@ fn begin_if_next(
     begin_value(act, last, draft, stage, value)
 }
 
-/// A value that was found for the next version is begun. If there is none, the leader is active.
+/// Begins the value that was found for the next version. If there is none, the leader becomes active.
 fn begin_found(
     act: &Act<'_>,
     last: Version,
@@ -62,7 +62,7 @@ fn begin_found(
     }
 }
 
-/// What was found is taken out of what the leader remembers.
+/// Takes the value that was found out of the leader's state.
 pub(crate) fn take_found(mut state: Leader) -> (Leader, Option<Found>)
     ensures { result ≡ (without_found state, state.found) }
 {
@@ -70,8 +70,8 @@ pub(crate) fn take_found(mut state: Leader) -> (Leader, Option<Found>)
     (state, found)
 }
 
-/// All of the quorum answered: members that lack versions get them, and a value that was found for the next version
-/// comes first.
+/// All of the quorum answered. Members that lack versions get them. A value that was found for the next version is
+/// begun before any command; otherwise the leader becomes active.
 pub(crate) fn settle(
     act: &Act<'_>,
     stored: &Stored<'_>,
@@ -88,7 +88,7 @@ pub(crate) fn settle(
     begin_found(act, stored.last(), draft, found)
 }
 
-/// A leader that asks its quorum under a number, and has its own answer.
+/// The state of a leader that collects under a number. Only its own answer is counted.
 fn collector(me: &Me, quorum: RankSet, pn: Pn, found: Option<Found>) -> Leader
     ensures { result ≡ record start_leader {
       quorum = quorum;
@@ -119,7 +119,7 @@ fn or_zero(pn: Option<Pn>) -> Pn
     pn.unwrap_or(Pn::known(0))
 }
 
-/// A number above all that are known, or `None` if and only if that is above 2^62.
+/// A new proposal number above all known ones, or `None` if and only if it would pass 2^62.
 fn made(stored: &Stored<'_>, me: &Me, above: Pn) -> Option<Pn>
     ensures fits { IsSome result ↔ (made me.now above (readings_of stored.now) ≤ 2 ^ 62) }
     ensures value { IfSome result (λ pn. pn ≡ made me.now above (readings_of stored.now)) }
@@ -128,7 +128,7 @@ fn made(stored: &Stored<'_>, me: &Me, above: Pn) -> Option<Pn>
     next_pn(or_zero(stored.last_pn()), known, me.member.rank)
 }
 
-/// Besides what was sent so far, the question to the quorum what was accepted.
+/// Appends a COLLECT for each other member of the quorum to what was sent so far.
 fn tell_question(
     act: &Act<'_>,
     stored: &Stored<'_>,
@@ -147,7 +147,7 @@ fn tell_question(
     tell(act, out, quorum, question)
 }
 
-/// The transaction that makes a number.
+/// The transaction that notes a proposal number as the last one made and as promised.
 fn to_number(alloc: Global, pn: Pn) -> Result<Transaction, OutOfMemory>
     ensures { IfOk result (λ tx. tx ≡ spelled (Numbers pn ∷ [])) }
 {
@@ -156,7 +156,7 @@ fn to_number(alloc: Global, pn: Pn) -> Result<Transaction, OutOfMemory>
     Ok(tx)
 }
 
-/// A leader makes a number and asks its quorum under it, besides what was sent so far.
+/// Notes a new proposal number and asks the quorum under it, besides what was sent so far.
 fn ask(
     act: &Act<'_>,
     stored: &Stored<'_>,
@@ -178,7 +178,7 @@ fn ask(
     Ok(Draft { tx, out, state })
 }
 
-/// A leader waits for its quorum's answers.
+/// The plan of a draft whose leader awaits its quorum's answers, until `Collect` fires.
 fn await_answers(alloc: Global, draft: Draft, now: Moment) -> Result<Plan<Leader>, OutOfMemory>
     ensures { IfOk result (λ p. p ≡ record {
       tx = draft.tx;
@@ -199,8 +199,8 @@ fn await_answers(alloc: Global, draft: Draft, now: Moment) -> Result<Plan<Leader
     })
 }
 
-/// A leader asks its quorum what was accepted, under a number above all that are known. `stored` is read, and the
-/// epoch of the act is the one that holds.
+/// Asks the quorum what was accepted, under a number above all known ones. Everything but the epoch is read from
+/// `stored`; the epoch is that of `act`. `Spent` names the number, or a found value's version, that would pass 2^62.
 pub(crate) fn collect(
     act: &Act<'_>,
     stored: &Stored<'_>,
@@ -222,8 +222,7 @@ pub(crate) fn collect(
     Ok(await_answers(act.alloc, draft, act.time)?)
 }
 
-/// A leader whose event has written and sent nothing so far asks its quorum, under a number that is also above this
-/// one.
+/// The same as `collect`, in an event that has written and sent nothing so far.
 pub(crate) fn ask_again(
     act: &Act<'_>,
     stored: &Stored<'_>,

@@ -21,7 +21,7 @@ pub struct Draft {
 }
 
 impl Draft {
-    /// Nothing is written or sent. It takes no memory.
+    /// A draft that has written and sent nothing. It takes no memory.
     pub fn new(alloc: Global, state: Leader) -> Draft
         ensures { result ≡ record { tx = []; out = []; state = state } }
     {
@@ -33,8 +33,8 @@ impl Draft {
     }
 }
 
-/// Besides what was sent so far, a copy of this goes to each of the other members of a quorum but the last, which is
-/// returned, if there is one.
+/// Appends a copy of a message for each other member of a quorum except the last one. Returns that last member too, if
+/// there is one.
 fn tell_all_but_last(
     act: &Act<'_>,
     mut out: Items<Sent>,
@@ -58,8 +58,8 @@ fn tell_all_but_last(
     Ok((out, last))
 }
 
-/// Besides what was sent so far, the same message goes to the other members of a quorum. The last of them takes it
-/// without a copy.
+/// Appends a message for each other member of a quorum to what was sent so far. The body is copied for all of them but
+/// the last.
 pub(crate) fn tell(
     act: &Act<'_>,
     out: Items<Sent>,

@@ -41,14 +41,14 @@ use mon_tx::Transaction;
 use mon_types::{Epoch, Moment, Pn, RankSet, Version, Which};
 use std::alloc::Global;
 
-/// Whether a leader in this phase gathers what its quorum accepted.
+/// Whether a leader in this phase collects what its quorum accepted.
 fn collects(phase: Phase) -> bool
     ensures { result ≡ is_one_of (phases.Collecting ∷ []) phase }
 {
     matches!(phase, Phase::Collecting)
 }
 
-/// Whether the value of a leader in this phase waits for its quorum.
+/// Whether a leader in this phase has a value that awaits acceptances.
 fn has_begun(phase: Phase) -> bool
     ensures { result ≡ is_one_of (phases.Previous ∷ phases.Updating ∷ []) phase }
 {
@@ -62,7 +62,7 @@ fn is_active(phase: Phase) -> bool
     matches!(phase, Phase::Active)
 }
 
-/// Whether a message is heard in a phase.
+/// Whether a leader in this phase hears a LAST, ACCEPT or LEASE_ACK.
 fn is_for(phase: Phase, body: &Body) -> bool
     requires { is_told body.now ≡ true }
     ensures { result ≡ is_one_of (phases_for body.now) phase }
@@ -86,7 +86,8 @@ fn is_ours(epoch: Epoch, view: &View, state: &Leader, message: &Message) -> bool
         && state.quorum.has(message.from)
 }
 
-/// A message, which is dropped if it isn't of a member in this epoch, or the leader isn't in a phase for it.
+/// Hears a LAST, ACCEPT or LEASE_ACK. It is dropped if it isn't of this epoch, isn't from a member of the leader's
+/// quorum, or isn't for the leader's phase.
 fn hear(
     here: &Here<'_>,
     view: &View,
@@ -133,7 +134,7 @@ fn hear(
     }
 }
 
-/// It is time to give leases again.
+/// The timer `Renew` fires. An active leader gives leases again; any other does nothing.
 fn renew(here: &Here<'_>, view: &View, state: Leader) -> Result<Plan<Leader>, RoleStop>
     ensures plans { ByRow here.now (Meets here.now view.now state) renew_row result }
     ensures stays { IfOk result (λ p. p.next ≡ Next.Stay) }
@@ -148,7 +149,7 @@ fn renew(here: &Here<'_>, view: &View, state: Leader) -> Result<Plan<Leader>, Ro
     Ok(be_active(&act, last, draft)?)
 }
 
-/// A timer of its own comes. But for the one that renews leases it means that its quorum is lost.
+/// A timer of the leader fires. Each of them but `Renew` means that the quorum is lost, so the monitor bootstraps.
 fn ring(here: &Here<'_>, view: &View, state: Leader, kind: Timer) -> Result<Plan<Leader>, RoleStop>
     requires { is_own kind ≡ true }
     ensures plans { ByRow here.now (Meets here.now view.now state) (λ me now. timer_comes me now kind) result }
@@ -160,10 +161,10 @@ fn ring(here: &Here<'_>, view: &View, state: Leader, kind: Timer) -> Result<Plan
     }
 }
 
-/// What a leader does at a LAST, ACCEPT or LEASE_ACK that is heard, and when a timer of its own, which was armed, comes
-/// and is disarmed: its row of the protocol's table. A message that isn't of a member of its quorum in its epoch is
-/// dropped, and so is one that comes in a phase that isn't for it. `Spent` names the proposal number or the version
-/// that would pass 2^62.
+/// What a leader does at a LAST, ACCEPT or LEASE_ACK that is heard, and when one of its timers fires: its row of the
+/// protocol's table. The timer was armed, and is disarmed already. A message is dropped if it isn't of this epoch,
+/// isn't from a member of the leader's quorum, or isn't for the leader's phase. `Spent` names the proposal number or
+/// the version that would pass 2^62.
 pub fn step(
     alloc: Global,
     kv: &Kv,
@@ -190,7 +191,7 @@ pub fn step(
     step_owned(&here, view, state.copy()?, input)
 }
 
-/// The same as `step`, by value: what is remembered moves into the plan, and the value under way isn't copied.
+/// The same as `step`, by value: the leader's state moves into the plan, and the value under way isn't copied.
 pub fn step_owned(
     here: &Here<'_>,
     view: &View,
@@ -211,7 +212,7 @@ pub fn step_owned(
     }
 }
 
-/// The message to the quorum that this monitor has won.
+/// A VICTORY for each other member of the quorum.
 fn tell_victory(act: &Act<'_>, quorum: RankSet) -> Result<Items<Sent>, OutOfMemory>
     ensures { IfOk result (λ sent. sent ≡ map (message_to act.now.me.now act.now.epoch (Body.Victory quorum))
         (members_of act.now.me.now quorum)) }
@@ -220,8 +221,9 @@ fn tell_victory(act: &Act<'_>, quorum: RankSet) -> Result<Items<Sent>, OutOfMemo
     tell(act, Items::new(act.alloc), quorum, victory)
 }
 
-/// It has won, and begins to lead this quorum: it asks that quorum, under a new number, what was accepted. `epoch` is
-/// the epoch that it has now. `Spent` names that number if it would pass 2^62, or the version after the last one.
+/// The monitor has won, and begins to lead this quorum. It announces its victory, and asks the quorum under a new
+/// proposal number what was accepted. `epoch` is its epoch now. `Spent` names that number if it would pass 2^62, or the
+/// version after the last one.
 pub fn enter(
     alloc: Global,
     kv: &Kv,
@@ -245,7 +247,7 @@ pub fn enter(
     collect(&act, &stored, out, quorum, above)
 }
 
-/// The answer to whoever waits for a version that these changes commit.
+/// The answer `Done` to the origin of a version that these changes commit, under the epoch after them.
 fn answers(
     here: &Here<'_>,
     tx: &Transaction,
@@ -262,7 +264,7 @@ fn answers(
     Ok(out)
 }
 
-/// A leader alone commits a value at once, and answers whoever waits for it.
+/// A leader that is alone in its quorum commits a value at once, and answers its origin.
 fn begin_answered(
     here: &Here<'_>,
     state: Leader,
@@ -295,7 +297,7 @@ fn begin_answered(
     })
 }
 
-/// The value of a command is begun for the version after the last one. A quorum of the leader alone commits it at
+/// Begins the value of a command for the version after the last one. A leader that is alone in its quorum commits it at
 /// once. `Spent` names the version if it would pass 2^62.
 pub fn begin(
     alloc: Global,
@@ -321,7 +323,7 @@ pub fn begin(
     begin_owned(&here, state.copy()?, value, *origin)
 }
 
-/// The same as `begin`, by value: what is remembered and the value move into the plan.
+/// The same as `begin`, by value: the leader's state and the value move into the plan.
 pub fn begin_owned(
     here: &Here<'_>,
     state: Leader,

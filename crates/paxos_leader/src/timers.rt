@@ -9,7 +9,7 @@ use mon_plan::{armed, disarmed};
 use mon_types::Moment;
 use std::alloc::Global;
 
-/// One timer.
+/// The list that arms or disarms one timer.
 pub(crate) fn one_timer(alloc: Global, timer: Arming) -> Result<Items<Arming>, OutOfMemory>
     ensures { IfOk result (λ timers. timers ≡ timer ∷ []) }
 {
@@ -18,8 +18,8 @@ pub(crate) fn one_timer(alloc: Global, timer: Arming) -> Result<Items<Arming>, O
     Ok(timers)
 }
 
-/// Those of a leader that has given a lease: to members, or to itself alone. It proposes only if a command waits, and
-/// `LeaseAck` keeps the end that it has.
+/// The timers of a leader that has given a lease. If it is alone in its quorum, it awaits no acknowledgements. When the
+/// plan is carried out, `Propose` is armed only if a command waits, and a `LeaseAck` that is armed keeps its end.
 pub(crate) fn lease_timers(
     alloc: Global,
     alone: bool,
@@ -36,7 +36,7 @@ pub(crate) fn lease_timers(
     Ok(Items::from_vec(vec![in alloc; renew, acks, propose]?))
 }
 
-/// Those of a leader whose value waits for its members.
+/// The timers of a leader whose value awaits acceptances.
 pub(crate) fn value_timers(alloc: Global, now: Moment) -> Result<Items<Arming>, OutOfMemory>
     ensures { IfOk result (λ timers. timers ≡ timers_of_values now) }
 {

@@ -30,7 +30,7 @@ use mon_tx::Transaction;
 use mon_types::{Epoch, Pn, Rank, RankSet, Version, Which};
 use std::alloc::Global;
 
-/// Whoever waits for a version hears that it is committed.
+/// Appends the answer `Done` for a version to what a plan sends, if it has an origin.
 fn answered(
     act: &Act<'_>,
     origin: Option<Origin>,
@@ -51,7 +51,7 @@ fn answered(
     }
 }
 
-/// What a leader remembers that has no value any more.
+/// The leader's state without its value and the value's origin.
 fn without_value(mut state: Leader) -> Leader
     ensures { result ≡ without_value state }
 {
@@ -60,7 +60,7 @@ fn without_value(mut state: Leader) -> Leader
     state
 }
 
-/// The message to the members that these values are committed.
+/// A COMMIT with these values for each other member of the quorum.
 fn tell_commit(
     act: &Act<'_>,
     quorum: RankSet,
@@ -74,7 +74,7 @@ fn tell_commit(
     tell(act, Items::new(act.alloc), quorum, commit)
 }
 
-/// The members hear of values that are committed, and whoever waits for the first of them is answered.
+/// Sends committed values to the other members, gives them a lease, and answers the origin of the first value.
 fn announce(
     act: &Act<'_>,
     last: Version,
@@ -96,7 +96,7 @@ fn announce(
     Ok(answered(act, origin, version, plan)?)
 }
 
-/// The members get committed values, as the store has them after the changes so far.
+/// The same as `announce`, with the epoch and the last version that the store has after the changes so far.
 fn announce_after(
     here: &Here<'_>,
     tx: Transaction,
@@ -136,8 +136,8 @@ fn one_value(alloc: Global, value: Transaction) -> Result<Items<Transaction>, Ou
     Ok(values)
 }
 
-/// All of the quorum accepted the value, which is committed. The leader then has no value; who accepted it stays
-/// noted until the next one.
+/// Commits a value that all of the quorum accepted. The leader then has no value. `accepted` stays as it is until the
+/// next value is begun.
 fn commit(here: &Here<'_>, state: Leader, value: Transaction) -> Result<Plan<Leader>, RoleStop>
     requires { length (text value) ≤ most }
     ensures goes { GoesOn here.now.me.now here.now.time (IsVoted (readings_of here.now.kv.now))
@@ -164,7 +164,7 @@ fn commit(here: &Here<'_>, state: Leader, value: Transaction) -> Result<Plan<Lea
     Ok(announce_after(here, tx, state, version, values)?)
 }
 
-/// The value is taken out of what a leader remembers.
+/// Takes the value out of the leader's state.
 fn take_value(mut state: Leader) -> (Leader, Option<Transaction>)
     ensures { result ≡ (record state { value = None }, state.value) }
 {
@@ -172,7 +172,7 @@ fn take_value(mut state: Leader) -> (Leader, Option<Transaction>)
     (state, value)
 }
 
-/// All of the quorum accepted the leader's value, which is committed.
+/// Commits the leader's value, which all of the quorum accepted. A leader without a value does nothing.
 fn commit_any(here: &Here<'_>, state: Leader) -> Result<Plan<Leader>, RoleStop>
     requires { may_begin_any state.value ≡ true }
     ensures goes { GoesOn here.now.me.now here.now.time (IsVoted (readings_of here.now.kv.now))
@@ -187,7 +187,7 @@ fn commit_any(here: &Here<'_>, state: Leader) -> Result<Plan<Leader>, RoleStop>
     }
 }
 
-/// What a leader remembers once a member accepted its value.
+/// The leader's state with one more member that accepted its value.
 fn with_vote(mut state: Leader, from: Rank) -> Leader
     ensures { result ≡ record state { accepted = with_rank state.accepted from } }
 {
@@ -202,14 +202,15 @@ fn all_accepted(me: &Me, state: &Leader) -> bool
     are_within(me, state.quorum, state.accepted)
 }
 
-/// Whether a member accepted what it is asked to: under the leader's number, for the version after the last one.
+/// Whether an ACCEPT is for the value under way: under the leader's number, for the version after the last one.
 fn is_asked(here: &Here<'_>, state: &Leader, pn: Pn, version: Version) -> bool
     ensures { result ≡ (pn == state.now.pn && version == suc (readings_of here.now.kv.now).last) }
 {
     pn.get() == state.pn.get() && version.get() == here.own_last().get() + 1
 }
 
-/// A member accepted a value.
+/// Notes a member's ACCEPT, if it is for the value under way. The value is committed once all of the quorum accepted
+/// it.
 pub(crate) fn hear_accept(
     here: &Here<'_>,
     state: Leader,
@@ -233,7 +234,7 @@ pub(crate) fn hear_accept(
     commit_any(here, state)
 }
 
-/// What a leader remembers once a member took its lease.
+/// The leader's state with one more member that took its lease.
 fn with_ack(mut state: Leader, from: Rank) -> Leader
     ensures { result ≡ record state { acks = with_rank state.acks from } }
 {
@@ -241,7 +242,7 @@ fn with_ack(mut state: Leader, from: Rank) -> Leader
     state
 }
 
-/// All of the quorum took the lease: nobody is waited for.
+/// The plan once all of the quorum took the lease: it disarms `LeaseAck`, and does nothing else.
 fn all_acked(alloc: Global, state: Leader) -> Result<Plan<Leader>, OutOfMemory>
     ensures { IfOk result (λ p. p ≡ record {
       tx = [];
@@ -261,7 +262,7 @@ fn all_acked(alloc: Global, state: Leader) -> Result<Plan<Leader>, OutOfMemory>
     })
 }
 
-/// A member took the lease.
+/// Notes the LEASE_ACK of a member, if it is for the last version.
 pub(crate) fn hear_lease_ack(
     here: &Here<'_>,
     state: Leader,

@@ -29,7 +29,7 @@ abbrev pub is_rung : Timer → Bool
 is_rung timer.Lease = true
 is_rung t = false
 
--- what a peon answers
+-- the inputs of a peon
 abbrev pub is_input : Input → Bool
 is_input input.Start = false
 is_input (input.Deliver m) = is_told m.body

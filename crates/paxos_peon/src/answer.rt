@@ -20,7 +20,8 @@ use std::alloc::Global;
 /// How many bytes an answer takes besides its values and the pending value.
 const BESIDES: usize = 47;
 
-/// How much room it takes without a pending value, which is a byte.
+/// How many bytes an answer without a pending value takes besides its values. The byte after `BESIDES` says that there
+/// is none.
 const WITHOUT_PENDING: usize = 48;
 
 /// Whether no values are sent from a version on: the leader has them all, or they aren't kept any more.
@@ -30,7 +31,7 @@ fn tells_none(stored: &Stored<'_>, from: Version) -> bool
     from.get() > stored.last().get() || stored.first().get() > from.get()
 }
 
-/// As many of the committed values from a version on as the answer takes.
+/// The committed values from a version on, as many as one answer takes.
 fn told_values(alloc: Global, stored: &Stored<'_>, from: Version) -> Result<Run, OutOfMemory>
     ensures values { (n promise : ℕ) → let w = readings_of stored.now in
         IfOk result (λ run. run.values ≡ told_values n promise w.first w.last w.record_of from) }
@@ -80,7 +81,7 @@ fn has_room(bytes: usize, told: &Option<Told>) -> bool
     told_len(told).saturating_add(bytes).saturating_add(BESIDES) <= MOST_MESSAGE
 }
 
-/// The answer that has these values, and perhaps not all that the leader lacks.
+/// The incomplete answer with these values. The leader collects again after it.
 fn answer_in_part(
     stored: &Stored<'_>,
     promise: Pn,
@@ -100,7 +101,8 @@ fn answer_in_part(
     }
 }
 
-/// The answer to a leader that has the versions before `from`, if this number is promised.
+/// The answer to a leader that has the versions before `from`. `promise` is the number that the peon has promised. The
+/// answer is incomplete if it lacks a version up to the last one, or has no room for the pending value.
 pub(crate) fn answer(
     alloc: Global,
     stored: &Stored<'_>,

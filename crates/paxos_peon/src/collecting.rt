@@ -18,7 +18,7 @@ use mon_plan::{message, planned, put_promise};
 use mon_tx::Transaction;
 use mon_types::{Pn, Version, Which};
 
-/// What a peon remembers, without a lease.
+/// The peon's state without a lease.
 pub(crate) fn without_lease(state: &Peon) -> Peon
     ensures { result ≡ record state.now { lease = None } }
 {
@@ -28,7 +28,7 @@ pub(crate) fn without_lease(state: &Peon) -> Peon
     }
 }
 
-/// A number above the own one is promised. It answers the promise from then on.
+/// Promises a number that is above the own one. Returns the number that is promised then.
 fn promised(tx: &mut Transaction, old: Pn, pn: Pn) -> Result<Pn, OutOfMemory>
     ensures number { IfOk result (λ n. n ≡ if nat_lt old pn then pn else old) }
     ensures changes { OnOk result (tx.new ≡ tx.old ++ spelled (promised old pn)) }
@@ -41,7 +41,8 @@ fn promised(tx: &mut Transaction, old: Pn, pn: Pn) -> Result<Pn, OutOfMemory>
     Ok(old)
 }
 
-/// The leader collects under a number, and keeps these versions itself.
+/// The leader collects under a number, and keeps the versions from `leader_first` to `leader_last`. A peon that lacks
+/// the version before them bootstraps. `Spent` names the version after `leader_last` if it would pass 2^62.
 pub(crate) fn collect(
     here: &Here<'_>,
     pn: Pn,

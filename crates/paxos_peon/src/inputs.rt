@@ -34,7 +34,7 @@ fn is_ours(here: &Here<'_>, view: &View, message: &Message) -> bool
         && message.from == here.state.leader
 }
 
-/// A message, which is dropped if it isn't of the leader in this epoch.
+/// Hears a COLLECT, BEGIN, COMMIT or LEASE. It is dropped if it isn't from the leader, or isn't of this epoch.
 fn hear(here: &Here<'_>, view: &View, message: &Message) -> Result<Plan<Peon>, RoleStop>
     requires input { IsTrue (is_told message.now.body) }
     requires fits { IsTrue (fits here.now.me.now.member.monitors message.now.body) }

@@ -17,7 +17,7 @@ use mon_plan::{Stored, armed, message, stay};
 use mon_tx::Transaction;
 use mon_types::{Moment, Version};
 
-/// What a peon remembers, with a lease that is given now.
+/// The peon's state with a lease that is given at `now`.
 fn with_lease(state: &Peon, now: Moment) -> Peon
     ensures { result ≡ record state.now { lease = extended now } }
 {
@@ -26,14 +26,14 @@ fn with_lease(state: &Peon, now: Moment) -> Peon
     Peon { lease, ..*state }
 }
 
-/// Whether a lease for a version isn't taken: it is for another version than the last one, or a value is pending.
+/// Whether a lease for a version is refused: it isn't for the last version, or a value is pending.
 fn is_refused(stored: &Stored<'_>, version: Version) -> bool
     ensures { result ≡ (not (version == (readings_of stored.now).last) || is_some (pending (readings_of stored.now))) }
 {
     version.get() != stored.last().get() || stored.has_pending()
 }
 
-/// The leader gives a lease for a version.
+/// The leader gives a lease for a version. The peon takes and acknowledges it, or drops it.
 pub(crate) fn lease(here: &Here<'_>, version: Version) -> Result<Plan<Peon>, RoleStop>
     ensures plans { (e : ℕ) → ByRow here.now e
         (hear_lease here.now.me.now here.now.time here.now.state.now.leader e version) result }

@@ -25,7 +25,7 @@ fn is_accepted(stored: &Stored<'_>, pn: Pn, version: Version) -> bool
     pn.get() == stored.promise().get() && version.get() == stored.last().get() + 1
 }
 
-/// The leader asks to accept a value for a version.
+/// The leader asks to accept a value for a version. The peon votes for it and gives up its lease, or drops the request.
 pub(crate) fn begin(
     here: &Here<'_>,
     pn: Pn,
@@ -54,7 +54,7 @@ pub(crate) fn begin(
     })
 }
 
-/// Whether values of the versions from `from` on leave one out after the last one.
+/// Whether values from version `from` on would leave a gap after the last version.
 fn is_ahead(stored: &Stored<'_>, from: Version) -> bool
     ensures { result ≡ nat_lt (suc (readings_of stored.now).last) from }
 {
