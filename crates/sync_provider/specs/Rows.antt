@@ -17,14 +17,14 @@ use Rattle.mon_wire.specs.declared.body.Body.TheVariants as body
 use Rattle.mon_wire.specs.declared.body.Body.{Body}
 use Rattle.sync_provider.specs.declared.here.Here.{Here}
 
--- what a monitor asks from which it synchronizes
+-- the requests of a monitor that synchronizes, or is about to
 abbrev pub is_asked : Body → Bool
 is_asked body.GetCookieFull = true
 is_asked (body.GetCookieRecent last) = true
 is_asked (body.GetChunk cookie place) = true
 is_asked b = false
 
--- what a provider answers
+-- the inputs of a provider
 abbrev pub is_input : Input → Bool
 is_input input.Start = false
 is_input (input.Deliver m) = is_asked m.body
@@ -40,6 +40,6 @@ pub record Holds (w : Readings) (state : Provider) (x : Course) : Type 0 where
 abbrev pub ByRow : Here → (now : ℕ) → (row : Course → Result Course Which) → Result (Plan Provider) RoleStop → Type 0
 ByRow here now row result = PlansRow here.me.now now provider_is (Holds (readings_of here.kv.now) here.state.now) row result
 
--- the shared entries that are left after a place, in order
+-- the shared entries after a place, in order
 abbrev pub left_after : Store → KeyPlace → List Entry
 left_after m at = filter (is_after at) (shared_entries m)

@@ -12,19 +12,19 @@ use Rattle.mon_wire.specs.declared.parts.Place.{Place}
 use Rattle.mon_wire.specs.declared.write_lists.TheConstants.{MOST_ITEMS}
 use Rattle.sync_provider.specs.declared.entries.TheConstants.{BESIDES, BESIDES_LAST}
 
--- whether a chunk takes these of the entries that are left, where its place and its values take this many bytes: a few bytes
--- more if these are all that are left
+-- Whether a chunk has room for these entries, if its place and its values take `bytes` bytes. The chunk itself is a few
+-- bytes longer if no entry follows these.
 abbrev pub takes : (left : List Entry) → (bytes : ℕ) → List Entry → Bool
 takes left bytes entries =
     nat_le ((if nat_le (length left) (length entries) then BESIDES_LAST else BESIDES) + bytes + sum_by entry_length entries) MOST_MESSAGE
     && nat_le (length entries) MOST_ITEMS
 
--- as many as it takes, and whether these are all that are left
+-- A run has as many entries as a chunk takes, and says whether none follows them.
 pub record IsTaken (left : List Entry) (bytes : ℕ) (run : KeyRun) : Type 0 where
   pub entries : run.entries.items ≡ longest (takes left bytes) left
   pub done : run.done ≡ nat_le (length left) (length run.entries.items)
 
--- the shared entries in a chunk with these values: those that it is given, and whether none is left after them
+-- A run has the shared entries of a chunk with these values, and says whether none follows them.
 pub record IsGiven (last : ℕ) (c : Cookie) (p : Place) (left : List Entry) (n : ℕ) (values : List (List Op))
     (run : KeyRun) : Type 0 where
   pub entries : run.entries.items ≡ given_entries last c p left n values

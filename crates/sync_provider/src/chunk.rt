@@ -21,14 +21,14 @@ use mon_plan::{Run, Stored};
 use mon_types::{Rank, Version};
 use std::alloc::Global;
 
-/// How many bytes a chunk takes besides its place, its values and its entries, if it would be the last one or not.
+/// How many bytes a LAST_CHUNK, if `is_last`, or otherwise a CHUNK takes besides its place, its values and its entries.
 fn besides(is_last: bool) -> usize
     ensures { result ≡ if is_last then BESIDES_LAST else BESIDES }
 {
     if is_last { BESIDES_LAST } else { BESIDES }
 }
 
-/// As many of the records after a place as a chunk takes.
+/// The records after a place, as many as one chunk takes.
 fn given_values(
     alloc: Global,
     kv: &Kv,
@@ -55,7 +55,7 @@ fn reaches(last: Version, place: &Place, count: usize) -> bool
     last.get() <= place.version.get() + count as u64
 }
 
-/// What follows a place, under this cookie: the last chunk if nothing is left after it.
+/// The chunk that follows a place, under this cookie: a LAST_CHUNK if nothing follows it, and otherwise a CHUNK.
 fn chunk(alloc: Global, kv: &Kv, cookie: Cookie, place: &Place) -> Result<Body, OutOfMemory>
     ensures { (n : ℕ) → let w = readings_of kv.now in
         IfOk result (λ body. body ≡ chunk w.last cookie place.now (left_after kv.now place.now.key) n w.record_of) }
@@ -87,7 +87,7 @@ fn chunk(alloc: Global, kv: &Kv, cookie: Cookie, place: &Place) -> Result<Body, 
     })
 }
 
-/// Whether a monitor has that cookie.
+/// Whether a monitor's latest cookie is this one.
 fn is_known(state: &Provider, of: Rank, cookie: Cookie) -> bool
     ensures { result ≡ is_cookie cookie (slice_index_or state.now.cookies of None) }
 {
@@ -97,7 +97,7 @@ fn is_known(state: &Provider, of: Rank, cookie: Cookie) -> bool
     }
 }
 
-/// Whether nothing is given: the cookie isn't the monitor's, or some of the versions after the place aren't kept any
+/// Whether a chunk is refused: the cookie isn't the monitor's, or some of the versions after the place aren't kept any
 /// more.
 fn is_refused(
     stored: &Stored<'_>,
@@ -112,7 +112,7 @@ fn is_refused(
     !is_known(state, to, cookie) || lacks(stored, place.version)
 }
 
-/// A monitor asks for what follows a place, under its cookie.
+/// A monitor asks for what follows a place, under its cookie. It gets a chunk, or NO_COOKIE.
 pub(crate) fn give_chunk(
     here: &Here<'_>,
     to: Rank,

@@ -32,7 +32,7 @@ pub(crate) fn answer(here: &Here<'_>, to: Rank, body: Body) -> Result<Plan<Provi
     })
 }
 
-/// What a provider remembers once a monitor has that cookie in place of the one that it had.
+/// The provider's state once it granted a monitor this cookie, in place of an earlier one.
 fn with_cookie(state: &Provider, of: Rank, cookie: Cookie) -> Provider
     requires { state.now.next_cookie ≤ 2 ^ 62 }
     ensures { result
@@ -46,7 +46,8 @@ fn with_cookie(state: &Provider, of: Rank, cookie: Cookie) -> Provider
     }
 }
 
-/// A monitor gets a new cookie, for a whole copy or for the versions that it lacks.
+/// Grants a monitor a new cookie for a whole copy, if `full`, or for the versions that it lacks. `Spent` names the
+/// cookie's number if it would pass 2^62.
 pub(crate) fn grant(here: &Here<'_>, to: Rank, full: bool) -> Result<Plan<Provider>, RoleStop>
     ensures plans { (now : ℕ) → ByRow here.now now (grant here.now.me.now full to) result }
     ensures stays { IfOk result (λ plan. plan.next ≡ next.Stay) }
@@ -84,7 +85,7 @@ pub(crate) fn lacks(stored: &Stored<'_>, last: Version) -> bool
     stored.first().get() > last.get() + 1
 }
 
-/// A monitor asks for the versions above its last one.
+/// A monitor asks for the versions above its last one. It gets no cookie if some of them aren't kept any more.
 pub(crate) fn grant_recent(
     here: &Here<'_>,
     to: Rank,

@@ -18,7 +18,7 @@ use mon_msg::{MOST_ITEMS, MOST_MESSAGE, Place};
 /// How many bytes a CHUNK takes besides its place, its values and its entries.
 pub(crate) const BESIDES: usize = 33;
 
-/// How many a LAST_CHUNK takes.
+/// How many bytes a LAST_CHUNK takes besides its place, its values and its entries.
 pub(crate) const BESIDES_LAST: usize = 40;
 
 fn key_place_len(at: &KeyPlace) -> usize
@@ -57,7 +57,7 @@ fn entries_len(entries: &[Entry]) -> usize
     len
 }
 
-/// Whether no shared entry is left after a place.
+/// Whether no shared entry follows a place.
 pub(crate) fn is_end(kv: &Kv, place: &Place) -> Result<bool, OutOfMemory>
     ensures { IfOk result (λ end. end ≡ is_finished place.now (left_after kv.now place.now.key) []) }
 {
@@ -75,7 +75,7 @@ fn are_last(entries: &[Entry], bytes: usize) -> bool
         <= MOST_MESSAGE
 }
 
-/// A run without its last entry, so that this one is left after it.
+/// A run without its last entry, which then follows the run.
 fn without_last(run: KeyRun) -> KeyRun
     ensures entries { result.entries.items ≡ take (length run.entries.items - 1) run.entries.items }
     ensures done { result.done ≡ false }
@@ -88,8 +88,8 @@ fn without_last(run: KeyRun) -> KeyRun
     }
 }
 
-/// As many of the shared entries after a place as a chunk takes whose place and values take `bytes` bytes, and
-/// whether none is left after them. Each entry is copied once.
+/// The shared entries after a place, as many as fit into a chunk whose place and values take `bytes` bytes, and whether
+/// none follows them. Each entry is copied once.
 fn longest_entries(kv: &Kv, place: &Place, bytes: usize) -> Result<KeyRun, OutOfMemory>
     ensures { IfOk result (IsTaken (left_after kv.now place.now.key) bytes) }
 {
@@ -107,8 +107,8 @@ fn longest_entries(kv: &Kv, place: &Place, bytes: usize) -> Result<KeyRun, OutOf
     Ok(without_last(found))
 }
 
-/// The entries of a chunk whose place and values take `bytes` bytes, and whether none is left after them. There are
-/// none if the values don't reach the last version.
+/// The entries of a chunk whose place and values take `bytes` bytes, and whether none follows them. There are no
+/// entries unless the values reach the last version, which `reaches` says.
 pub(crate) fn given_entries(
     kv: &Kv,
     place: &Place,

@@ -1,4 +1,4 @@
--- What a requester answers.
+-- The inputs of a requester.
 use Rattle.std.specs.Prelude.{Bool, true, false}
 use Rattle.mon_msg.specs.declared.input.Input.TheVariants as input
 use Rattle.mon_msg.specs.declared.input.Input.{Input}

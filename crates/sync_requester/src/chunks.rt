@@ -48,8 +48,8 @@ fn is_awaited(state: &Requester, cookie: Cookie, place: &Place) -> bool
     takes_chunks(state.stage) && is_own_cookie(state, cookie) && is_same_place(place, &state.place)
 }
 
-/// What a chunk holds is written, each record and entry once: a whole copy takes them as they are, another one learns
-/// the values.
+/// Writes what a chunk holds. A whole copy puts the records and the entries as they are; a recent synchronization
+/// learns the values.
 fn write(tx: &mut Transaction, full: bool, from: u64, chunk: &Chunk<'_>) -> Result<(), RoleStop>
     requires short { AllByRecursion (λ ops. length (text ops) ≤ most) chunk.now.values.now }
     requires from { 1 ≤ from }
@@ -67,14 +67,14 @@ fn write(tx: &mut Transaction, full: bool, from: u64, chunk: &Chunk<'_>) -> Resu
     Ok(())
 }
 
-/// A chunk that was taken: what is written, and where the next one goes on.
+/// What a chunk writes when it is taken, and the place from which the next one goes on.
 #[derive(Drop)]
 struct Taken {
     tx: Transaction,
     place: Place,
 }
 
-/// What a chunk holds is taken, and the place moves on after it.
+/// Takes a chunk, and moves the place past it. `Spent` names the version of the new place if it would pass 2^62.
 fn take(alloc: Global, state: &Requester, chunk: &Chunk<'_>, done: bool) -> Result<Taken, RoleStop>
     requires short { AllByRecursion (λ ops. length (text ops) ≤ most) chunk.now.values.now }
     requires few { length chunk.now.values.now ≤ MOST_ITEMS }
@@ -97,7 +97,7 @@ fn take(alloc: Global, state: &Requester, chunk: &Chunk<'_>, done: bool) -> Resu
     })
 }
 
-/// What a requester remembers after it has reached a place.
+/// The requester's state once it has reached a place.
 fn at_place(state: &Requester, place: Place) -> Requester
     ensures { result ≡ record state.now { place = place } }
 {
@@ -111,7 +111,8 @@ fn at_place(state: &Requester, place: Place) -> Requester
     }
 }
 
-/// The provider gives a chunk, after which there is another one.
+/// The provider gives a chunk that isn't the last one. If it is the awaited one, it is taken and the next one is asked
+/// for.
 pub(crate) fn hear_chunk(
     here: &Here<'_>,
     state: &Requester,
@@ -133,7 +134,7 @@ pub(crate) fn hear_chunk(
     Ok(ask_chunk(here, epoch, tx, cookie, at_place(state, place))?)
 }
 
-/// What a requester remembers as it begins to replay the versions from `next` to `end`.
+/// The requester's state as it begins to replay the versions from `next` to `end`.
 fn replaying(state: &Requester, place: Place, next: Version, end: Version) -> Requester
     ensures { result ≡ record state.now { place = place; stage = SyncStage.Replay next end } }
 {
@@ -147,7 +148,8 @@ fn replaying(state: &Requester, place: Place, next: Version, end: Version) -> Re
     }
 }
 
-/// The last chunk of a whole copy: the versions after its beginning are replayed up to the provider's last one.
+/// The last chunk of a whole copy. The versions from the one after the copy's beginning up to the provider's last one
+/// are replayed next.
 fn end_copy(
     here: &Here<'_>,
     state: &Requester,
@@ -179,7 +181,7 @@ fn end_copy(
     })
 }
 
-/// The last chunk of the missing versions: the monitor begins again with them.
+/// The last chunk of the missing versions. The monitor takes them and bootstraps.
 fn end_recent(
     here: &Here<'_>,
     state: &Requester,

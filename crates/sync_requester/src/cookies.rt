@@ -20,7 +20,7 @@ use mon_plan::{Here, Stored, armed, message, planned, stay};
 use mon_tx::Transaction;
 use mon_types::{Epoch, Version};
 
-/// There is no cookie: a provider that can't serve a recent synchronization says so.
+/// The cookie in the NO_COOKIE of a provider that can't serve a recent synchronization.
 const NO_COOKIE: Cookie = Cookie { boot: 0, seq: 0 };
 
 fn awaits_cookie(stage: SyncStage) -> bool
@@ -32,8 +32,8 @@ fn awaits_cookie(stage: SyncStage) -> bool
     }
 }
 
-/// Whether a granted cookie isn't taken: it isn't the one that is awaited, or a whole copy would end below what it must
-/// reach.
+/// Whether a COOKIE is dropped: none is awaited, it is of the other kind, or it is for a whole copy and the provider's
+/// last version is below the floor.
 fn is_refused(stored: &Stored<'_>, state: &Requester, full: bool, last: Version) -> bool
     ensures { result ≡ (not (awaits_cookie state.now.stage && same_flag full state.now.full) ||
         (full && nat_lt last (readings_of stored.now).floor)) }
@@ -44,7 +44,7 @@ fn is_refused(stored: &Stored<'_>, state: &Requester, full: bool, last: Version)
     full && last.get() < stored.floor().get()
 }
 
-/// What a requester remembers as it begins to take chunks.
+/// The requester's state as it begins to take chunks under a cookie, from a place on.
 fn with_cookie(state: &Requester, cookie: Cookie, place: Place) -> Requester
     ensures { result ≡ record state.now {
       stage = SyncStage.Chunks;
@@ -63,7 +63,8 @@ fn with_cookie(state: &Requester, cookie: Cookie, place: Place) -> Requester
     }
 }
 
-/// After these changes, the provider is asked for something. It has the time of one timer to answer.
+/// The plan that makes these changes, sends the provider a request, and arms `Sync`, which limits the wait for its
+/// answer.
 pub(crate) fn ask(
     here: &Here<'_>,
     epoch: Epoch,
@@ -92,7 +93,7 @@ pub(crate) fn ask(
     })
 }
 
-/// After these changes, the chunk that follows the requester's place is asked for.
+/// The plan that makes these changes, and asks for the chunk after the requester's place.
 pub(crate) fn ask_chunk(
     here: &Here<'_>,
     epoch: Epoch,
@@ -112,7 +113,7 @@ pub(crate) fn ask_chunk(
     ask(here, epoch, tx, Body::GetChunk { cookie, place }, state)
 }
 
-/// The provider grants a cookie, for a whole copy or for the versions that are lacking.
+/// The provider grants a cookie for a whole copy, if `full`, or for the versions that this monitor lacks.
 pub(crate) fn hear_cookie(
     here: &Here<'_>,
     state: &Requester,
@@ -144,8 +145,8 @@ pub(crate) fn is_own_cookie(state: &Requester, cookie: Cookie) -> bool
     }
 }
 
-/// Whether the provider says that there is no cookie with which it could go on, or that it can't give the missing
-/// versions.
+/// Whether a NO_COOKIE ends the synchronization. It names the own cookie, or it answers the request for a recent
+/// synchronization that the provider can't serve.
 fn is_lost(state: &Requester, cookie: Cookie) -> bool
     ensures { result ≡ (is_cookie cookie state.now.cookie ||
         (awaits_cookie state.now.stage && not state.now.full && same_cookie cookie no_cookie)) }
@@ -154,7 +155,7 @@ fn is_lost(state: &Requester, cookie: Cookie) -> bool
         || (awaits_cookie(state.stage) && !state.full && cookie == NO_COOKIE)
 }
 
-/// The provider doesn't know a cookie, or can't grant one.
+/// The provider doesn't know a cookie, or can't grant one. If that ends the synchronization, the monitor bootstraps.
 pub(crate) fn hear_no_cookie(
     here: &Here<'_>,
     state: &Requester,

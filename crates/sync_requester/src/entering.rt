@@ -18,7 +18,7 @@ use mon_tx::Transaction;
 use mon_types::{Epoch, Moment, Rank, Version};
 use std::alloc::Global;
 
-/// The version that a whole copy must reach: no monitor forgets what it has committed or accepted.
+/// The version that a whole copy must reach, so that the monitor doesn't forget what it has committed or accepted.
 fn floor_of(stored: &Stored<'_>) -> Version
     ensures { result ≡ floor_of (readings_of stored.now) }
 {
@@ -30,7 +30,7 @@ fn floor_of(stored: &Stored<'_>) -> Version
     Version::known(reached)
 }
 
-/// What a requester remembers that waits for a cookie of this provider.
+/// The state of a requester that awaits a cookie from this provider.
 fn awaiting(from: Rank, full: bool) -> Requester
     ensures { result ≡ start_requester from full }
 {
@@ -47,9 +47,9 @@ fn awaiting(from: Rank, full: bool) -> Requester
     }
 }
 
-/// A monitor begins to take a whole copy from another one, and gives up all that is shared but what it must reach and
-/// its own numbers; or, if it isn't `full`, to take the versions that it lacks. `epoch` is the epoch that it has now.
-/// No number runs out.
+/// Begins to synchronize from another monitor. If `full`, the monitor gives up its shared keys and asks for a whole
+/// copy. It keeps its own numbers, and notes the version that the copy must reach. Otherwise it asks for the versions
+/// that it lacks. `epoch` is its epoch now. `Spent` is never returned.
 pub fn enter(
     alloc: Global,
     kv: &Kv,

@@ -13,7 +13,7 @@ use mon_tx::{Area, Op, Transaction};
 use mon_types::Epoch;
 use std::alloc::Global;
 
-/// Whether a change speaks of the area in which the epoch is kept.
+/// Whether a change is of the area that has the epoch.
 fn speaks_of_monitor(op: &Op) -> bool
     ensures { result ≡ speaks_of_monitor op.now }
 {
@@ -32,7 +32,7 @@ fn speak_of_monitor(ops: &[Op]) -> bool
     ops.iter().any(|op| speaks_of_monitor(op))
 }
 
-/// The epoch that a store has after changes. Changes that don't set it, such as those of a provider, take no memory.
+/// The epoch that a store has after changes. It takes memory only if one of the changes is of the epoch's area.
 pub(crate) fn epoch_after(alloc: Global, kv: &Kv, tx: &Transaction) -> Result<Epoch, OutOfMemory>
     ensures { IfOk result (λ epoch. epoch ≡ epoch_of (readings_of (apply tx.now kv.now))) }
 {

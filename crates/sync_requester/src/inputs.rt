@@ -26,7 +26,7 @@ use mon_plan::{Here, planned, stay};
 use mon_types::{Moment, Rank};
 use std::alloc::Global;
 
-/// Whether a monitor in this phase synchronises.
+/// Whether a monitor in this phase synchronizes.
 fn synchronizes(phase: Phase) -> bool
     ensures { result ≡ same_phase phase Phase.Synchronizing }
 {
@@ -40,7 +40,8 @@ fn is_of_provider(view: &View, state: &Requester, from: Rank) -> bool
     synchronizes(view.phase) && from == state.provider
 }
 
-/// A message, which is dropped if it isn't of the provider.
+/// Hears a COOKIE, CHUNK, LAST_CHUNK or NO_COOKIE. It is dropped if it isn't from the provider, or the monitor doesn't
+/// synchronize.
 fn hear(
     here: &Here<'_>,
     view: &View,
@@ -91,7 +92,7 @@ fn hear(
     }
 }
 
-/// It is time for the next step of a replay.
+/// The timer `Step` fires: the next step of a replay, if one is under way.
 fn step_replay(here: &Here<'_>, view: &View, state: &Requester) -> Result<Plan<Requester>, RoleStop>
     ensures plans { ByRow here.now view.now state.now (replay_step here.now.me.now here.now.time) result }
     ensures leaves { IfOk result (λ plan. Leaves view.now.phase plan.next plan.tx) }
@@ -105,7 +106,8 @@ fn step_replay(here: &Here<'_>, view: &View, state: &Requester) -> Result<Plan<R
     }
 }
 
-/// One of its timers comes, which is disarmed.
+/// A timer of the requester fires. `Sync` ends the synchronization, as the provider didn't answer in time, and the
+/// monitor bootstraps.
 fn ring(
     here: &Here<'_>,
     view: &View,
@@ -124,9 +126,9 @@ fn ring(
 }
 
 /// What a requester does at a COOKIE, CHUNK, LAST_CHUNK or NO_COOKIE that is taken, and when one of its timers fires:
-/// its row of the protocol's table. Whatever isn't of its provider, isn't what it waits for, or comes while it
-/// doesn't synchronize does nothing, and takes no memory but for a copy of the place that is remembered. `Spent`
-/// names the version of the place after a chunk, or the first one that is replayed, if that would pass 2^62.
+/// its row of the protocol's table. A message is dropped if it isn't from the provider, isn't the awaited one, or comes
+/// while the monitor doesn't synchronize. It then takes no memory but for a copy of the remembered place. `Spent` names
+/// the version of the place after a chunk, or the first one that is replayed, if that would pass 2^62.
 pub fn step(
     alloc: Global,
     kv: &Kv,

@@ -63,7 +63,8 @@ fn after_entries(alloc: Global, entries: &[Entry], key: &KeyPlace) -> Result<Key
     }
 }
 
-/// The place among the keys after a chunk with these entries, which may say that none is left.
+/// The place among the keys after a chunk with these entries. If the chunk says that no entry follows, `done`, all keys
+/// are passed.
 pub(crate) fn next_key_place(
     alloc: Global,
     entries: &[Entry],

@@ -26,8 +26,8 @@ use mon_tx::Transaction;
 use mon_types::Version;
 use std::alloc::Global;
 
-/// These values, and after them those of the versions from `from` up to but not including `to` for which there is
-/// room; or `None` if a record is missing among them or right after them.
+/// Appends the values of the versions from `from` up to but not including `to`, as long as their texts fit into `room`
+/// bytes. `None` if a record is missing among them, or right after them and before `to`.
 fn with_more(
     alloc: Global,
     stored: &Stored<'_>,
@@ -55,7 +55,8 @@ fn with_more(
     Ok(Some(all))
 }
 
-/// The values of the next step, of the versions from `next` to `end`; or `None` if a record is missing.
+/// The values of the next step in a replay of the versions from `next` to `end`, or `None` if a record of them is
+/// missing.
 fn step_values(
     alloc: Global,
     stored: &Stored<'_>,
@@ -93,7 +94,7 @@ fn to_learn(
     Ok(tx)
 }
 
-/// The last step, after these changes: the copy is over, and the monitor begins again with it.
+/// The plan of the last step: it makes these changes, notes the last version, removes the mark, and bootstraps.
 fn end_with(
     alloc: Global,
     kept: Requester,
@@ -120,7 +121,7 @@ fn end_with(
     })
 }
 
-/// A step with these changes, after which there is another one.
+/// The plan of a step that isn't the last one: it makes these changes, and arms `Step`.
 fn go_on(here: &Here<'_>, kept: Requester, tx: Transaction) -> Result<Plan<Requester>, OutOfMemory>
     ensures { IfOk result (λ p. p ≡ record {
       tx = tx;
@@ -141,8 +142,8 @@ fn go_on(here: &Here<'_>, kept: Requester, tx: Transaction) -> Result<Plan<Reque
     })
 }
 
-/// A step of the replay of the versions from `next` to `end`. After the last of them the copy is over; if a record is
-/// missing the monitor begins again, and nothing of the step is written.
+/// A step of the replay of the versions from `next` to `end`. After the last of them the copy is complete. If a record
+/// is missing, nothing of the step is written. In both cases the monitor bootstraps.
 pub(crate) fn replay(
     here: &Here<'_>,
     state: &Requester,
