@@ -1,4 +1,4 @@
-//! What one reply to a client may have.
+//! A plan that only answers, and how long a command's value or text may be.
 
 ghost use Rattle.std.specs.Prelude.{◌≡◌, ◌<◌, [], ◌∷◌, IfOk};
 ghost use Rattle.mon_msg.specs.Protocol.Commands.{most_text, text_length, is_too_long, too_long};
@@ -12,7 +12,7 @@ use mon_msg::{Clients, Next, Plan, Reply};
 use mon_tx::Transaction;
 use std::alloc::Global;
 
-/// Someone is answered, and nothing else is done.
+/// The plan that sends one message or reply, and does nothing else.
 pub(crate) fn answered(
     alloc: Global,
     clients: Clients,
@@ -32,7 +32,7 @@ pub(crate) fn answered(
     })
 }
 
-/// The longest value or text of a command.
+/// How many bytes a command's value or text may have.
 fn most_text(command: &Command) -> u64
     ensures { result ≡ most_text command.now }
 {
@@ -43,7 +43,7 @@ fn most_text(command: &Command) -> u64
     }
 }
 
-/// How long its value or text is.
+/// How many bytes a command's value or text has.
 fn text_length(command: &Command) -> u64
     ensures { result ≡ text_length command.now }
 {

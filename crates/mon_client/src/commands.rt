@@ -35,7 +35,8 @@ fn may_propose(view: &View) -> bool
     matches!(view.phase, Phase::Active) && view.standing
 }
 
-/// A command at a leader is proposed if no other waits and it may be, and queues after the others otherwise.
+/// A leader proposes a command if it may and no other command waits. Otherwise the command queues after the others. It
+/// is refused if it is too long, or if `MOST_WAITING` commands wait.
 pub(crate) fn at_leader(
     here: &Here<'_>,
     mut clients: Clients,
@@ -64,7 +65,8 @@ pub(crate) fn at_leader(
     Ok(stay(here.alloc, clients))
 }
 
-/// A command at a peon goes to its leader, and its client waits under the next number.
+/// A peon forwards a command to its leader, and its client waits under the next number. The command is refused if it is
+/// too long, or if `MOST_WAITING` clients wait. `Spent` names the number if it would pass 2^62.
 fn at_peon(
     here: &Here<'_>,
     mut clients: Clients,
@@ -98,7 +100,7 @@ fn at_peon(
     Ok(answered(here.alloc, clients, sent)?)
 }
 
-/// What a client's command does.
+/// A client's command. A leader proposes or queues it, a peon forwards it, and any other monitor is unavailable.
 pub(crate) fn ask(
     here: &Here<'_>,
     clients: Clients,

@@ -52,7 +52,7 @@ fn mark_taken(mut clients: Clients, from: Rank, seq: u64) -> Clients
     clients
 }
 
-/// A peon hands a command on. It counts once.
+/// A peon forwards a command. It counts once: a command whose number isn't above those before is dropped.
 pub(crate) fn forward(
     here: &Here<'_>,
     clients: Clients,

@@ -33,7 +33,7 @@ fn refusal(refused: CommandRefused) -> Result<Reply, OutOfMemory>
     }
 }
 
-/// The monitor that was asked.
+/// The rank of the monitor that the client asked.
 fn asked_of(me: &Me, origin: Origin) -> Rank
     ensures { result ≡ asked_of me.now origin }
 {
@@ -43,7 +43,8 @@ fn asked_of(me: &Me, origin: Origin) -> Rank
     }
 }
 
-/// A command that makes no version is answered, and the next one may be proposed.
+/// The plan for a command that makes no version: it is answered, and `Propose` is armed for the command that waits
+/// next.
 fn refuse(
     here: &Here<'_>,
     clients: Clients,
@@ -71,7 +72,8 @@ fn refuse(
     })
 }
 
-/// A command makes the next version of its service, or is refused. Clients are remembered so from then on.
+/// Names the act that begins a command's value, or refuses the command. `clients` is what the role remembers then.
+/// `Spent` names the version of the command's service after its last one, if it would pass 2^62.
 pub(crate) fn propose(
     here: &Here<'_>,
     clients: Clients,

@@ -39,7 +39,7 @@ is_rung timer.Election = true
 is_rung timer.Ping = true
 is_rung t = false
 
--- what an elector answers
+-- the inputs of an elector
 abbrev pub is_input : Input → Bool
 is_input input.Start = false
 is_input (input.Deliver m) = is_told m.body
@@ -66,7 +66,7 @@ pub record IsCalled (e : ℕ) (s : Elector) (x : Course) : Type 0 where
 abbrev pub table_told : Rule → Scores → Option Scores
 table_told rule scores = if scores_count rule then Some scores else None
 
--- the next epoch begins in which those lead who deferred to it, unless no number is left for it
+-- The next epoch begins, and the monitor wins it with those that deferred to it, unless the epoch would pass 2^62.
 abbrev pub Wins : (epoch : ℕ) → Elector → (acked : List Bool) → Result (Plan Elector) RoleStop → Type 0
 Wins epoch s acked (Ok p) =
     (suc epoch ≤ 2 ^ 62) × (p ≡ record {

@@ -20,7 +20,7 @@ use mon_tx::Transaction;
 use mon_types::{Epoch, Moment, RankSet, Which};
 use std::alloc::Global;
 
-/// The elector as a candidate.
+/// The elector's state as a candidate to which only itself has deferred.
 fn standing(me: &Me, state: &Elector) -> Elector
     ensures { result ≡ record state.now { candidate = true; acked = only me.now.member.rank; deferred = None } }
 {
@@ -32,7 +32,7 @@ fn standing(me: &Me, state: &Elector) -> Elector
     }
 }
 
-/// It asks all others to defer to it.
+/// The plan of a candidate: it proposes itself to all others, and arms `Election`.
 fn call(
     alloc: Global,
     me: &Me,
@@ -55,9 +55,8 @@ fn call(
     tell_until(alloc, tx, out, standing(me, state), arming)
 }
 
-/// What an elector does if its monitor calls an election, after the earlier acts of the event: the epoch is the one
-/// that the store then has. An even epoch ends, and the election is in the next one. `Spent` names the epoch if and
-/// only if that would pass 2^62.
+/// What an elector does if its monitor calls an election. `epoch` is the epoch after the earlier acts of the event. If
+/// it is even, the election is in the next one. `Spent` names that next epoch if it would pass 2^62.
 pub fn enter(
     alloc: Global,
     me: &Me,

@@ -16,7 +16,7 @@ use mon_plan::{armed, message, others, stay};
 use mon_tx::Transaction;
 use mon_types::{Rank, RankSet};
 
-/// The elector that heard of a monitor, and what it now knows of connections.
+/// The elector's state once it heard from a monitor: the monitor's table is merged into its own.
 fn with_heard(state: &Elector, from: Rank, table: &Scores) -> Elector
     ensures { result ≡ with_heard from table.now state.now }
 {
@@ -29,7 +29,7 @@ fn with_heard(state: &Elector, from: Rank, table: &Scores) -> Elector
     }
 }
 
-/// Another monitor pings.
+/// Another monitor pings. A ping with a table is answered with the own table.
 pub(crate) fn hear_ping(
     here: &Here<'_>,
     from: Rank,
@@ -55,7 +55,7 @@ pub(crate) fn hear_ping(
     })
 }
 
-/// Another monitor answers a ping.
+/// Another monitor answers a ping. A reply without a table is dropped.
 pub(crate) fn hear_ping_reply(
     here: &Here<'_>,
     from: Rank,
@@ -70,7 +70,7 @@ pub(crate) fn hear_ping_reply(
     }
 }
 
-/// This many seconds count for the connection to a monitor, which was heard of or wasn't.
+/// Raises the score of the connection to a monitor by this many seconds if it was heard, and lowers it otherwise.
 fn count_time(scores: &mut Scores, is_heard: bool, rank: Rank, seconds: u64)
     ensures { scores.new ≡ scored (if is_heard then raised seconds else lowered seconds) rank scores.old }
 {
@@ -93,7 +93,7 @@ fn scores_after(seconds: u64, heard: RankSet, ranks: &[Rank], scores: &Scores) -
     after
 }
 
-/// The elector after the time since it last pinged.
+/// The elector's state at a ping. Its scores count the time since the last ping, and from now on nobody was heard.
 fn measured(here: &Here<'_>) -> Result<Elector, OutOfMemory>
     ensures { IfOk result (λ elector. elector ≡ measure here.now.me.now here.now.time here.now.state.now) }
 {
@@ -109,7 +109,7 @@ fn measured(here: &Here<'_>) -> Result<Elector, OutOfMemory>
     })
 }
 
-/// The time to ping has come.
+/// The timer `Ping` fires: the monitor updates its scores, pings all others, and arms the timer again.
 pub(crate) fn ping(here: &Here<'_>) -> Result<Plan<Elector>, RoleStop>
     ensures plans { ByRow here.now (ping here.now.me.now here.now.time) result }
     ensures leaves { IfOk result (λ p. Leaves here.now.view.now.phase p.next p.tx) }

@@ -24,22 +24,22 @@ pub(crate) fn is_electing(phase: Phase) -> bool
     matches!(phase, Phase::Electing)
 }
 
-/// Whether an epoch is one of a quorum.
+/// Whether an epoch is even. A quorum has an even epoch, and an election an odd one.
 pub(crate) fn is_even(epoch: Epoch) -> bool
     ensures { result ≡ is_even epoch }
 {
     epoch.get() % 2 == 0
 }
 
-/// Whether what a candidate says in an epoch is dropped: the monitor takes no part in elections, or nobody stands for
-/// election then.
+/// Whether the message of a candidate in an epoch is dropped: the monitor takes no part in elections, or the epoch is
+/// even.
 pub(crate) fn is_deaf(view: &View, epoch: Epoch) -> bool
     ensures { result ≡ (not (votes view.now.phase) || is_even epoch) }
 {
     !view.phase.votes() || is_even(epoch)
 }
 
-/// Whether what a winner says in an epoch is dropped: the monitor takes no part in elections, or nobody leads then.
+/// Whether the message of a winner in an epoch is dropped: the monitor takes no part in elections, or the epoch is odd.
 pub(crate) fn is_deaf_to_winners(view: &View, epoch: Epoch) -> bool
     ensures { result ≡ (not (votes view.now.phase) || not (is_even epoch)) }
 {
@@ -74,14 +74,15 @@ pub(crate) fn is_next(stored: &Stored<'_>, epoch: Epoch) -> bool
     epoch.get() == stored.epoch().get() + 1
 }
 
-/// Whether a candidate of an earlier epoch makes the monitor call an election: one that is outside of its quorum.
+/// Whether a candidate of an earlier epoch makes the monitor call an election: the own epoch is that of a quorum, and
+/// the candidate isn't in it.
 pub(crate) fn is_left_out(stored: &Stored<'_>, view: &View, from: Rank) -> bool
     ensures { result ≡ (is_even (epoch_of (readings_of stored.now)) && not (has view.now.quorum from)) }
 {
     is_even(stored.epoch()) && !view.quorum.has(from)
 }
 
-/// The table that a message has, or otherwise the own one.
+/// The table that a message has, or the own one if it has none.
 pub(crate) fn table_or<'a>(table: &'a Option<ScoreTable>, own: &'a Scores) -> &'a Scores
     ensures { result.now ≡ table_or table.now own.now }
 {
@@ -91,15 +92,15 @@ pub(crate) fn table_or<'a>(table: &'a Option<ScoreTable>, own: &'a Scores) -> &'
     }
 }
 
-/// Whether a candidate may lead, and ranks before this monitor.
+/// Whether a candidate may lead, and outranks this monitor.
 pub(crate) fn is_better(me: &Me, table: &Scores, from: Rank) -> bool
     ensures { result ≡ (is_allowed me.now from && stands_before me.now table.now from me.now.member.rank) }
 {
     me.rule.allows(from) && outranks(&me.rule, me.member.monitors, table, from, me.member.rank)
 }
 
-/// Whether the monitor may defer to a candidate: it deferred to nobody yet, or to this one, or to one that it
-/// outranks.
+/// Whether the monitor may defer to a candidate: it deferred to nobody yet, or to this candidate, or to one that this
+/// candidate outranks.
 pub(crate) fn may_defer(me: &Me, table: &Scores, from: Rank, deferred: Option<Rank>) -> bool
     ensures { result ≡ may_defer me.now table.now from deferred }
 {
@@ -118,14 +119,15 @@ pub(crate) fn is_idle(state: &Elector) -> bool
     state.deferred.is_none() && !state.candidate
 }
 
-/// Whether these are all monitors of the map, and this one may lead them.
+/// Whether these are all monitors of the map, and this monitor may lead.
 pub(crate) fn leads_all(me: &Me, acked: RankSet) -> bool
     ensures { result ≡ (is_whole me.now acked && is_allowed me.now me.now.member.rank) }
 {
     acked.count() == me.member.monitors && me.rule.allows(me.member.rank)
 }
 
-/// Whether a candidate wins once the election's time is over.
+/// Whether the monitor wins when the election's time is over: it is a candidate that may lead, and a majority deferred
+/// to it.
 pub(crate) fn may_win(me: &Me, state: &Elector) -> bool
     ensures { result ≡ (state.now.candidate && is_allowed me.now me.now.member.rank &&
         is_majority me.now.member.monitors state.now.acked) }
@@ -141,7 +143,7 @@ pub(crate) fn may_follow(me: &Me, quorum: RankSet, leader: Rank) -> bool
     quorum.has(me.member.rank) && quorum.has(leader) && quorum.is_majority(me.member.monitors)
 }
 
-/// The table that a monitor sends: its own, if scores count.
+/// The table that a monitor sends: its own if scores count, and otherwise none.
 pub(crate) fn table_told(
     alloc: Global,
     rule: &Rule,

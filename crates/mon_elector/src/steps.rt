@@ -22,7 +22,7 @@ use mon_tx::Transaction;
 use mon_types::{Epoch, Rank, RankSet, Which};
 use std::alloc::Global;
 
-/// The elector with what a message says of connections.
+/// The elector's state with the table of a message, if it has one, merged into its own.
 pub(crate) fn merged(table: &Option<ScoreTable>, state: &Elector) -> Elector
     ensures { result ≡ record state.now { scores = merged_if_told table.now state.now.scores } }
 {
@@ -33,7 +33,7 @@ pub(crate) fn merged(table: &Option<ScoreTable>, state: &Elector) -> Elector
     Elector { scores, ..*state }
 }
 
-/// The elector in an election that another monitor called.
+/// The elector's state in an election that another monitor called, before it defers to anybody.
 pub(crate) fn joining(state: &Elector) -> Elector
     ensures { result ≡ record state.now { candidate = false; acked = no_ranks; deferred = None } }
 {
@@ -45,7 +45,7 @@ pub(crate) fn joining(state: &Elector) -> Elector
     }
 }
 
-/// The elector that defers to a candidate.
+/// The elector's state once it defers to a candidate.
 fn deferring(state: &Elector, from: Rank) -> Elector
     ensures { result ≡ record state.now { candidate = false; acked = no_ranks; deferred = Some from } }
 {
@@ -67,7 +67,7 @@ pub(crate) fn to_epoch(alloc: Global, epoch: Epoch) -> Result<Transaction, OutOf
     Ok(tx)
 }
 
-/// An epoch begins, and then an act.
+/// The plan that puts an epoch, and then names an act.
 pub(crate) fn enter_epoch(
     alloc: Global,
     epoch: Epoch,
@@ -87,7 +87,7 @@ pub(crate) fn enter_epoch(
     })
 }
 
-/// An epoch begins, a timer is armed, and then comes an act.
+/// The plan that puts an epoch, sets a timer, and then names an act.
 pub(crate) fn enter_epoch_until(
     alloc: Global,
     epoch: Epoch,
@@ -117,7 +117,7 @@ pub(crate) fn enter_epoch_until(
     })
 }
 
-/// A copy of this to each of all others.
+/// A copy of a message for each other monitor of the map.
 fn tell_copies(
     alloc: Global,
     me: &Me,
@@ -132,7 +132,7 @@ fn tell_copies(
     Ok(out)
 }
 
-/// The same message to all others.
+/// A message for each other monitor of the map.
 pub(crate) fn tell_others(
     alloc: Global,
     me: &Me,
@@ -146,7 +146,7 @@ pub(crate) fn tell_others(
     out
 }
 
-/// It sends to the others, and sets a timer.
+/// The plan with these changes and messages, which sets one timer and names no act.
 pub(crate) fn tell_until(
     alloc: Global,
     tx: Transaction,
@@ -173,7 +173,7 @@ pub(crate) fn tell_until(
     })
 }
 
-/// It defers to a candidate of its own epoch.
+/// The monitor defers to a candidate of its own epoch.
 pub(crate) fn defer(
     alloc: Global,
     me: &Me,
@@ -200,7 +200,7 @@ pub(crate) fn defer(
     })
 }
 
-/// It joins the election of a later epoch, and defers to the candidate that called it.
+/// The monitor joins the election of a later epoch, and defers to the candidate whose message it heard.
 pub(crate) fn join_and_defer(
     alloc: Global,
     me: &Me,
@@ -232,7 +232,8 @@ pub(crate) fn join_and_defer(
     })
 }
 
-/// It wins, and leads those who deferred to it in the next epoch.
+/// The monitor wins, and leads those that deferred to it, in the next epoch. `Spent` names that epoch if it would pass
+/// 2^62.
 pub(crate) fn win(
     alloc: Global,
     stored: &Stored<'_>,

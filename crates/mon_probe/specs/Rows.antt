@@ -28,7 +28,7 @@ abbrev pub is_rung : Timer → Bool
 is_rung timer.Probe = true
 is_rung t = false
 
--- what a prober answers
+-- the inputs of a prober
 abbrev pub is_input : Input → Bool
 is_input input.Start = false
 is_input (input.Deliver m) = is_told m.body

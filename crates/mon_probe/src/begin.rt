@@ -25,7 +25,7 @@ use mon_tx::Transaction;
 use mon_types::{Epoch, Moment, RankSet, Which};
 use std::alloc::Global;
 
-/// The prober that knows of itself alone.
+/// The prober's state that counts this monitor alone.
 fn alone(me: &Me) -> Prober
     ensures { result ≡ record { outside = only me.now.member.rank } }
 {
@@ -44,7 +44,7 @@ fn probes(alloc: Global, me: &Me, epoch: Epoch) -> Result<Items<Sent>, OutOfMemo
     Ok(out)
 }
 
-/// It asks all others.
+/// The plan that sends a PROBE to all others, and arms `Probe`.
 fn ask(alloc: Global, me: &Me, epoch: Epoch, now: Moment) -> Result<Plan<Prober>, OutOfMemory>
     ensures { IfOk result (λ p. p ≡ record {
       tx = [];
@@ -66,7 +66,7 @@ fn ask(alloc: Global, me: &Me, epoch: Epoch, now: Moment) -> Result<Plan<Prober>
     })
 }
 
-/// It leads its map, in which it is alone.
+/// The plan of a monitor alone in its map: it puts the epoch, and wins it.
 fn lead(alloc: Global, me: &Me, epoch: Epoch) -> Result<Plan<Prober>, OutOfMemory>
     ensures plan { IfOk result (λ p. p ≡ record {
       tx = spelled (ToEpoch epoch ∷ []);
@@ -90,10 +90,9 @@ fn lead(alloc: Global, me: &Me, epoch: Epoch) -> Result<Plan<Prober>, OutOfMemor
     })
 }
 
-/// What a prober does if its monitor bootstraps, after the earlier acts of the event: the epoch is the one that the
-/// store then has, and the map is that of before. A monitor of several asks the others. One that is alone, may lead and
-/// isn't marked wins the next even epoch; one that is alone otherwise waits. `Spent` names that epoch if and only if it
-/// would pass 2^62.
+/// What a prober does if its monitor bootstraps. `epoch` is the epoch after the earlier acts of the event, and `kv` is
+/// the store before the event. A monitor of several asks the others. One that is alone wins the next even epoch if it
+/// may lead and isn't marked; otherwise it waits. `Spent` names that epoch if it would pass 2^62.
 pub fn enter(
     alloc: Global,
     kv: &Kv,

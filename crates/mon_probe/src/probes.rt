@@ -13,7 +13,7 @@ use mon_plan::{message, planned, stay};
 use mon_tx::Transaction;
 use mon_types::{Rank, RankSet, Version};
 
-/// Another monitor asks how far this one is, and in which quorum.
+/// Another monitor asks which versions this one keeps, and in which quorum it is. A marked monitor doesn't answer.
 pub(crate) fn hear_probe(here: &Here<'_>, from: Rank) -> Result<Plan<Prober>, RoleStop>
     ensures plans { (now : ℕ) → ByRow here.now now (hear_probe here.now.me.now from) result }
     ensures leaves { IfOk result (λ p. Leaves here.now.view.now.phase p.next p.tx) }
@@ -37,7 +37,8 @@ pub(crate) fn hear_probe(here: &Here<'_>, from: Rank) -> Result<Plan<Prober>, Ro
     })
 }
 
-/// Another monitor says how far it is, and in which quorum.
+/// Another monitor reports which versions it keeps, and in which quorum it is. A monitor that probes then copies its
+/// store, calls an election, or notes it and waits for more.
 pub(crate) fn hear_probe_reply(
     here: &Here<'_>,
     from: Rank,

@@ -14,7 +14,7 @@ use mon_plan::Stored;
 use mon_types::{Epoch, RankSet, Version};
 use std::alloc::Global;
 
-/// How many versions a monitor may lack that joins an election.
+/// How many versions a monitor may lack and still join an election.
 const LAG: u64 = 10;
 
 /// Whether a monitor in this phase probes.
@@ -24,21 +24,22 @@ pub(crate) fn is_probing(phase: Phase) -> bool
     matches!(phase, Phase::Probing)
 }
 
-/// Whether a last version is one that the interrupted copy may end with.
+/// Whether the interrupted copy may end with a last version: it is at least 1, and not below the floor.
 pub(crate) fn reaches_floor(stored: &Stored<'_>, last: Version) -> bool
     ensures { result ≡ (nat_le 1 last && nat_le (readings_of stored.now).floor last) }
 {
     1 <= last.get() && stored.floor().get() <= last.get()
 }
 
-/// Whether another monitor doesn't keep the version any more that this one lacks first.
+/// Whether another monitor's first version is after this one's last one, and isn't the first of all. The other monitor
+/// may then not keep all that this one lacks.
 pub(crate) fn is_cut_off(stored: &Stored<'_>, first: Version) -> bool
     ensures { result ≡ (nat_lt (readings_of stored.now).last first && nat_lt 1 first) }
 {
     stored.last().get() < first.get() && 1 < first.get()
 }
 
-/// Whether the monitor lacks more versions than one may that joins an election.
+/// Whether the monitor lacks more than `LAG` of the versions up to `last`.
 pub(crate) fn is_behind(stored: &Stored<'_>, last: Version) -> bool
     ensures { result ≡ nat_lt ((readings_of stored.now).last + 10) last }
 {
@@ -66,7 +67,7 @@ fn is_marked(alloc: Global, kv: &Kv) -> bool
     Stored::of(alloc, kv).is_marked()
 }
 
-/// Whether a monitor that is alone in its map may lead it.
+/// Whether a monitor that is alone in its map may lead: the rule allows it, and no full synchronization is under way.
 pub(crate) fn may_lead(alloc: Global, kv: &Kv, me: &Me) -> bool
     ensures { result ≡ (allows me.now.rule me.now.member.rank && not (readings_of kv.now).marked) }
 {
