@@ -7,13 +7,14 @@ ghost use Rattle.election_rules.specs.Form.{IsTable};
 ghost use Rattle.election_rules.specs.Table.{start_scores, scored, raised, lowered, merged};
 ghost use Rattle.election_rules.specs.Ranking.{outranks, IsStrictTotalOrder};
 
-/// By each rule and each table, of any two ranks exactly one outranks the other, and no chain of such leads back.
+/// Under every rule and table, exactly one of two different ranks outranks the other, and there is no cycle of ranks of
+/// which each outranks the next one.
 pub fn law_total_order()
     ensures { (rule : Rule) (n : ℕ) (table : Scores) → IsStrictTotalOrder (outranks rule n table) }
 {}
 
-/// A table among `n` monitors begins and stays one: no score passes the full one, the counts stay within 2^62, and
-/// nothing is known of a rank outside the map.
+/// A table among `n` monitors begins well-formed, and stays so when it is updated or merged: no score is above the full
+/// one, the counts stay within 2^62, and no row of a rank outside the map was ever reported.
 pub fn law_table_stays()
     ensures begins { (n own boot : ℕ) → own < n → n ≤ 15 → boot ≤ 2 ^ 62 → IsTable n own (start_scores own boot) }
     ensures alive { (n own x seconds : ℕ) (table : Scores) → x < n → IsTable n own table → IsTable n own (scored (raised seconds) x table) }

@@ -9,8 +9,8 @@ pub const FULL: u32 = 1_000_000;
 /// The seconds of unbroken connection that halve what a score lacks.
 pub const HALF_LIFE: u64 = 43_200;
 
-/// What one monitor says of its connections to the others. Of two copies of a monitor's row the newer one has the
-/// greater pair of boot count and count of updates.
+/// One monitor's scores of its connections to the others. Of two copies of a monitor's row, the newer one has the
+/// greater boot count, or the same one and the greater count of updates.
 #[derive(Clone, Copy, PartialEq, Eq)]
 pub struct Row {
     /// How many times the monitor had started when it made this row.

@@ -3,7 +3,7 @@ ghost use Rattle.election_rules.specs.Ranking.{allows};
 
 use mon_types::{Rank, RankSet};
 
-/// By what an election ranks its candidates. In each case the lower rank decides last.
+/// How an election ranks its candidates. Under each rule the lower rank decides last.
 #[derive(Clone, Copy, Debug, PartialEq, Eq)]
 pub enum Rule {
     /// By rank alone.

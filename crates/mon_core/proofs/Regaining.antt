@@ -24,8 +24,8 @@ use Rattle.mon_event.specs.Events.{IsCarried, IsUnderWay, Reaches, remembering}
 use Rattle.mon_event.specs.State.{state_of}
 use Rattle.mon_event.specs.declared.event.Event.{Event}
 
--- What a role has taken out of what its monitor remembers isn't missed: a plan puts in what the role remembers then,
--- wherever the monitor stands by then and whatever it has written.
+-- A role's part may be taken out of what its monitor remembers: a plan puts the role's new state in, whatever the
+-- monitor's phase is by then and whatever it has written.
 abbrev pub Regains : {S : Type 0} → (put : S → State → State) → (whole left : State) → Type 0
 Regains {S} put whole left = (s : S) (n : Next) (cs : List Change) (x : Course) → x.state ≡ whole →
     remembering put s (changed cs (stands n (record x { state = left }))) ≡ remembering put s (changed cs (stands n x))

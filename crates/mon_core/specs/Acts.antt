@@ -26,7 +26,8 @@ abbrev pub KeepsAll : Store → List Op → Type 0
 KeepsAll m tx = let after = readings_of (apply tx m) in
     after ≡ record (readings_of m) { epoch = after.epoch; boot = after.boot }
 
--- what an act reads of the store before the event is what the event left
+-- What an act needs of its event. An act that reads the store from before the event needs the event to keep what the
+-- store's readers return, except for the epoch and the count of starts.
 abbrev pub MayAct : Me → Store → Event → Next → Type 0
 MayAct me m e next.Stay = Unit {0}
 MayAct me m e next.Electing = Unit {0}
@@ -43,11 +44,11 @@ MayAct me m e (next.Begin value o) =
 abbrev pub Leads : State → Type 0
 Leads s = s.phase ≡ phase_of s.leader.stage
 
--- so it stays with an active leader, whichever role's state is replaced
+-- the stage of an active leader stays its phase when this role's state is replaced
 abbrev pub LeadsOn : {S : Type 0} → (put : S → State → State) → Type 0
 LeadsOn {S} put = (x : S) (s : State) → s.phase ≡ phase.Active → Leads s → Leads (put x s)
 
--- after which no other act comes in the same event
+-- after this act no other one follows in the same event
 abbrev pub IsLast : Next → Type 0
 IsLast next.Stay = Unit {0}
 IsLast (next.Win quorum) = Unit {0}
@@ -59,7 +60,7 @@ IsLast (next.FullSync from) = ⊥
 IsLast (next.RecentSync from) = ⊥
 IsLast (next.Begin value o) = ⊥
 
--- the act is done, from wherever the event has come
+-- a call does the act, whatever the event has done before
 abbrev pub Acts : Me → Store → (now : ℕ) → (old : Event) → Next → (new : Event) → Result Unit RoleStop → Type 0
 Acts me m now old n new result = (x : Course) → IsUnderWay (readings_of m) old x →
     Reaches (readings_of m) (act me now n x) new result

@@ -14,7 +14,7 @@ use Rattle.mon_wire.specs.declared.request.Service.{Service}
 use Rattle.svc_core.specs.Cache.{known_once_read}
 use Rattle.svc_core.specs.declared.cache.Known.{Known}
 
--- a client that asks for a map is shown it
+-- whether a client that asks for a map is shown it
 abbrev pub is_shown : Me → (now : ℕ) → Readings → State → Bool
 is_shown me now w s = is_member s.phase && readable w.last me.member.monitors (lease_of s) now
 
@@ -23,17 +23,18 @@ asks_map service.Kv (request.Show service.Kv) = true
 asks_map service.Log (request.Show service.Log) = true
 asks_map s r = false
 
--- the map of this service is asked for
+-- whether an input asks for the map of this service
 abbrev pub asks_for : Service → Input → Bool
 asks_for s (input.Client session r) = asks_map s r
 asks_for s input.Start = false
 asks_for s (input.Deliver m) = false
 asks_for s (input.Timer t) = false
 
--- What is known of a service by then: one whose map is shown is read, and no other input makes one known.
+-- What is known of a service after an input, before the event's changes: a map that is shown is read first, and no
+-- other input makes a map known.
 abbrev pub known_by_then : Me → (now : ℕ) → Readings → State → Input → Service → Option Known → Option Known
 known_by_then me now w st came s k = if is_shown me now w st && asks_for s came then known_once_read w s k else k
 
--- a map is asked for
+-- whether an input asks for a map
 abbrev pub asks_any_map : Input → Bool
 asks_any_map came = asks_for service.Kv came || asks_for service.Log came

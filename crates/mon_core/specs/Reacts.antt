@@ -34,7 +34,7 @@ pub record IsReaction (old new : Monitor) (m : Store) (now : ℕ) (came : Input)
       (known old.cache s))
   pub follows : Follows new.cache (readings_of (apply r.tx m))
 
--- or it names the number that runs out; or memory ran out
+-- A core's answer is the reaction, or names the number that runs out, or reports that memory ran out.
 abbrev pub Reacts : (old new : Monitor) → Store → (now : ℕ) → Input → Result Reaction RoleStop → Type 0
 Reacts old new m now came (Ok r) = IsReaction old new m now came r
 Reacts old new m now came (Err stop.OutOfMemory) = Unit {0}

@@ -32,17 +32,17 @@ pub record IsFor (me : Me) (r : Role) (came : Input) : Type 0 where
   pub role : role_of came ≡ Some r
   pub comes : may_come me.member.monitors came ≡ true
 
--- such an event has the wanted result
+-- an event that has just begun reaches the wanted course
 abbrev pub ReachesFrom : Store → (old : Event) → (Course → Result Course Which) → (new : Event) →
     Result Unit RoleStop → Type 0
 ReachesFrom m old wanted new result =
     Reaches (readings_of m) (wanted (at_rest (readings_of m) (state_of old.state))) new result
 
--- to the protocol's row
+-- such an event reaches the protocol's row of an input
 abbrev pub AnswersRow : Me → Store → (now : ℕ) → (old : Event) → Input → (new : Event) → Result Unit RoleStop → Type 0
 AnswersRow me m now old came new result = ReachesFrom m old (row me (shared_entries m) now came) new result
 
--- to what the protocol says
+-- such an event reaches the protocol's reaction to an input
 abbrev pub AnswersInput : Me → Store → (now : ℕ) → (old : Event) → Input → (new : Event) → Result Unit RoleStop → Type 0
 AnswersInput me m now old came new result =
     ReachesFrom m old (λ x. react me (shared_entries m) now x.readings x.state came) new result

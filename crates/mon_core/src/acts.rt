@@ -10,7 +10,7 @@ use mon_plan::Here;
 use mon_tx::Transaction;
 use mon_types::{Rank, RankSet};
 
-/// A monitor alone in its quorum map may have won as it began again, and leads.
+/// Leads, if the monitor won as it began again, because it is alone in its quorum map.
 fn lead_alone(here: &Here<'_>, event: &mut Event, next: Next) -> Result<(), RoleStop>
     requires last { IsLast next }
     requires may { MayAct here.now.me.now here.now.kv.now event.old next }

@@ -9,7 +9,8 @@ use mon_bytes::OutOfMemory;
 use mon_tx::{Op, Transaction, is_at};
 use std::alloc::Global;
 
-/// Most transactions are no longer than this, and put no key twice. Of a longer one it isn't looked at pair by pair.
+/// Up to this many changes, all pairs are compared to see whether a key is put twice. Most transactions are no longer,
+/// and put no key twice.
 const SHORT: usize = 32;
 
 /// Whether a change puts a key.
@@ -55,7 +56,8 @@ fn are_put_once(ops: &[Op]) -> bool
     true
 }
 
-/// The transaction with each key put once. A short one that is so already stays as it is, and takes no memory.
+/// The transaction with each key put once. A short one that puts no key twice is returned as it is, and takes no
+/// memory.
 #[tactic(auto, using(crate::proofs::PutOnce::joined_once))]
 pub(crate) fn joined(alloc: Global, tx: Transaction) -> Result<Transaction, OutOfMemory>
     ensures { IfOk result (λ joined_tx. joined_tx ≡ joined tx) }

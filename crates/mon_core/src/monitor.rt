@@ -85,7 +85,7 @@ fn played(
     }
 }
 
-/// The reaction to an input in an event that has just begun. Another may begin from what it leaves.
+/// The reaction to an input, in an event that has written and sent nothing yet. The event is so again afterwards.
 fn react_to(
     here: &Here<'_>,
     cache: &mut Cache,
@@ -108,7 +108,7 @@ fn react_to(
     Ok(Reaction { tx, out })
 }
 
-/// Nothing is left of an event that was broken off, nor of what its monitor remembered.
+/// Drops an event that was broken off, and all that its monitor remembered. The monitor is then one that isn't started.
 fn forget(alloc: Global, me: &Me, event: &mut Event)
     ensures { IsReady me.now event.new }
 {
@@ -140,15 +140,15 @@ impl Core {
         self.event.state.phase
     }
 
-    /// The timer that comes next, and its time: the one set for the least time, and of several the first kind. `None`
-    /// if and only if no timer is set.
+    /// The timer that fires next, and its time. It is the one set for the least time, and of several the first kind.
+    /// `None` if and only if no timer is set.
     pub fn due(&self) -> Option<(Timer, Moment)>
         ensures { result ≡ due self.now.state.timers }
     {
         self.event.state.timers.due()
     }
 
-    /// The map of a service that the core keeps, and `None` if and only if it isn't known. It takes no memory.
+    /// The map of a service that the core keeps, or `None` if and only if the core doesn't know it. It takes no memory.
     pub fn cached(&self, service: Service) -> Option<&ShownMap>
         ensures { option_copied result ≡ option_map (λ k. k.map) (known self.now.cache service) }
     {
@@ -158,8 +158,8 @@ impl Core {
     /// Returns what the monitor does at an input at a time, in milliseconds: the protocol's reaction. `kv` is the
     /// monitor's store, and the maps of the services that the core keeps have to be those of this store. They are those
     /// of the store again once the caller applied the transaction. A message, a session's number and a value must be
-    /// within their limits; then so is all that is written or sent. `Spent` is returned if and only if that number
-    /// would pass 2^62. After a `CoreStop` the core must not be used again.
+    /// within their limits; then so is all that is written or sent. `Spent` names a number that would pass 2^62. After
+    /// a `CoreStop` the core must not be used again.
     pub fn react(
         &mut self,
         alloc: Global,

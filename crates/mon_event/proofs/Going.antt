@@ -62,7 +62,7 @@ says_all old new ms e = λ w x h. record {
 pub sends : (old new : Event) (ms : List Sent) → new ≡ record old { out = old.out ++ ms } → Goes old new (sending ms)
 sends old new ms e = λ w x h. along w new (say ms x) (sending ms x) (sym (sending-is ms x)) (says_all old new ms e w x h)
 
--- what is done before and after a role gets its new state carries its plan out
+-- a plan is carried out by what is done before and after the role gets its new state
 pub carries : {S : Type 0} (is : S → Course → Course) (e begun set ended : Event) (p : Plan S)
     → ((cs : List Change) → AllByRecursion Fits cs → p.tx ≡ spelled cs → Goes e begun (λ x. changed cs (stands p.next x)))
     → Goes begun set (is p.state) → Goes set ended (λ x. sending p.out (arm_all p.timers x)) → ended.tx ≡ e.tx ++ p.tx

@@ -24,17 +24,17 @@ pub record IsUnderWay (w : Readings) (e : Event) (x : Course) : Type 0 where
   pub out : e.out ≡ x.out
   pub state : state_of e.state ≡ x.state
 
--- an event goes on as a course does that takes this step
+-- the event goes on as a course that takes this step
 abbrev pub Goes : (old new : Event) → (Course → Course) → Type 0
 Goes old new step = (w : Readings) (x : Course) → IsUnderWay w old x → IsUnderWay w new (step x)
 
--- The event matches the course if the protocol has come this far.
+-- The event matches the wanted course, which doesn't run out of numbers.
 pub record IsReached (w : Readings) (wanted : Result Course Which) (e : Event) : Type 0 where
   pub course : Course
   pub wanted_is : wanted ≡ Ok course
   pub under_way : IsUnderWay w e course
 
--- it does, or it names the number that runs out; or memory ran out
+-- An event reaches the wanted course, or names the number that runs out, or memory ran out.
 abbrev pub Reaches : Readings → Result Course Which → Event → Result Unit RoleStop → Type 0
 Reaches w wanted e (Ok done) = IsReached w wanted e
 Reaches w wanted e (Err stop.OutOfMemory) = Unit {0}
@@ -42,7 +42,7 @@ Reaches w wanted e (Err (stop.Spent which)) = wanted ≡ Err which
 
 -- ---- plans
 
--- a role's state is replaced, where `put` sets what the monitor remembers
+-- the course with a role's state replaced, by `put` in what the monitor remembers
 abbrev pub remembering : {S : Type 0} → (S → State → State) → S → Course → Course
 remembering put s x = record x { state = put s x.state }
 

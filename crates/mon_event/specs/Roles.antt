@@ -11,7 +11,7 @@ use Rattle.mon_wire.specs.declared.request.Request.{Request}
 use Rattle.mon_event.specs.declared.role.Role.TheVariants as role
 use Rattle.mon_event.specs.declared.role.Role.{Role}
 
--- what clients and monitors say to each other is nothing among monitors
+-- The role that hears a message. None hears a request or a reply, which go between clients and monitors.
 abbrev pub hearer : Body → Option Role
 hearer body.Probe = Some role.Prober
 hearer (body.ProbeReply quorum first last) = Some role.Prober
@@ -52,7 +52,7 @@ woken_by timer.Step = role.Requester
 woken_by timer.Propose = role.Clients
 woken_by timer.Ping = role.Elector
 
--- a map is shown by the core itself
+-- The role that answers a client's request. A request for a map has none: the core itself shows it.
 abbrev pub helper : Request → Option Role
 helper (request.Set key value) = Some role.Clients
 helper (request.Remove key) = Some role.Clients

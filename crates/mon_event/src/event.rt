@@ -90,7 +90,7 @@ impl Event {
         Ok(())
     }
 
-    /// From now on the monitor is in this phase.
+    /// Enters a phase.
     pub fn enter_phase(&mut self, phase: Phase)
         ensures goes { Goes self.old self.new (in_phase phase) }
         ensures written { self.new.tx ≡ self.old.tx }
@@ -98,7 +98,7 @@ impl Event {
         self.state.enter_phase(phase);
     }
 
-    /// From now on the monitor is in this phase, and forgets who waits.
+    /// Enters a phase, and forgets the clients and commands that wait.
     pub fn start_over(&mut self, alloc: Global, phase: Phase)
         ensures goes { Goes self.old self.new (λ x. forget_clients (in_phase phase x)) }
         ensures written { self.new.tx ≡ self.old.tx }
@@ -107,7 +107,7 @@ impl Event {
         self.state.forget_clients(alloc);
     }
 
-    /// From now on the monitor follows this leader in this quorum, without a lease.
+    /// Enters the phase of a peon that follows this leader in this quorum, without a lease.
     fn follow(&mut self, leader: Rank, quorum: RankSet)
         ensures goes { Goes self.old self.new
             (λ x. peon_is (record { leader = leader; quorum = quorum; lease = None }) (in_phase phases.Peon x)) }
@@ -117,7 +117,8 @@ impl Event {
         self.state.follow(leader, quorum);
     }
 
-    /// Puts the monitor in the state that the act of a plan names, before the plan's timers are set.
+    /// Enters the phase that a plan itself names, before the plan's timers are set. The other acts enter theirs when
+    /// they are done.
     fn stand(&mut self, alloc: Global, next: &Next)
         ensures goes { Goes self.old self.new (stands next.now) }
         ensures written { self.new.tx ≡ self.old.tx }
@@ -135,7 +136,7 @@ impl Event {
         }
     }
 
-    /// The part of a plan that precedes the role's new state.
+    /// Does the part of a plan that precedes the role's new state: the phase, and then the transaction.
     fn begin(&mut self, alloc: Global, next: &Next, tx: Transaction) -> Result<(), OutOfMemory>
         ensures goes { OnOk result ((cs : List Change) → AllByRecursion Fits cs → tx ≡ spelled cs
             → Goes self.old self.new (λ x. changed cs (stands next.now x))) }
@@ -146,7 +147,7 @@ impl Event {
         Ok(())
     }
 
-    /// The part of a plan that follows the role's new state.
+    /// Does the part of a plan that follows the role's new state: the timers, and then what is sent.
     fn end(
         &mut self,
         alloc: Global,
@@ -161,7 +162,7 @@ impl Event {
         Ok(())
     }
 
-    /// Carries out a role's plan, and answers the act that the plan names. After an `Err` the event isn't used again.
+    /// Carries out a role's plan, and returns the act that the plan names. After an `Err` the event isn't used again.
     pub fn carry_out<S: RoleState>(
         &mut self,
         alloc: Global,

@@ -14,7 +14,7 @@ pub trait RoleState: Drop + Sized {
     /// What the monitor remembers once the role remembers this.
     ghost put: { Self → Remembered → Remembered };
 
-    /// From now on the role remembers this.
+    /// Replaces the role's part of what the monitor remembers.
     fn put_in(self, state: &mut State)
         ensures { state_of state.new ≡ put self (state_of state.old) };
 }

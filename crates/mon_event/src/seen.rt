@@ -19,7 +19,7 @@ use mon_plan::Stored;
 use mon_types::{Moment, Rank, RankSet};
 use std::alloc::Global;
 
-/// The leader of its quorum, or itself.
+/// The leader that a peon follows, and otherwise the monitor itself.
 fn leader_of(me: &Me, state: &State) -> Rank
     ensures { result ≡ leader_of me.now.member.rank (state_of state.now) }
 {
@@ -30,7 +30,7 @@ fn leader_of(me: &Me, state: &State) -> Rank
     }
 }
 
-/// The quorum that it is in, or nobody.
+/// The quorum that the monitor is in, or the empty set.
 fn quorum_of(state: &State) -> RankSet
     ensures { result ≡ quorum_of (state_of state.now) }
 {
@@ -43,7 +43,7 @@ fn quorum_of(state: &State) -> RankSet
     RankSet::empty()
 }
 
-/// Its lease, or none.
+/// The lease of a monitor that leads or follows, or none.
 fn lease_of(state: &State) -> Lease
     ensures { result ≡ lease_of (state_of state.now) }
 {
@@ -56,7 +56,7 @@ fn lease_of(state: &State) -> Lease
     Lease::none()
 }
 
-/// Whether its lease is valid, or it is alone.
+/// Whether the monitor's lease is valid, or the monitor is alone in its map.
 fn is_standing(me: &Me, state: &State, now: Moment) -> bool
     ensures { result ≡ is_standing me.now now (state_of state.now) }
 {

@@ -90,7 +90,7 @@ fn first_requester(rank: Rank) -> Requester
     }
 }
 
-/// Nobody waits.
+/// The clients' state in which nobody waits and no forwarded command was taken.
 fn no_clients(alloc: Global) -> Clients
     ensures { result ≡ no_clients }
 {
@@ -113,7 +113,7 @@ fn phase_of(stage: LeaderStage) -> Phase
     }
 }
 
-/// A leader's stage is its phase.
+/// The phase of a monitor that gets a leader's state with this stage. If it leads, the phase is the stage.
 fn phase_as(stage: LeaderStage, phase: Phase) -> Phase
     ensures { result ≡ phase_as stage phase }
 {
@@ -151,8 +151,7 @@ impl State {
         }
     }
 
-    /// From now on the monitor is in this phase. If that is another one than before, all timers but the one that
-    /// pings are disarmed.
+    /// Enters a phase. If the monitor wasn't in it already, all timers but `Ping` are disarmed.
     pub fn enter_phase(&mut self, phase: Phase)
         ensures { state_of self.new ≡ record (state_of self.old) {
           phase = phase;
@@ -165,14 +164,14 @@ impl State {
         self.phase = phase;
     }
 
-    /// The monitor forgets who waits.
+    /// Forgets the clients and commands that wait, and which forwarded commands were taken.
     pub fn forget_clients(&mut self, alloc: Global)
         ensures { state_of self.new ≡ record (state_of self.old) { clients = no_clients } }
     {
         self.clients = no_clients(alloc);
     }
 
-    /// Takes out what is remembered of clients. Nobody waits then.
+    /// Takes out what is remembered of clients, and leaves the state before any client asked.
     pub fn take_clients(&mut self, alloc: Global) -> Clients
         ensures taken { result ≡ (state_of self.old).clients }
         ensures left { state_of self.new ≡ record (state_of self.old) { clients = no_clients } }
@@ -180,7 +179,7 @@ impl State {
         mem::replace(&mut self.clients, no_clients(alloc))
     }
 
-    /// Takes out what is remembered as a leader. What is left has never led.
+    /// Takes out what is remembered as a leader, and leaves the state of a monitor that has never led.
     pub fn take_leader(&mut self) -> Leader
         ensures taken { result ≡ (state_of self.old).leader }
         ensures left { state_of self.new ≡ record (state_of self.old) { leader = start_leader } }
@@ -188,7 +187,7 @@ impl State {
         mem::replace(&mut self.leader, first_leader())
     }
 
-    /// From now on the monitor follows this leader in this quorum, without a lease.
+    /// Replaces what is remembered as a peon: the monitor follows this leader in this quorum, without a lease.
     pub fn follow(&mut self, leader: Rank, quorum: RankSet)
         ensures { state_of self.new ≡
             record (state_of self.old) { peon = record { leader = leader; quorum = quorum; lease = None } } }
@@ -200,7 +199,7 @@ impl State {
         };
     }
 
-    /// From now on the monitor leads so, in the phase of that stage.
+    /// Replaces what is remembered as a leader. If the monitor leads, it enters the phase of the leader's stage.
     pub fn lead(&mut self, leader: Leader)
         ensures { let p = phase_as leader.stage self.old.phase in
             state_of self.new ≡ record (state_of self.old) {
@@ -221,7 +220,7 @@ impl State {
         !self.clients.queue.is_empty()
     }
 
-    /// Does what a plan does with timers.
+    /// Arms and disarms timers, in order.
     pub fn set_timers(&mut self, armings: &[Arming])
         ensures { state_of self.new ≡
             record (state_of self.old) {

@@ -33,7 +33,7 @@ fn index_of(kind: Timer) -> usize
     kind as usize
 }
 
-/// The sooner of a timer and of the soonest of the kinds after it. At the same time the timer comes first.
+/// The sooner of a timer and the soonest timer of a later kind. If both have the same time, it is the first one.
 fn sooner(
     kind: Timer,
     end: Option<Moment>,
@@ -55,7 +55,7 @@ fn sooner(
 }
 
 impl Timers {
-    /// None is armed.
+    /// No timer is armed.
     pub fn unarmed() -> Timers
         ensures { result ≡ unarmed }
     {
@@ -78,14 +78,14 @@ impl Timers {
         self.end_of(kind).is_some()
     }
 
-    /// From now on the timer isn't armed.
+    /// Disarms a timer.
     pub fn disarm(&mut self, kind: Timer)
         ensures { self.new ≡ disarmed kind self.old }
     {
         self.ends[index_of(kind)] = None;
     }
 
-    /// Only the one that pings stays.
+    /// The timers without all but `Ping`, which stays as it is.
     pub fn only_ping(&self) -> Timers
         ensures { result ≡ only_ping self.now }
     {
@@ -94,8 +94,8 @@ impl Timers {
         only
     }
 
-    /// Whether arming sets a timer. The one that proposes is set only if a command waits. The one that awaits
-    /// acknowledgements of a lease is set only if it isn't armed: a leader that nobody answers awaits them no longer.
+    /// Whether arming sets a timer. `Propose` is set only if a command waits. `LeaseAck` is set only if it isn't armed,
+    /// so that a leader that gives leases again doesn't wait longer for acknowledgements.
     fn is_needed(&self, waits: bool, kind: Timer) -> bool
         ensures { result ≡ is_needed waits kind self.now }
     {
@@ -128,7 +128,7 @@ impl Timers {
         }
     }
 
-    /// Does what a plan does with timers, in order. `waits` says whether a command waits.
+    /// Arms and disarms timers, in order. `waits` says whether a command waits.
     #[tactic(auto, using(crate::proofs::Setting::set_next, crate::proofs::Setting::set_end))]
     pub fn set_all(&mut self, waits: bool, armings: &[Arming])
         ensures { self.new ≡ all_armed waits armings.now self.old }
@@ -138,7 +138,7 @@ impl Timers {
         }
     }
 
-    /// The timer that comes next, and its time: the one armed for the least time, and of several the first kind.
+    /// The timer that fires next, and its time. It is the one armed for the least time, and of several the first kind.
     pub fn due(&self) -> Option<(Timer, Moment)>
         ensures { result ≡ due self.now }
     {
