@@ -1,4 +1,4 @@
-//! What a monitor takes.
+//! Inputs of a monitor in a short form, and what they are made of.
 
 use crate::given::{number, value, values};
 use mon_bytes::{Bytes, Command, Entry, Items, KeyPlace, Text};
@@ -9,7 +9,8 @@ use mon_types::{Epoch, Rank, RankSet};
 use std::alloc::Global;
 use std::test::Fail;
 
-/// What comes to a monitor: a message of another one, with its numbers as a trace has them, a timer, or a client's request.
+/// An input of a monitor: a message of another one, with its numbers as a trace has them, a timer, or a client's
+/// request.
 #[derive(Clone, Copy)]
 pub(crate) enum Comes {
     Probe,
@@ -32,7 +33,7 @@ pub(crate) enum Comes {
     Cookie(bool, u64),
     /// The keys up to `kv/7` of a copy that began with version 12.
     Chunk,
-    /// Its end: version 13 erases `kv/5`, and 14 puts `kv/10`.
+    /// The end of that copy: version 13 erases `kv/5`, and 14 puts `kv/10`.
     LastChunk,
     /// A command to log one byte, under this number.
     Forward(u64),
@@ -96,7 +97,7 @@ fn meanwhile(alloc: Global) -> Result<Items<Transaction>, Fail> {
     Ok(values)
 }
 
-/// After the key `kv/7`.
+/// The place after the key `kv/7`.
 fn behind_seven(alloc: Global) -> Result<KeyPlace, Fail> {
     let prefix = Area::Kv.prefix(alloc)?;
     let key = Key::Version(7).name(alloc)?;
@@ -159,7 +160,7 @@ fn forward(alloc: Global, seq: u64) -> Result<Body, Fail> {
     })
 }
 
-/// What another monitor says.
+/// The body of a message. A timer and a client's request have none.
 fn body(alloc: Global, comes: Comes) -> Result<Body, Fail> {
     match comes {
         Comes::Probe => Ok(Body::Probe),
@@ -199,7 +200,7 @@ fn body(alloc: Global, comes: Comes) -> Result<Body, Fail> {
     }
 }
 
-/// What comes to a monitor, from another one if it is a message.
+/// The input in full. A message is from the monitor of rank `from`, in this epoch.
 pub(crate) fn input(
     alloc: Global,
     me: &Me,

@@ -14,7 +14,7 @@ use mon_types::{GREATEST, Member, Number, Rank, RankSet};
 use std::alloc::Global;
 use std::test::Fail;
 
-/// That number, or else the greatest.
+/// The number `n`, or the greatest number if `n` is above it.
 pub(crate) fn number<K: Copy>(n: u64) -> Number<K> {
     Number::known(n.min(GREATEST))
 }
@@ -85,7 +85,7 @@ pub(crate) fn may_come(me: &Me, input: &Input) -> bool
     }
 }
 
-/// What puts these numbers.
+/// The transaction that puts these numbers.
 fn puts(alloc: Global, numbers: &[(Area, Key, u64)]) -> Result<Transaction, Fail> {
     let mut tx = Transaction::new(alloc);
     for (area, key, n) in numbers {

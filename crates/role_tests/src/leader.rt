@@ -106,7 +106,7 @@ fn planned(
     Some(begin(alloc, &site.kv, &site.me, &site.role, value, &origin, now))
 }
 
-/// It begins the value of a client's command.
+/// Begins the value of a client's command, and checks the plan against `wanted`.
 fn command(
     rt: &impl Abort,
     alloc: Global,

@@ -164,7 +164,7 @@ fn a_leader_that_collects_is_told(rt: HostRuntime) -> Result<(), Fail> {
     Ok(())
 }
 
-/// What spoils two records.
+/// The changes that make the records of versions 2 and 4 empty, and so no transactions.
 fn spoils(alloc: Global) -> Result<Transaction, Fail> {
     let mut tx = Transaction::new(alloc);
     tx.put(Area::Paxos, Key::Version(2), Bytes::new(Vec::new(alloc)))?;

@@ -39,7 +39,7 @@ impl Role for Prober {
         ))
     }
 
-    /// Whether it knows of another one that is in no quorum.
+    /// Reports whether the monitor knows of another one outside a quorum.
     fn remembers(&self) -> &'static str {
         if self.outside.to_bits() == 2 {
             "alone"

@@ -74,7 +74,7 @@ fn providing(kv: Kv) -> Site<Provider> {
     }
 }
 
-/// No cookie is given.
+/// The report of a provider that gives monitor 2 no cookie.
 const REFUSED: &str = "send 1 0>2 NO_COOKIE e=1 cookie=0.0;";
 
 #[test]

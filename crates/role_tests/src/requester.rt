@@ -80,7 +80,7 @@ fn entered(rt: &impl Abort, alloc: Global, kv: Kv) -> Result<Site<Requester>, Fa
     )
 }
 
-/// What it does first that takes a whole copy.
+/// What a requester does first if it takes a whole copy, as a trace reports it.
 const ASKS: &str = "store 7;send 1 1>0 GET_COOKIE_FULL e=7;cookie";
 
 /// A store in epoch 7 with the versions 1 to 4, and version 5 accepted under 302.
@@ -138,14 +138,14 @@ fn a_copy_that_was_stopped_begins_again(rt: HostRuntime) -> Result<(), Fail> {
     Ok(())
 }
 
-/// The store that it leaves if it stops.
+/// The store of a requester that stops.
 fn stored_by(site: Site<Requester>) -> Kv {
     let Site { kv, role, .. } = site;
     drop(role);
     kv
 }
 
-/// A copy that goes on to its end, and what its store then holds.
+/// Takes a copy to its end. Returns which keys its store then has, and the epoch, the promise and the last version.
 fn ended(
     rt: &impl Abort,
     alloc: Global,

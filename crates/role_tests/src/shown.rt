@@ -12,7 +12,7 @@ use std::fmt::Write;
 use std::test::Fail;
 use trace_text::{Numbered, Outcome, Replied, Replies, StepLine, trace_line};
 
-/// Puts what the monitor of this rank sends or answers. Each message has the number 1.
+/// Adds what the monitor of this rank sends to the messages or to the replies. Each message has the number 1.
 fn put(
     own: Rank,
     sent: &mut Items<Numbered>,
@@ -33,7 +33,7 @@ fn put(
     }
 }
 
-/// This many changes, with what the monitor of this rank sends and answers.
+/// The step of a trace with this many changes, and with what the monitor of this rank sends and answers.
 fn step_of(alloc: Global, own: Rank, ops: u32, out: Items<Sent>) -> Result<StepLine, Fail> {
     let mut sent = Items::new(alloc);
     let mut replies = Replies::new(alloc);
@@ -54,7 +54,7 @@ fn event() -> Event {
     Event::Plain(Plain::Deliver { message: 1, at })
 }
 
-/// The lines of a trace that report this, after the line of an event.
+/// The lines of a trace that report such a step, after the line of an event.
 fn traced(alloc: Global, own: Rank, ops: u32, out: Items<Sent>) -> Result<Vec<u8>, Fail> {
     let step = step_of(alloc, own, ops, out)?;
     let event = event();
@@ -64,7 +64,7 @@ fn traced(alloc: Global, own: Rank, ops: u32, out: Items<Sent>) -> Result<Vec<u8
     Ok(lines?)
 }
 
-/// What comes next.
+/// The act that a plan names, as text. It is empty if there is none.
 fn act(next: Next) -> &'static str {
     let act = match &next {
         Next::Stay => "",
@@ -81,7 +81,7 @@ fn act(next: Next) -> &'static str {
     act
 }
 
-/// The lines after the first one, with a semicolon after each, and this text.
+/// The lines after the first one, with a semicolon after each, and then the act and what is remembered.
 fn joined(alloc: Global, lines: &[u8], act: &str, remembers: &str) -> Result<String, Fail> {
     let lines = str::from_utf8(lines)?;
     let mut text = String::new(alloc);
@@ -92,7 +92,7 @@ fn joined(alloc: Global, lines: &[u8], act: &str, remembers: &str) -> Result<Str
     Ok(text)
 }
 
-/// The changes are made to a store; how many they are.
+/// Makes the changes of a transaction to a store, and returns how many they are.
 fn made(kv: &mut Kv, tx: &Transaction) -> Result<u32, Fail> {
     kv.apply(tx)?;
     Ok(u32::try_from(tx.ops().len())?)

@@ -14,14 +14,14 @@ use std::test::Fail;
 
 /// A role, as its tests drive it.
 pub(crate) trait Role: Sized + Drop {
-    /// What it does at an input, at the time 7; `None` if the input isn't one of its own.
+    /// The role's plan for an input, at the time 7, or `None` if the input isn't one of the role's.
     fn plan(
         alloc: Global,
         site: &Site<Self>,
         input: &Input,
     ) -> Option<Result<Plan<Self>, RoleStop>>;
 
-    /// What a test is given of what it remembers.
+    /// The part of the role's state that a test checks, as text.
     fn remembers(&self) -> &'static str;
 }
 
@@ -36,7 +36,7 @@ pub(crate) struct Site<R: Drop> {
     pub(crate) role: R,
 }
 
-/// What it does, if it has a plan, or else why not.
+/// What a role plans, or why it has no plan. `None` if the input isn't one of the role's.
 type Planned<R> = Option<Result<Plan<R>, RoleStop>>;
 
 fn planned<R: Role>(
@@ -51,8 +51,8 @@ fn planned<R: Role>(
     Ok(planned)
 }
 
-/// A plan of the monitor of this rank is carried out over its store: what it then remembers, reported with what was
-/// done.
+/// Carries out a plan of the monitor of this rank over its store. Returns the role's new state, and the report of what
+/// was done.
 fn carried<R: Role>(
     alloc: Global,
     own: Rank,
@@ -71,7 +71,7 @@ fn carried<R: Role>(
     Ok((state, text))
 }
 
-/// A monitor in a role that begins with a plan, after it was carried out; `wanted` is what is expected of it.
+/// Carries out the plan with which a monitor begins its role. `wanted` is the expected report.
 pub(crate) fn begun<R: Role>(
     rt: &impl Abort,
     alloc: Global,
@@ -93,14 +93,14 @@ pub(crate) fn begun<R: Role>(
     })
 }
 
-/// A plan of a monitor that was in this role before is carried out, and reported.
+/// Carries out a plan of a monitor that was in this role before. Returns the report.
 fn carried_on<R: Role>(alloc: Global, site: &mut Site<R>, plan: Plan<R>) -> Result<String, Fail> {
     let (role, text) = carried(alloc, site.me.member.rank, &mut site.kv, plan)?;
     site.role = role;
     Ok(text)
 }
 
-/// A plan of a monitor that was in this role before is carried out; `wanted` is what is expected of it.
+/// Carries out a plan of a monitor that was in this role before. `wanted` is the expected report.
 pub(crate) fn done<R: Role>(
     rt: &impl Abort,
     alloc: Global,
@@ -113,7 +113,7 @@ pub(crate) fn done<R: Role>(
     Ok(site)
 }
 
-/// What is done at one input.
+/// Carries out what the role plans at one input. Returns the report, or why there is no plan.
 fn heard<R: Role>(
     alloc: Global,
     site: &mut Site<R>,
@@ -127,10 +127,10 @@ fn heard<R: Role>(
     }
 }
 
-/// What comes to a monitor of this one, or otherwise from itself, and what it does then.
+/// The rank of the sender, which counts for a message only; the input; and the expected report.
 pub(crate) type Row<'a> = (u8, Comes, &'a str);
 
-/// A monitor that does what is listed, one input after the other.
+/// Gives a monitor the inputs one after the other, and checks each report.
 pub(crate) fn all_are<R: Role>(
     rt: &impl Abort,
     alloc: Global,
