@@ -44,7 +44,7 @@ pub data Role : Type 0 where
   -- a peon of v versions, which accepted no value for a version above p, with its lease or without
   Following : (v p : ℕ) → (leased : Bool) → (sessions : List Asked) → (seq : ℕ) → Role
 
--- what a monitor does is what one does of which this is known
+-- a monitor does the same from all states of which the same is known
 pub as_seen : (me : Me) (sh : List Entry) (came : Input) (w v : Readings) (s t : State) (r : Result Course Which)
     → w ≡ v → s ≡ t → react me sh 0 v t came ≡ r → react me sh 0 w s came ≡ r
 as_seen me sh came w v s t r e f h = (λ i. react me sh 0 (e i) (f i) came) ∙ h

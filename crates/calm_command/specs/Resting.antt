@@ -1,5 +1,5 @@
--- A run that rests after commands that came one after the other: all that it hands to the next command. It is calm, and
--- more is said of what each monitor remembers and keeps.
+-- When a run rests after commands that came one after the other. Such a run is calm. The definition also says what each
+-- monitor remembers and keeps, as the proof about the next command needs it.
 use Rattle.std.specs.Prelude.{◌≡◌, ℕ, zero, suc, ◌+◌, ◌<◌, ◌≤◌, Bool, true, false, List, [], length, slice_index_or, Option, Some, None}
 use Rattle.std.specs.List.{range_with_len}
 use Rattle.log_copies.specs.Versions.{HasVersions}
@@ -25,7 +25,7 @@ firsts (suc k) = with_rank (firsts k) k
 
 -- ---- what a monitor remembers
 
--- an active leader of all n, whose lease these acknowledged, and which took these seqs
+-- an active leader of all n, whose lease `acks` acknowledged, and which took the commands up to these numbers
 pub record Leads (n : ℕ) (acks : List Bool) (taken : List ℕ) (s : State) : Type 0 where
   pub phase : s.phase ≡ phase.Active
   pub quorum : s.leader.quorum ≡ firsts n
@@ -36,7 +36,7 @@ pub record Leads (n : ℕ) (acks : List Bool) (taken : List ℕ) (s : State) : T
   pub sessions : s.clients.sessions ≡ []
   pub took : s.clients.taken ≡ taken
 
--- a peon of monitor 0, of which these sessions wait, and which hands on the next command under this seq
+-- a peon of monitor 0, at which these sessions wait, and which forwards the next command under the number `seq`
 pub record Follows (n : ℕ) (leased : Bool) (sessions : List Asked) (seq : ℕ) (s : State) : Type 0 where
   pub phase : s.phase ≡ phase.Peon
   pub leader : s.peon.leader ≡ 0
@@ -52,9 +52,8 @@ Remembers n taken seq (suc i) s = Follows n true [] (seq (suc i)) s
 
 -- ---- what it keeps
 
--- the first v versions of the log, in epoch 2; it accepted no value for a version above p, and no value that it
--- keeps is
--- longer than a transaction may be
+-- A store with the first v versions of the log, in epoch 2. It has accepted no value for a version above p, and none of
+-- its values is longer than a transaction may be.
 pub record Stored (log : List (List ℕ)) (v p : ℕ) (m : Store) : Type 0 where
   pub versions : HasVersions log v m
   pub epoch : (readings_of m).epoch ≡ Some 2
@@ -78,7 +77,7 @@ pub record RestsAt (n : ℕ) (log : List (List ℕ)) (taken : List ℕ) (seq : �
 pub record IsResting (ms : Monitors) (cs : List Order) (events : List Event) : Type 0 where
   pub goes_on : (ran ms events).stop ≡ None
   pub once : numbers_delivered events ≡ range_with_len 1 (length (run ms events).messages)
-  -- the last seq that the leader took from each peon, and the next one that the peon gives
+  -- the last number that the leader took from each peon, and the next one that the peon gives
   pub taken : List ℕ
   pub seq : ℕ → ℕ
   pub places : length taken ≡ 15

@@ -6,8 +6,9 @@ ghost use Rattle.quorum_model.specs.Monitors.{Monitors};
 ghost use Rattle.quorum_model.specs.World.{Event};
 ghost use Rattle.calm_command.specs.Resting.{IsResting};
 
-/// Let a run rest (`IsResting`). With one more command at any monitor and all deliveries that follow, it is a run that
-/// rests, in which the command got the reply that is due. A run that rests is calm.
+/// Let a run rest (`IsResting`) after at most 100,000 commands. With one more command at any monitor, and all
+/// deliveries that follow, the run rests again, and the command got its reply. A run of at least one monitor that rests
+/// is calm.
 pub fn law_calm_command()
     ensures next { (ms : Monitors) (cs : List Order) (events : List Event) → IsResting ms cs events
         → length cs ≤ 100000 → (c : Order) → c.0 < ms.count → IsCommand c.1

@@ -207,8 +207,8 @@ get_at (x ∷ old) rest m = get_at old rest m
 
 -- ---- deliveries
 
--- The deliveries from message k on, of which `most` are allowed: nothing stops them, they are `count` messages in
--- order, and this shows then.
+-- At most `most` deliveries from message k on: nothing stops them, they deliver `count` messages in order, and the
+-- world then shows S, `out` and `told`.
 pub record Ends (ms : Monitors) (log : List (List ℕ)) (most k : ℕ) (w : World) (count : ℕ) (S : ℕ → Place)
     (out : List Envelope) (told : List Said) : Type 0 where
   pub last : World
@@ -289,7 +289,8 @@ taken ms log (m ∷ q) f count S U old tail sent told said w fine H then_ends =
     rw (z, y) (ends_more ms log (length q + f) (suc (length old)) w C.next (length q + count) U sent said le
     C.happened (rw l at ih))
 
--- from S, with q waiting: all that is sent is `after`, it ends in T with `done` said
+-- The deliveries from S, while the messages q wait, end in T. All that is sent from then on is `after`, and all that is
+-- replied is `done`.
 abbrev pub Settles : Monitors → List (List ℕ) → (ℕ → Place) → List Envelope → List Envelope → (ℕ → Place)
     → List Said → Type 0
 Settles ms log S q after T done =

@@ -152,7 +152,8 @@ flat_when p x (suc k) z up = rw (flat_when p x k z (λ j lt. up j (omega arith))
 
 -- ---- a threshold
 
--- one monitor waits in W k, until p; then it is in Z, and has sent x and said y
+-- One monitor waits, in the state W k after k blocks, until p is true. It is then in the state Z, and has sent x and
+-- replied y.
 pub threshold : {L M R : Type 0} (r : L → M → Took L M R) (n : ℕ) (b : ℕ → List M) (p : ℕ → Bool) (W : ℕ → L)
     (Z : L) (x : List M) (y : List R) → Rises n p
     → ((k : ℕ) → k < n → p k ≡ false → all_of r (b k) (W k) ≡ cond (p (suc k)) (did Z x y) (did (W (suc k)) [] []))

@@ -1,4 +1,5 @@
--- In no run of any monitors an event is one too many for a store that copies nothing and has no long value of its own.
+-- In every run of any monitors, a store that copies nothing and has no long value of its own has room for the next
+-- event.
 use Rattle.std.proofs.Common.{◌≡◌, ℕ, ◌≤◌, ◌<◌, ◌^◌, Bool, true, false, cond, ltb, List, length, Some, Result, Ok, Err, ◌⊎◌, inl, inr, refl, sym, ap, subst, ◌∙◌, arith}
 use Rattle.std.proofs.lemmas.Bool.{cases_order, eq-eqb, false≢true, le-ltb, ltb-true}
 use Rattle.mon_kv.specs.Readers.{size_of, most_size}

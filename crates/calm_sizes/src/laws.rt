@@ -15,8 +15,8 @@ ghost use Rattle.quorum_model.specs.Runs.{run};
 ghost use Rattle.quorum_model.specs.World.{Comes, Event, Plain};
 ghost use Rattle.calm_sizes.specs.Sizes.{OwnShort, longest};
 
-/// What a log of values leaves is small, however long the log is: at most 172,700,000 bytes. A store that shares what the first versions
-/// of a log leave is never full, if no value of the monitor's own is longer than a transaction may be.
+/// The fold of a log of values is small, however long the log is: at most 172,700,000 bytes. A store whose shared part
+/// is such a fold is never full, if no value of the monitor's own is longer than a transaction may be.
 pub fn law_never_full()
     ensures fold { (log : List (List ℕ)) → length log ≤ 2 ^ 62 → AllValues log → (c : ℕ) → c ≤ length log
         → size_of (fold log c) ≤ 172700000 }
@@ -24,8 +24,9 @@ pub fn law_never_full()
         → (m : Store) → shared m ≡ fold log c → OwnShort longest m → size_of m ≤ most_size }
 {}
 
-/// In every run of any monitors under any rule, crashes included, no event finds the store full at a monitor that is in no full
-/// synchronization afterwards and has no value of its own that is longer than a transaction may be.
+/// In every run of any monitors under any rule, crashes included, no event finds a monitor's store full, if two things
+/// hold after the event: the monitor is in no full synchronization, and no value of its own is longer than a
+/// transaction may be.
 pub fn law_goes_on()
     ensures { (ms : Monitors) (events : List Event) → AllFit ms.count events → (p : Plain) → PlainFits ms.count p
         → (i : ℕ) (came : Input) (r : Reaction) → meets ms (run ms events) p ≡ Reacts i came (Ok r)

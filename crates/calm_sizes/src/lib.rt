@@ -1,4 +1,4 @@
-//! How large stores get: one that holds a log's versions isn't full if what it holds of its own is short.
+//! How large stores get: a store with a log's versions isn't full if each of the monitor's own values is short.
 #![tactic(auto)]
 
 mod laws;

@@ -192,7 +192,7 @@ module _ (log : List (List ℕ)) (fits : length log ≤ 2 ^ 62) (all : AllValues
         (says_each me (epoch_of y.readings) (body.Lease y.readings.last) (members me y.state.leader.quorum) (within K)
         (says_each me (epoch_of y.readings) (body.Commit v (value ∷ [])) (members me y.state.leader.quorum) (V, tt) K))))
 
-    -- whoever's quorum isn't itself alone
+    -- a monitor that isn't alone in its quorum
     pub begins : (s : LeaderStage) (value : List Op) (o : Option Origin) (x : Course) → is_empty (members me x.state.leader.quorum) ≡ false → Has x → Then Has (begin me now s value o x)
     unfolding begin begin_with
     begins s value o x several H =

@@ -59,7 +59,7 @@ use Rattle.log_copies.proofs.Rows.{branch}
 use Rattle.log_copies.proofs.Sending.{ReplyTells, BodyTells, AllTell, more_tell, each_tells}
 
 module _ (log : List (List ℕ)) (me : Me) (several : 1 < me.member.monitors) (now : ℕ) where
-  -- what was sent so far is the log's
+  -- the parts of the log in what was sent so far are the log's
   record TellsAll (out : List Sent) : Type 0 where
     tells : AllTell log out
 

@@ -35,8 +35,8 @@ pub record Continues (log : List (List ℕ)) (p : ChunkPlace) (y : KeyPlace) (va
 abbrev pub IsOpen : KeyPlace → Type 0
 IsOpen x = is_past x (place area.Paxos key.FirstCommitted) ≡ true
 
--- A chunk carries a copy on up to its last entry, and one that isn't the last leaves something after it. The last one carries
--- it to the end.
+-- A chunk carries a copy on up to its last entry, and if it isn't the last chunk, some keys follow that entry. The last
+-- chunk carries the copy to its end.
 abbrev pub ChunkOf : List (List ℕ) → Body → Type 0
 ChunkOf log (body.Chunk cookie p values entries done) =
     Continues log p (after_entries entries p.key) values entries × (IsOpen p.key → (done ≡ false) × IsOpen (after_entries entries p.key))

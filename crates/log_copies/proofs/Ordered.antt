@@ -1,4 +1,4 @@
--- What is found at the front of a list of entries in order, and what the entries make of an empty map.
+-- What is found in a prefix of a list of entries in order, and what the entries make of an empty map.
 use Rattle.std.proofs.Common.{◌≡◌, ℕ, Bool, true, false, not, ◌&&◌, cond, List, [], ◌∷◌, ◌++◌, map, Option, Some, None, Less, Equal, Greater, T, refl, sym, ap, subst, ◌∙◌}
 use Rattle.std.specs.declared.cmp.Ordering.{Ordering}
 use Rattle.std.specs.FinMap.{get, get-empty, empty, find, is_sorted}
@@ -59,7 +59,7 @@ past_first : (f : Pair) (es : List Pair) → T (is_sorted place_cmp (f ∷ es)) 
 past_first f es h = all_map (λ (e : Pair). place_cmp f.0 e.0 ≡ Less) (λ (e : Pair). is_past (key_place.After f.0.0 f.0.1) e.0 ≡ true) (λ e lt. ap is_lt lt) es (below_each f.0 es (first _ _ h))
 
 module _ (rest : List Pair) where
-  -- where the front ends is not before the place where it begins
+  -- the place after a prefix is not before the place where it begins
   pub onward : (fs : List Pair) (x : KeyPlace) → T (is_sorted place_cmp (fs ++ rest)) → AllPast x (fs ++ rest) → (at : Place) → is_past (after_entries (map entry_of fs) x) at ≡ true → is_past x at ≡ true
   onward [] x sorted past at h = h
   onward (f ∷ fs) x sorted past at h =
@@ -83,7 +83,7 @@ module _ (rest : List Pair) where
   none_in true = refl
   none_in false = refl
 
-  -- what is found in the front is what is found in the whole, between the two places
+  -- what is found in a prefix is what is found in the whole list, between the two places
   pub find_front : (fs : List Pair) (x : KeyPlace) → T (is_sorted place_cmp (fs ++ rest)) → AllPast x (fs ++ rest) → (at : Place)
       → find place_cmp at fs ≡ cond (between x (after_entries (map entry_of fs) x) at) (find place_cmp at (fs ++ rest)) None
   find_front [] x sorted past at = nothing_between (is_past x at) (find place_cmp at rest)

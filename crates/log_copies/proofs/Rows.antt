@@ -202,7 +202,7 @@ module _ (log : List (List ℕ)) (fits : length log ≤ 2 ^ 62) (all : AllValues
 
   -- ---- a leader
 
-  -- besides, its quorum isn't itself alone
+  -- the leader isn't alone in its quorum
   abbrev pub Leads : Course → Type 0
   Leads x = OnLog x × HasOthers me x.state.leader.quorum
 

@@ -1,5 +1,5 @@
--- Whatever comes to a monitor of the log, and wherever it crashes, leaves it one; what it sends is the log's; and all of this lasts when
--- the log grows. What is needed besides is said by the parts of the invariant about elections, numbers and values.
+-- A monitor of the log stays one, whatever comes to it and whenever it crashes. What it sends is the log's. All of this
+-- lasts when the log grows. Other parts of the invariant, about elections, numbers and values, give the other premises.
 use Rattle.std.proofs.Common.{◌≡◌, ℕ, zero, suc, ◌≤◌, ◌<◌, ◌^◌, true, false, List, [], ◌∷◌, length, IfSome, ◌⊎◌, inl, inr, Ok, refl, sym, ap, subst, ◌∙◌, arith}
 use Rattle.mon_tx.specs.declared.op.Op.{Op}
 use Rattle.mon_tx.specs.Decode.{ops_in}
@@ -52,12 +52,12 @@ Agrees log m s = OnLog log m ⊎ TakesCopy log m s
 
 -- ---- what comes
 
--- what it sends of the log has the form of what monitors send
+-- what a message has of the log is the log's
 abbrev pub InputTells : List (List ℕ) → Input → Type 0
 InputTells log (input.Deliver d) = BodyTells log d.body
 InputTells log other = Unit {0}
 
--- and this is said by other parts of the invariant
+-- what other parts of the invariant say of a message
 abbrev pub BodyStands : List (List ℕ) → Me → Readings → State → (f : ℕ) → Body → Type 0
 BodyStands log me w s f body.Ack = votes s.phase ≡ true → is_even (epoch_of w) ≡ false → is_whole me (with_rank s.elector.acked f) ≡ true → HasOthers me (with_rank s.elector.acked f)
 BodyStands log me w s f (body.Last pn first last whole from values pending) = from ≤ suc w.last

@@ -68,7 +68,8 @@ pub record Situated (me : Me) (w : Readings) (s : State) : Type 0 where
   pub elects : same_phase s.phase phase.Electing ≡ true → is_majority me.member.monitors s.elector.acked ≡ true → HasOthers me s.elector.acked
   pub recent : same_phase s.phase phase.Synchronizing ≡ true → IsRecent w s.requester
 
--- Told values are the log's, in order; and so is the leader's own value, once its whole quorum accepted it.
+-- Values in messages are the log's, in order. The leader's own value is the log's next one, once its whole quorum
+-- accepted it.
 abbrev pub BodyFits : List (List ℕ) → Me → Readings → State → (f : ℕ) → Body → Type 0
 BodyFits log me w s f body.Ack = votes s.phase ≡ true → is_even (epoch_of w) ≡ false → is_whole me (with_rank s.elector.acked f) ≡ true → HasOthers me (with_rank s.elector.acked f)
 BodyFits log me w s f (body.Last pn first last whole from values pending) = (from ≤ suc w.last) × AreVersions log from values

@@ -22,7 +22,8 @@ use Rattle.mon_msg.specs.declared.view.Me.{Me}
 use Rattle.log_copies.specs.Copies.{is_own}
 use Rattle.log_copies.specs.Versions.{HasVersions, behind}
 
--- the keys of the services and of the log, which a full synchronization gives up when it begins
+-- Whether a key is of a service's or the log's area. A full synchronization gives up the shared keys of these when it
+-- begins.
 abbrev pub is_given_up : Place → Bool
 is_given_up at = bytes_eq at.0 (area_text area.Kv) || (bytes_eq at.0 (area_text area.Logm) || bytes_eq at.0 (area_text area.Paxos))
 
@@ -32,7 +33,8 @@ IsShaped m = (at : Place) → is_own at ≡ false → is_given_up at ≡ false �
 
 -- ---- what may come
 
--- the chunk that a monitor of the log gives, among n monitors, for a place that it has reached
+-- A body is the chunk that a monitor of the log, among n monitors, gives for a place. Its own last version isn't below
+-- the place's.
 pub record IsGiven (log : List (List ℕ)) (n : ℕ) (b : Body) : Type 0 where
   pub last : ℕ
   pub store : Store
@@ -42,7 +44,7 @@ pub record IsGiven (log : List (List ℕ)) (n : ℕ) (b : Body) : Type 0 where
   pub reached : place.version ≤ last
   pub is : b ≡ chunk last cookie place (filter (is_after place.key) (shared_entries store)) n (readings_of store).record_of
 
--- cookies and chunks are of such monitors; whatever else comes may
+-- Cookies and chunks come from monitors of the log. Any other message may come.
 abbrev pub MayCome : List (List ℕ) → ℕ → Body → Type 0
 MayCome log n (body.Cookie full cookie last) = last ≤ length log
 MayCome log n (body.Chunk cookie p values entries done) = IsGiven log n (body.Chunk cookie p values entries done)
@@ -59,8 +61,8 @@ InputMayCome log n other = Unit {0}
 abbrev pub written : Store → Course → Store
 written m x = behind x.changes m
 
--- The store and the memory of a monitor, whose store was `before` when it began to synchronize, after further events as long as it is
--- marked: whatever comes to it, and whenever it crashes.
+-- The store and the memory of a monitor after it began a full synchronization with the store `before`. Any inputs may
+-- follow while the store is marked, and the monitor may crash at any time, which loses its memory.
 pub data Synchronizes (log : List (List ℕ)) (me : Me) (before : Store) : Store → State → Type 0 where
   begins : (now from : ℕ) (s : State) (x : Course) → full_sync me now from (at_rest (readings_of before) s) ≡ x
       → Synchronizes log me before (written before x) x.state
@@ -71,7 +73,7 @@ pub data Synchronizes (log : List (List ℕ)) (me : Me) (before : Store) : Store
 
 -- ---- what it leaves
 
--- the numbers that it promised, and its epoch, are as they were
+-- the last proposal number, the promise and the epoch are as they were
 pub record SameNumbers (before after : Readings) : Type 0 where
   pub last_pn : after.last_pn ≡ before.last_pn
   pub promise : after.promise ≡ before.promise

@@ -17,7 +17,7 @@ pub record HasVersions (log : List (List ℕ)) (c : ℕ) (m : Store) : Type 0 wh
   pub last : number m area.Paxos key.LastCommitted ≡ c
   pub folded : shared m ≡ fold log c
 
--- the values of this many versions of a log from version v on
+-- the values of `count` versions of a log, from version v on
 abbrev pub values_from : List (List ℕ) → (v count : ℕ) → List (List Op)
 values_from log v count = map (λ u. ops_in (entry log u)) (range_with_len v count)
 
@@ -25,7 +25,8 @@ values_from log v count = map (λ u. ops_in (entry log u)) (range_with_len v cou
 abbrev pub behind : List Change → Store → Store
 behind cs m = apply (joined (spelled cs)) m
 
--- a change of the monitor's own, where it has c versions: its numbers, its epoch, its starts, and a vote for the next version
+-- A change of the own keys of a monitor that has c versions: its numbers, its epoch, its count of starts, or a vote for
+-- version c + 1.
 abbrev pub IsOwnChange : ℕ → Change → Type 0
 IsOwnChange c (Boot n) = Unit {0}
 IsOwnChange c (Epoch e) = Unit {0}

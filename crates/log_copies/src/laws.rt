@@ -18,18 +18,18 @@ ghost use Rattle.log_copies.specs.Copies.{IsFuzzyCopy, catch_up, shared_with_rec
 ghost use Rattle.log_copies.specs.Synchronizing.{IsShaped, Synchronizes, IsSynchronized};
 ghost use Rattle.log_copies.specs.Versions.{HasVersions, values_from, behind, IsOwnChange};
 
-/// A copy that caught up is the log's fold. Let a store be copied while its log of values went from one version to
-/// another. The copy to which the versions between are applied is the log's fold up to the last of them, except for a
+/// A copy that caught up is the log's fold. Let a store be copied while its log of values went from version s to
+/// version e. Once the versions after s up to e are applied to the copy, it is the log's fold at e, except for a
 /// monitor's own keys.
 pub fn law_caught_up()
     ensures { (log : List (List ℕ)) → length log ≤ 2 ^ 62 → AllValues log → (s e : ℕ) → s ≤ e → e ≤ length log → (copy : Store)
         → IsFuzzyCopy log s e key_place.Done copy → shared_with_records (catch_up log s e copy) ≡ fold log e }
 {}
 
-/// A monitor that has the first versions of a log of values, and learns the values of the next ones, has these too. One that has
-/// the whole log, and commits a value of a command that was made over what the log keeps, has the log with that version, which is a
-/// log of values again. Its own changes, a vote for the next version among them, leave it the versions. What it sends of its records
-/// from a version on are that version's value and the next ones.
+/// A monitor that has the first versions of a log of values, and learns the values of the next ones, has these versions
+/// too. Let a monitor have the whole log and commit a command's value that was made over what the log keeps. It then
+/// has the log with that version, which is again a log of values. A monitor's own changes, also a vote for the next
+/// version, don't change which versions it has. The values that it sends from a version on are the log's, in order.
 pub fn law_learned()
     ensures learned { (log : List (List ℕ)) → length log ≤ 2 ^ 62 → AllValues log → (c : ℕ) (m : Store) → HasVersions log c m
         → (count : ℕ) → suc c + count ≤ length log
@@ -44,12 +44,13 @@ pub fn law_learned()
         → run_from (readings_of m).record_of c (suc v) ≡ values_from log (suc v) (length (run_from (readings_of m).record_of c (suc v))) }
 {}
 
-/// A full synchronization of one monitor among several, from monitors of one log of values: however it is begun
-/// again, from whom it takes cookies and chunks, what else comes meanwhile and wherever the monitor crashes and
-/// starts: once the mark is gone, it is finished. The monitor then shares what the log's versions up to its last one
-/// make, it has reached what it had to reach when it began, and it has the promise, the last proposal number and the
-/// epoch from before. It begins at a store with no other keys than the monitor's own and those of the log and of the
-/// services: as every monitor of the log does, and as the synchronization itself leaves it.
+/// A full synchronization of one monitor among several, from monitors of one log of values, is finished once the mark
+/// is gone. This holds however often it begins again, from whichever monitors it takes cookies and chunks, whatever
+/// else comes, and whenever the monitor crashes and starts. When it is finished, the monitor's shared part is the log's
+/// fold at its last version. That version isn't below the floor from when the synchronization began. The promise, the
+/// last proposal number and the epoch are those from before. The store must have no other keys at first than the
+/// monitor's own and those of the log and of the services. The store of every monitor of the log is such a store, and
+/// so is what the synchronization leaves.
 pub fn law_synchronized()
     ensures finished { (log : List (List ℕ)) → length log ≤ 2 ^ 62 → AllValues log → (me : Me) → 1 < me.member.monitors → (before : Store)
         → IsShaped before → (after : Store) (s : State) → Synchronizes log me before after s → (readings_of after).marked ≡ false

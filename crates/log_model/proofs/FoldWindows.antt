@@ -79,7 +79,7 @@ view_is : (log : List (List ℕ)) (c : ℕ) → c ≤ 2 ^ 62 → view_at log c �
 unfolding joined
 view_is log c h = readings-joined (Last c ∷ []) (h, tt) (fold log c)
 
--- the last version isn't spoken of
+-- the number of the last version doesn't matter
 pub keeps_last : (log : List (List ℕ)) (c last : ℕ) (w : Readings) → Keeps log c w → Keeps log c (record w { last = last })
 keeps_last log c last w K = record { first = K.first; records = K.records; rows = K.rows }
 

@@ -11,7 +11,7 @@ use Rattle.mon_msg.specs.Puts.{put}
 use Rattle.mon_msg.specs.Fold.{entry, fold, put_in, incrementals}
 use Rattle.log_model.proofs.Lists.{length_push}
 
--- the one log begins with the other
+-- the second log begins with the first
 pub record Fronts (log more : List (List ℕ)) : Type 0 where
   pub short : length log ≤ length more
   pub same : (i : ℕ) → i < length log → get_or more i [] ≡ get_or log i []

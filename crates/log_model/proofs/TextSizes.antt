@@ -1,4 +1,4 @@
--- Every value has a text, in each of its spellings.
+-- Every value has a text, with its ranges encoded as ranges or one by one.
 use Rattle.std.proofs.Common.{◌≡◌, ℕ, zero, suc, ◌+◌, ◌-◌, ◌*◌, ◌<◌, ◌≤◌, ◌^◌, cond, eqb, leb, ltb, List, [], ◌∷◌, ◌++◌, length, map, IsTrue, refl, sym, ap, subst, ◌∙◌, arith, length-append}
 use Rattle.std.proofs.lemmas.Bool.{cond_both, and_parts, leb-true, ltb-true}
 use Rattle.std.specs.List.{AllByRecursion, flat_map, range_with_len, filter}

@@ -19,14 +19,14 @@ use Rattle.mon_msg.specs.Protocol.Changes.{erase}
 use Rattle.mon_msg.specs.Protocol.Value.{value}
 use Rattle.mon_msg.specs.Protocol.Readings.{Readings, readings_of}
 
--- what every command is made of
+-- A command's key is a name, and its value or text is UTF-8.
 abbrev pub IsCommand : Command → Type 0
 IsCommand (command.Set key value) = IsTrue (is_name key) × IsTrue (is_utf8 value)
 IsCommand (command.Remove key) = IsTrue (is_name key)
 IsCommand (command.Log text) = IsTrue (is_utf8 text)
 
--- Values that were made before there were ranges remove the versions one by one, in order. A log may have begun with such
--- values, so each range of a value may be encoded so.
+-- Values that were made before there were ranges erase versions one by one, in order. A log may have begun with such
+-- values, so each range of a value may also be encoded as erasures of its versions.
 abbrev pub one_by_one : Area → ℕ → ℕ → List Op
 one_by_one a from to = map (λ v. erase a (key.Version v)) (range_with_len from (to - from))
 
@@ -39,7 +39,8 @@ pub data IsOlder : List Op → List Op → Type 0 where
 abbrev pub view_at : List (List ℕ) → ℕ → Readings
 view_at log v = readings_of (apply_op (put_number area.Paxos key.LastCommitted v) (fold log v))
 
--- the changes are a value of a command that a monitor was asked, over what a store's readers return
+-- The changes are the value of a command that a monitor was asked, made over what a store's readers return. Each of its
+-- ranges may be encoded one by one.
 pub record IsValue (w : Readings) (older : List Op) : Type 0 where
   pub command : Command
   pub form : IsCommand command

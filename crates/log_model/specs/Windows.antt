@@ -19,21 +19,21 @@ use Rattle.mon_msg.specs.declared.limits.TheConstants.{FULL_EVERY, PAXOS_DUE, PA
 
 -- ---- which versions
 
--- The first version of a service that is kept, if it has n versions. Once as many lie after it as make a trim due,
--- `service_goes` are erased, and `service_keeps` lie after the new first one.
+-- The first kept version of a service that has n versions. When enough versions follow it for a trim, `SERVICE_GOES`
+-- versions are erased, and `SERVICE_KEEPS` then follow the new first one.
 abbrev pub service_from : ℕ → ℕ
 service_from n = SERVICE_GOES * ((n - suc SERVICE_KEEPS) / SERVICE_GOES) + 1
 
--- How many versions of the log are erased at a time. It is trimmed if more than `paxos_due` lie after the first one, and then
--- `paxos_keeps` do.
+-- How many versions of the log are erased at a time. The log is trimmed if more than `PAXOS_DUE` versions follow the
+-- first one. `PAXOS_KEEPS` versions then follow the new first one.
 abbrev pub log_goes : ℕ
 log_goes = suc PAXOS_DUE - PAXOS_KEEPS
 
--- The first version of the log that is kept, if it has c versions. A trim comes with a version, and counts those before it.
+-- The first kept version of a log that has c versions. A version's trim counts only the versions before it.
 abbrev pub log_from : ℕ → ℕ
 log_from c = log_goes * ((c - suc (suc PAXOS_KEEPS)) / log_goes) + 1
 
--- from one version up to another
+-- whether a version is at or after `from`, and before `to`
 abbrev pub within : ℕ → ℕ → ℕ → Bool
 within from to v = covers from to (key.Version v)
 
@@ -42,12 +42,13 @@ is_full v = v % FULL_EVERY == 0
 
 -- ---- what is kept
 
--- the bytes, if there is a version
+-- the bytes if there is a version, and nothing if there is none
 abbrev pub where_any : ℕ → List ℕ → Cell
 where_any zero bytes = None
 where_any (suc n) bytes = Some bytes
 
--- under each key of a service with n versions, by their incrementals and by the texts of the maps after them
+-- What a service with n versions keeps under each key. `incremental` and `full` give the bytes of a version's
+-- incremental and of the map after it.
 abbrev pub service_row : ℕ → (incremental full : ℕ → List ℕ) → Key → Cell
 service_row n incremental full key.FirstCommitted = where_any n (number_bytes (service_from n))
 service_row n incremental full key.LastCommitted = where_any n (number_bytes n)
@@ -59,11 +60,11 @@ service_row n incremental full other = None
 abbrev pub row_after : Service → List (List ℕ) → Key → Cell
 row_after s is = service_row (length is) (entry is) (λ v. map_text (map_after s (take v is)))
 
--- the record of a version, if the log has c
+-- the record of version v that is kept, if the log has c versions
 abbrev pub record_after : List (List ℕ) → ℕ → ℕ → Cell
 record_after log c v = if within (log_from c) (suc c) v then Some (entry log v) else None
 
--- which named keys there are
+-- whether the fold of a log of values may have a key
 abbrev pub is_kept_key : Area → Key → Bool
 is_kept_key area.Paxos key.FirstCommitted = true
 is_kept_key area.Paxos (key.Version v) = true
@@ -88,8 +89,8 @@ pub record Keeps (log : List (List ℕ)) (c : ℕ) (w : Readings) : Type 0 where
   pub records : (v : ℕ) → v ≤ c → w.record_of v ≡ record_after log c v
   pub rows : (s : Service) (k : Key) → w.row s k ≡ row_after s (incrementals s log c) k
 
--- What is shown of each service is what the first c versions of a log make of it, from nothing: its map, its version, and the
--- incrementals after version v, unless so old ones aren't kept any more.
+-- What a monitor shows of each service is what the first c versions of a log make of it: its map, its version, and the
+-- incrementals after version v. If these aren't all kept any more, the map is shown in their place.
 pub record Shows (log : List (List ℕ)) (c : ℕ) (w : Readings) : Type 0 where
   pub version : (s : Service) → service_last w s ≡ version_of_log s log c
   pub map : (s : Service) → read_map w s ≡ map_of_log s log c

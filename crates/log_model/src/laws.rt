@@ -19,9 +19,10 @@ ghost use Rattle.log_model.specs.LogOfValues.{AllValues, IsValue, LogOf};
 ghost use Rattle.log_model.specs.Windows.{Keeps, IsKeptKey, Shows};
 
 /// The fold of every log of values keeps the windows: the newest records of the log, and the newest incrementals and
-/// full maps of each service. It has no record above the last version. A store that kept them keeps them once it learns
-/// the next version. There are such logs of every length. A value over such a store has an encoding that is short
-/// enough to be proposed, and the versions before it with this encoding are again such a log.
+/// full maps of each service. It has no record above the last version. A store that keeps the windows still keeps them
+/// once it learns the next version. There are such logs of every length up to 2^62. A value over such a store has an
+/// encoding that is short enough to be proposed. The log's versions so far, with this encoding after them, are again a
+/// log of values.
 pub fn law_windows()
     ensures fold { (log : List (List ℕ)) → length log ≤ 2 ^ 62 → AllValues log → (c : ℕ) → c ≤ length log → Keeps log c (readings_of (fold log c)) }
     ensures above { (log : List (List ℕ)) → length log ≤ 2 ^ 62 → AllValues log → (c : ℕ) → c ≤ length log → (v : ℕ) → c < v
@@ -33,16 +34,15 @@ pub fn law_windows()
         → (value : List Op) → IsValue w value → HasText value × (length (text value) ≤ most_value) × AllValues (take c log ++ text value ∷ []) }
 {}
 
-/// A value has an encoding that is short enough to be proposed, whatever the store returns that it is made over, if
-/// the store can hold the next numbers.
+/// Over any store, a value has an encoding that is short enough to be proposed, if the store can hold the next numbers.
 pub fn law_proposed()
     ensures { (w : Readings) (value : List Op) (made : IsValue w value) → w.last ≤ 2 ^ 62 → suc (service_last w (service_of made.command)) ≤ 2 ^ 62
         → HasText value × (length (text value) ≤ most_value) }
 {}
 
-/// What monitors share along such a log. Its fold has keys of versions alone, of which none is a monitor's own or above that of
-/// the log's first version. A store that shares what the fold is keeps the windows, and shares the next fold once it learns the
-/// next version.
+/// What monitors of a log of values share. The log's fold has only keys of the log and of the services. None of them is
+/// a monitor's own, and none is above the key of the log's first version. A store whose shared part is the fold keeps
+/// the windows. Its shared part is the next fold once it learns the next version.
 pub fn law_shared()
     ensures keys { (log : List (List ℕ)) → length log ≤ 2 ^ 62 → AllValues log → (c : ℕ) → c ≤ length log → (at : Place) (bytes : List ℕ)
         → get (fold log c) at ≡ Some bytes → IsKeptKey at }
@@ -59,8 +59,8 @@ pub fn law_shared()
         ∷ (ops_in (entry log (suc c)) ++ put_number area.Paxos key.LastCommitted (suc c) ∷ [])) m) ≡ fold log (suc c) }
 {}
 
-/// What is shown of a service is what the log makes of it, however much was trimmed: its map, its version and its
-/// incrementals. A reply has the first of these, as many as fit, and says whether there are more.
+/// What a monitor shows of a service is what the log makes of it, however much was trimmed: its map, its version and
+/// its incrementals. A reply has the first of the incrementals, as many as fit, and reports whether there are more.
 pub fn law_shown()
     ensures kept { (log : List (List ℕ)) → length log ≤ 2 ^ 62 → AllValues log → (c : ℕ) → c ≤ length log → (w : Readings)
         → Keeps log c w → Shows log c w }

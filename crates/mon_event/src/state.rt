@@ -113,7 +113,8 @@ fn phase_of(stage: LeaderStage) -> Phase
     }
 }
 
-/// The phase of a monitor that gets a leader's state with this stage. If it leads, the phase is the stage.
+/// The phase of a monitor that gets a leader's state with this stage: the stage's if the monitor leads, and otherwise
+/// its own.
 fn phase_as(stage: LeaderStage, phase: Phase) -> Phase
     ensures { result ≡ phase_as stage phase }
 {

@@ -33,7 +33,7 @@ fn index_of(kind: Timer) -> usize
     kind as usize
 }
 
-/// The sooner of a timer and the soonest timer of a later kind. If both have the same time, it is the first one.
+/// The sooner of a timer and the soonest timer of a later kind. If their times are equal, it is the former.
 fn sooner(
     kind: Timer,
     end: Option<Moment>,
@@ -85,7 +85,7 @@ impl Timers {
         self.ends[index_of(kind)] = None;
     }
 
-    /// The timers without all but `Ping`, which stays as it is.
+    /// The same timers, with all but `Ping` disarmed.
     pub fn only_ping(&self) -> Timers
         ensures { result ≡ only_ping self.now }
     {
