@@ -59,7 +59,7 @@ module _ (me : Me) (now : ℕ) (At Bt : Course → Type 0) (wanted tail : Course
         ∙ (λ i. act me now (sym n i) (done-after cs h.changes p q x out timers state n i));
   }
 
--- a call that learns and fails fails as what follows the act
+-- if learning fails, the whole call fails in the same way
 pub learning-fails : (me : Me) (now : ℕ) (At : Course → Type 0) (v : ℕ) (values : List (List Op)) (more wanted : Course → Result Course Which) (e : RoleStop)
     → Learns v values (Err e) → ((x : Course) → At x → wanted x ≡ (learn v values x >>= more)) → Plans me now leads At (λ x. x) wanted (Err e)
 learning-fails me now At v values more wanted stop.OutOfMemory h same = tt

@@ -86,7 +86,7 @@ module _ (cs ds : List Change) (out ms : List Sent) (l new : Leader) (x : Course
 -- ---- calls that go on
 
 module _ (me : Me) (now : ℕ) (At : Course → Type 0) (d : Draft) (wanted : Course → Result Course Which) where
-  -- by the parts of the plan
+  -- a plan goes on with a draft if its parts are the draft's with the rest of the act's
   pub goes : (ds : List Change) → AllByRecursion Fits ds → (ms : List Sent) (armings : List Arming) (new : Leader)
       → ((y : Course) → At y → y.state.leader ≡ d.state → wanted y ≡ Ok (finish ds ms armings new y))
       → (p : Plan Leader) → p.tx ≡ d.tx ++ spelled ds → p.out ≡ d.out ++ ms → p.timers ≡ armings → p.state ≡ new → p.next ≡ next.Stay
@@ -105,14 +105,14 @@ module _ (me : Me) (now : ℕ) (At : Course → Type 0) (d : Draft) (wanted : Co
         ∙ sym (ap (λ n. act me now n (done leads (cs ++ ds) p x)) stays);
   }
 
-  -- what is wanted may be said otherwise
+  -- what is wanted may be replaced by what equals it
   pub otherwise : (other : Course → Result Course Which) → ((y : Course) → At y → y.state.leader ≡ d.state → wanted y ≡ other y)
       → (r : Result (Plan Leader) RoleStop) → GoesOn me now At d other r → GoesOn me now At d wanted r
   otherwise other same r h cs fits is =
       instead me now leads (λ x. At (under_way cs d.out d.state x)) (λ x. x) (λ x. other (under_way cs d.out d.state x)) (λ x. wanted (under_way cs d.out d.state x)) r
       (λ x b. same (under_way cs d.out d.state x) b refl) (h cs fits is)
 
-  -- by another call, once these changes were made and this was sent besides
+  -- another call may finish the act, from a draft with more changes made and more sent
   pub hands_on : (Bt : Course → Type 0) (e : Draft) (other : Course → Result Course Which) (ds : List Change) → AllByRecursion Fits ds → (ms : List Sent)
       → e.tx ≡ d.tx ++ spelled ds → e.out ≡ d.out ++ ms
       → ((y : Course) → At y → y.state.leader ≡ d.state → Bt (under_way ds ms e.state y))

@@ -22,13 +22,13 @@ led l x stage = kept-leader l (leader_is l x) stage refl
 
 module _ (me : Me) (now : ℕ) (Before : Course → Type 0) (wanted : Course → Result Course Which) (l : Leader)
     (stage : (x : Course) → Before x → is_leading x.state.phase ≡ true → phase_of l.stage ≡ x.state.phase) where
-  -- what the leader remembers stays, and an act may follow
+  -- a plan that leaves the leader's state as it is, and may name an act
   pub nothing_but : (n : Next) → ((x : Course) → stands n x ≡ x) → ((x : Course) → Before x → x.state.leader ≡ l) → ((x : Course) → Before x → wanted x ≡ act me now n x)
       → (p : Plan Leader) → p ≡ record { tx = []; out = []; timers = []; state = l; next = n } → Does me now leads Before (λ x. x) wanted p
   nothing_but n same role law p e =
       only_acts me now leads Before (λ x. x) wanted [] tt l (λ x b. kept-leader l x (stage x b) (role x b)) n same law p e
 
-  -- it remembers this, and timers are armed and disarmed
+  -- a plan that replaces the leader's state, and arms and disarms timers
   pub notes : (armings : List Arming) → ((x : Course) → Before x → wanted x ≡ Ok (x ▸ leader_is l ▸ arm_all armings))
       → (p : Plan Leader) → p ≡ record { tx = []; out = []; timers = armings; state = l; next = next.Stay } → Does me now leads Before (λ x. x) wanted p
   notes armings law p e =
@@ -36,7 +36,7 @@ module _ (me : Me) (now : ℕ) (Before : Course → Type 0) (wanted : Course →
       (λ x b. law x b ∙ ap (λ y. Ok (arm_all armings y)) (sym (led l x (stage x b))))
       p (ap (λ (p : Plan Leader). p.tx) e) (ap (λ (p : Plan Leader). p.out) e) (ap (λ (p : Plan Leader). p.timers) e) (ap (λ (p : Plan Leader). p.state) e) (ap (λ (p : Plan Leader). p.next) e)
 
--- a plan that only remembers
+-- a plan that only replaces the leader's state
 pub notes-is : (l : Leader) (y : Course) → phase_of l.stage ≡ y.state.phase → finish [] [] [] l y ≡ leader_is l y
 notes-is l y stage =
     sym (done-is [] (record { tx = []; out = []; timers = []; state = l; next = next.Stay }) y refl) ∙ led l y (λ _. stage)
@@ -53,6 +53,6 @@ pub stays_leaves : (at : Phase) (r : Result (Plan Leader) RoleStop) → IfOk r (
 stays_leaves at (Ok p) h = stay_leaves at p h
 stays_leaves at (Err e) h = tt
 
--- one that begins again has written nothing
+-- a plan that names a bootstrap has written nothing
 pub bootstrap_leaves : (at : Phase) (p : Plan Leader) → p.next ≡ next.Bootstrap → p.tx ≡ [] → Leaves at p.next p.tx
 bootstrap_leaves at p h none = subst (λ n. Leaves at n p.tx) (sym h) (inl none)

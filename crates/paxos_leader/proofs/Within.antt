@@ -1,4 +1,4 @@
--- What is so of each rank of a range.
+-- What holds of each rank in a range.
 use Rattle.std.proofs.Common.{◌≡◌, ◌≢◌, ℕ, zero, suc, ◌+◌, ◌≤◌, ◌<◌, Bool, true, false, not, ◌&&◌, ◌||◌, ◌==◌, List, filter, refl, sym, ap, ◌∙◌, arith, inl, inr}
 use Rattle.std.specs.List.{range_with_len, list_all}
 use Rattle.std.proofs.lemmas.Bool.{and_parts, cases_lt, cases_Bool}
@@ -24,7 +24,7 @@ not-all p a (suc n) j low high h = elim (cases_lt a j) [
   | inr le ↦ let same : a ≡ j = omega arith in ap (λ b. b && list_all p (range_with_len (a + 1) n)) (ap p same ∙ h)
 ]
 
--- all pass one test if and only if none is left by another
+-- all pass one test if and only if the opposite test keeps none
 none-left : (p q : ℕ → Bool) (a n : ℕ) → ((k : ℕ) → k < a + n → p k ≡ not (q k)) → list_all p (range_with_len a n) ≡ is_empty (filter q (range_with_len a n))
 none-left p q a zero same = refl
 none-left p q a (suc n) same =
@@ -39,7 +39,7 @@ has-only r k below small = elim (cases_Bool (k == r)) [
   | inr f ↦ (let other : k ≢ r = search (arith, nat_tests) in get_or-set_other no_ranks r k true false other ∙ get_or-replicate 15 k false false small ∙ sym f)
 ]
 
--- who are none but this one
+-- a set is within the set of rank r alone if and only if it has no other rank
 pub are-none : (r n : ℕ) (q : List Bool) → r < 15 → n ≤ 15 → are_within n q (only r) ≡ is_empty (filter (λ k. has q k && not (k == r)) (range_with_len 0 n))
 are-none r n q below small =
     none-left (λ k. not (has q k) || has (only r) k) (λ k. has q k && not (k == r)) 0 n

@@ -1,4 +1,4 @@
--- What is so of an event under way is so of what is known of it.
+-- What holds of an event under way at a peon also holds of what is known of the event.
 use Rattle.std.proofs.Common.{ℕ, List, subst}
 use Rattle.mon_msg.specs.Protocol.Changes.{Change, spelled}
 use Rattle.mon_msg.specs.Protocol.Course.{Course}

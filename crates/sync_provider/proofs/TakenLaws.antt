@@ -1,4 +1,5 @@
--- The longest run of entries that a chunk takes, from the longest that one takes with which some are left.
+-- The longest run of entries that a chunk takes, computed from the longest one that a chunk takes if further entries
+-- follow.
 use Rattle.std.proofs.Common.{◌≡◌, ℕ, zero, suc, ◌+◌, ◌-◌, ◌≤◌, ◌<◌, Bool, true, false, ◌&&◌, cond, leb, List, [], ◌∷◌, ◌++◌, length, map, take, drop, length-drop, refl, sym, ap, subst, ◌∙◌, ◌⊎◌, inl, inr, arith, append_assoc, append-nil, length-append}
 use Rattle.std.specs.Prelude.{sum_by}
 use Rattle.std.proofs.lemmas.Bool.{cases_lt, le-leb, lt-leb, leb-false}
@@ -64,7 +65,7 @@ onto test (y ∷ more) rest done passes ends =
 only_longest : {A : Type 0} (test : List A → Bool) (whole found : List A) → IsLongest test whole found → found ≡ longest test whole
 only_longest test whole found l = sym (ap (longest test) (sym l.begins) ∙ onto test found l.rest [] l.passes l.ends)
 
--- ---- a chunk with which no entry is left takes seven bytes more
+-- ---- a chunk after which no entry follows takes seven bytes more
 
 and_none : (a b : Bool) → b ≡ false → (a && b) ≡ false
 and_none true b h = h

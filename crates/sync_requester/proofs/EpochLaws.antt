@@ -1,4 +1,4 @@
--- Changes that speak of no key of the monitor's area leave its epoch.
+-- Changes of other areas than the monitor's leave its epoch.
 use Rattle.std.proofs.Common.{◌≡◌, ℕ, Bool, true, false, ◌&&◌, cond, List, [], ◌∷◌, Some, None, refl, sym, ap, ◌∙◌}
 use Rattle.std.specs.List.{list_any}
 use Rattle.std.specs.Ordering.{eq_by_cmp}

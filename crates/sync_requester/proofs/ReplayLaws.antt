@@ -57,7 +57,7 @@ IsShort ops = length (text ops) ≤ most
 
 -- ---- the values of a step
 
--- these, and then more
+-- these values, and the ones after them
 abbrev pub onto : List (List Op) → Option (List (List Op)) → Option (List (List Op))
 onto values all = option_map (λ more. values ++ more) all
 

@@ -15,12 +15,14 @@ use Rattle.mon_plan.specs.Learned.{learned}
 use Rattle.mon_plan.specs.Plans.{changed}
 use Rattle.sync_requester.specs.declared.chunks.Taken.{Taken}
 
--- a whole copy takes records and entries as they are, another one learns the values of the versions from v on
+-- The changes that take a chunk. A whole copy puts records and entries as they are; a recent synchronization learns the
+-- values of the versions from v on.
 abbrev pub copied : (full : Bool) → (v : ℕ) → List (List Op) → List Entry → List Change
 copied true v values entries = record_changes v values ++ copy_changes entries
 copied false v values entries = learned v values
 
--- a call that appends these changes does what the protocol's step does, or names the number that runs out; or memory ran out
+-- A call that appends these changes does what the protocol's step does, or names the number that runs out, or memory
+-- ran out.
 abbrev pub Copies : (full : Bool) → (v : ℕ) → List (List Op) → List Entry → Result Unit RoleStop → Type 0
 Copies full v values entries (Ok done) =
     (x : Course) → copy full v values entries x ≡ Ok (changed (copied full v values entries) x)
@@ -35,7 +37,7 @@ pub record IsTaken (s : Requester) (p : Place) (values : List (List Op)) (entrie
   pub row : (x : Course) → x.state.requester ≡ s → take p values entries done x
       ≡ Ok (requester_is (record s { place = taken.place }) (changed (copied s.full (suc p.version) values entries) x))
 
--- a call that takes a chunk returns it, or names the number that runs out; or memory ran out
+-- A call takes a chunk and returns what it writes, or names the number that runs out, or memory ran out.
 abbrev pub Takes : Requester → Place → List (List Op) → List Entry → (done : Bool) → Result Taken RoleStop → Type 0
 Takes s p values entries done (Ok taken) = IsTaken s p values entries done taken
 Takes s p values entries done (Err stop.OutOfMemory) = Unit {0}

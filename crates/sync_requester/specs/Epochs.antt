@@ -1,4 +1,4 @@
--- The changes that may speak of the epoch.
+-- The changes that may change the epoch.
 use Rattle.std.specs.Prelude.{Bool}
 use Rattle.std.specs.Str.{bytes_eq}
 use Rattle.mon_tx.specs.Keys.{area_text}
@@ -6,7 +6,7 @@ use Rattle.mon_tx.specs.declared.key.Area.TheVariants as area
 use Rattle.mon_tx.specs.declared.op.Op.TheVariants.{Put, Erase, ErasePrefix, EraseRange}
 use Rattle.mon_tx.specs.declared.op.Op.{Op}
 
--- whether a change speaks of the area in which the epoch is kept
+-- whether a change is of the area that has the epoch
 abbrev pub speaks_of_monitor : Op → Bool
 speaks_of_monitor (Put prefix key value) = bytes_eq (area_text area.Monitor) prefix
 speaks_of_monitor (Erase prefix key) = bytes_eq (area_text area.Monitor) prefix

@@ -17,14 +17,14 @@ pub record Holds (w : Readings) (state : Requester) (x : Course) : Type 0 where
   pub readings : x.readings ≡ w
   pub role : x.state.requester ≡ state
 
--- One that hears of its provider f, while it synchronizes.
+-- An event under way at a requester that hears a message of its provider f while it synchronizes.
 pub record IsHeard (w : Readings) (state : Requester) (f : ℕ) (x : Course) : Type 0 where
   pub readings : x.readings ≡ w
   pub role : x.state.requester ≡ state
   pub ours : of_provider f x ≡ true
 
--- One of a monitor that begins to synchronize, in that epoch: the store's readers return all of this except the epoch and the
--- count of starts.
+-- An event under way at a monitor that begins to synchronize, in epoch e. The store's readers return w, except for the
+-- epoch and the count of starts.
 pub record IsEntering (e : ℕ) (w : Readings) (x : Course) : Type 0 where
   pub epoch : epoch_of x.readings ≡ e
   pub kept : x.readings ≡ record w { epoch = x.readings.epoch; boot = x.readings.boot }
