@@ -66,14 +66,14 @@ module _ (v p : ℕ) (b : Bool) (seq : ℕ → ℕ) (r : ℕ) (a : Asked) where
   off_r_then j ne = rw (ne_eqb j r ne) refl
 
 module _ (ms : Monitors) (H : Role → Store → State → Type 0) where
-  -- the command comes, and so all are once all is delivered
+  -- the command comes, and the monitors are in these roles once all messages are delivered
   pub record Goes (T : ℕ → Role) (more : List (List ℕ)) (told : List Answer) (c k : ℕ) (p : Plain)
       (w : World) : Type 0 where
     pub next : World
     pub is : happens ms w (Comes p) ≡ Ok next
     pub later : After ms Role H T [] more told c k next
 
-  -- monitor i hears of a client
+  -- monitor i gets a client's request
   module _ (S T U : ℕ → Role) (i : ℕ) (session : Session) (q : Request) (log more final : List (List ℕ))
       (out : List Envelope) (said told all : List Answer)
       (O : One ms Role H S T i (input.Client session q) log out said more) where
@@ -98,7 +98,7 @@ module _ (ms : Monitors) (H : Role → Store → State → Type 0) where
             moves ms Role H S T i (input.Client session q) log out said more O (Client i 0 session q) w k [] told St
             refl refl
 
-  -- the leader does, and the others stay as they are
+  -- if the leader gets it, the others stay as they are
   one_leads : (l a : Role) (P : ℕ → Role) (came : Input) (log : List (List ℕ)) (out : List Envelope)
       (said : List Answer) (more : List (List ℕ)) → 0 < ms.count
       → ((lt : ltb 0 ms.count ≡ true) (m : Store) (s : State) → H l m s

@@ -80,7 +80,7 @@ happens_is ms w p i lt came s y a c d e =
     (cond b (Err (Full (size_of (apply (joined (spelled y.changes)) (w.store i))))) (Ok (reaction_of y)))) e
 
 module _ (ms : Monitors) (D : Type 0) (Holds : D → Store → State → Type 0) where
-  -- it is up, and has this state
+  -- a monitor is up, and its store and its state are as d says
   pub record Is (d : D) (m : Store) (o : Option State) : Type 0 where
     pub state : State
     pub up : o ≡ Some state

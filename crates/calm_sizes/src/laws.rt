@@ -24,9 +24,8 @@ pub fn law_never_full()
         → (m : Store) → shared m ≡ fold log c → OwnShort longest m → size_of m ≤ most_size }
 {}
 
-/// In every run of any monitors under any rule, crashes included, no event finds a monitor's store full, if two things
-/// hold after the event: the monitor is in no full synchronization, and no value of its own is longer than a
-/// transaction may be.
+/// In every run of any monitors under any rule, crashes included, no event finds the store full at a monitor that is in
+/// no full synchronization afterwards and has no value of its own that is longer than a transaction may be.
 pub fn law_goes_on()
     ensures { (ms : Monitors) (events : List Event) → AllFit ms.count events → (p : Plain) → PlainFits ms.count p
         → (i : ℕ) (came : Input) (r : Reaction) → meets ms (run ms events) p ≡ Reacts i came (Ok r)

@@ -33,7 +33,7 @@ abbrev pub is_rung : Timer → Bool
 is_rung timer.Propose = true
 is_rung t = false
 
--- a map is shown from what the monitor keeps of it, and not here
+-- Whether a request is one of this role's. The core itself shows maps.
 abbrev pub is_asked : Request → Bool
 is_asked (request.Show s) = false
 is_asked r = true
@@ -62,7 +62,7 @@ module _ (here : Here) (clients : Clients) (row : Course → Result Course Which
       PlansRow here.me.now here.time clients_are
       (IsMet here.me.now here.time (readings_of here.kv.now) here.view.now (λ s. s.clients) clients) row result
 
-  -- the same once these clients are remembered, whichever were before
+  -- the same for a role that first replaces whatever it remembers by these clients
   abbrev pub ByRowOnce : Result (Plan Clients) RoleStop → Type 0
   ByRowOnce result =
       PlansRow here.me.now here.time clients_are

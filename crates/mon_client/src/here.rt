@@ -29,7 +29,7 @@ impl Here<'_> {
         Stored::of(self.alloc, self.kv).epoch()
     }
 
-    /// The answer to whoever asked for a command.
+    /// The answer to a command's origin: a reply to the own client, or a ROUTE to the peon that forwarded it.
     pub(crate) fn answer(&self, origin: Origin, reply: Reply) -> Sent
         ensures { result ≡ answer_to self.now.me.now (epoch_of (readings_of self.now.kv.now)) origin reply }
     {

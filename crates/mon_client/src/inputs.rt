@@ -22,7 +22,7 @@ use mon_msg::{Body, Clients, Me, Message, Plan, Request, RoleStop, Session, View
 use mon_types::Moment;
 use std::alloc::Global;
 
-/// A message that is heard of another monitor.
+/// Hears a FORWARD or ROUTE of another monitor.
 fn hear(here: &Here<'_>, clients: Clients, message: &Message) -> Result<Plan<Clients>, RoleStop>
     requires { IsTrue (is_told message.now.body) }
     ensures plans { (shared : List Entry) → ByRow here.now clients
@@ -37,7 +37,7 @@ fn hear(here: &Here<'_>, clients: Clients, message: &Message) -> Result<Plan<Cli
     }
 }
 
-/// What a client asks for.
+/// A client's request: a command, or what changed a service's map after a version.
 fn client(
     here: &Here<'_>,
     clients: Clients,

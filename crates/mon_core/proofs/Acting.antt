@@ -75,7 +75,7 @@ module _ {S : Type 0} (me : Me) (now : ℕ) (is : S → Course → Course) (B : 
       under_way = under_way;
     }
 
--- ---- an act, which has a plan of its own once the monitor stands where it begins
+-- ---- an act, which has a plan of its own once the monitor is in the act's phase
 
 module _ {S : Type 0} (me : Me) (now : ℕ) (m : Store) (is : S → Course → Course) (n : Next) (e : Event)
     (B : Course → Type 0) (before : (x : Course) → IsUnderWay (readings_of m) e x → B x) where

@@ -1,4 +1,4 @@
--- What is seen of one item after the other is so of all.
+-- What was checked of each item in a list, one by one, holds of all of them.
 use Rattle.std.proofs.Common.{◌≡◌, ℕ, ◌+◌, ◌≤◌, ◌<◌, List, length, take, get_or, subst}
 use Rattle.std.proofs.lemmas.List.Elements.{All-more, recursion_from_All}
 use Rattle.std.proofs.lemmas.List.{take_all}

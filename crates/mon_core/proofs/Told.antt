@@ -53,7 +53,7 @@ module _ (session : Session) (x : Course) where
   abbrev says : Reply → Answer
   says r = Ok (reply_to session r x)
 
-  -- one that isn't started is in no quorum
+  -- a monitor that isn't started is in no quorum, so it is unavailable by both rules
   by_phase : (p : Phase) (other : Answer)
       → (if same_phase p phase.Booting then says reply.Unavailable else (if not (is_member p) then says reply.Unavailable else other))
       ≡ (if not (is_member p) then says reply.Unavailable else other)

@@ -43,7 +43,7 @@ fn first_changes(alloc: Global, stored: &Stored<'_>, boot: u64) -> Result<Transa
     Ok(tx)
 }
 
-/// What the elector remembers after a start: under connectivity the monitor begins to measure.
+/// The elector's state after a start. Under connectivity the monitor begins to measure: every score is full.
 fn measuring(me: &Me, elector: &Elector, boot: u64, now: Moment) -> Elector
     ensures { result ≡ first_elector me.now now boot elector.now }
 {
@@ -107,7 +107,8 @@ fn start(here: &Here<'_>, event: &mut Event) -> Result<(), RoleStop>
     bootstrap(here, event)
 }
 
-/// Inputs before the start are dropped, and clients get the reply that the monitor is unavailable.
+/// An input of a monitor that isn't started. The start starts it, and a client gets the reply `Unavailable`. Messages
+/// and timers are dropped.
 fn before_start(here: &Here<'_>, event: &mut Event, input: &Input) -> Result<(), RoleStop>
     requires { IsReady here.now.me.now event.old }
     ensures { ReachesFrom here.now.kv.now event.old (before_start here.now.me.now here.now.time input.now) event.new result }
@@ -124,7 +125,8 @@ fn before_start(here: &Here<'_>, event: &mut Event, input: &Input) -> Result<(),
 
 // ---- and then
 
-/// A message, which is dropped if it isn't of another monitor of the same quorum map.
+/// A message. It is dropped if it isn't from another monitor of the same quorum map, or if it has a table of scores
+/// although the rule counts none, or lacks one although the rule counts them.
 fn deliver(
     here: &Here<'_>,
     event: &mut Event,
@@ -165,7 +167,7 @@ fn is_booting(phase: Phase) -> bool
     matches!(phase, Phase::Booting)
 }
 
-/// The protocol's row of an input that asks for no map.
+/// Does what the protocol says at an input that asks for no map.
 pub(crate) fn run(here: &Here<'_>, event: &mut Event, input: &Input) -> Result<(), RoleStop>
     requires asks { asks_any_map input.now ≡ false }
     requires comes { MayCome input.now }

@@ -85,7 +85,8 @@ fn played(
     }
 }
 
-/// The reaction to an input, in an event that has written and sent nothing yet. The event is so again afterwards.
+/// The reaction to an input, in an event that has written and sent nothing yet. Its writes and messages move into the
+/// reaction, so that the next event begins with none.
 fn react_to(
     here: &Here<'_>,
     cache: &mut Cache,

@@ -18,7 +18,7 @@ fn carry<S: RoleState>(here: &Here<'_>, event: &mut Event, plan: Plan<S>) -> Res
     act(here, event, next)
 }
 
-/// The row of an input that is one of a role's: of a message that is heard, of a timer that is disarmed, or of a
+/// Does the protocol's row of an input of this role: a message that is heard, a timer that is disarmed already, or a
 /// request. The role plans what its input does, its plan is carried out, and the act that the plan names is done.
 pub(crate) fn answer(
     here: &Here<'_>,

@@ -23,7 +23,7 @@ use mon_types::Version;
 use std::alloc::Global;
 use svc_core::{Cache, last_version};
 
-/// The map that is kept, which is read first if it isn't known.
+/// The reply with the map of a service that the core keeps. The core reads the map first if it doesn't know it.
 fn shown(alloc: Global, kv: &Kv, cache: &mut Cache, service: Service) -> Result<Reply, OutOfMemory>
     requires { Follows cache.old (readings_of kv.now) }
     ensures reply { IfOk result (λ reply. reply ≡ shown (readings_of kv.now) service) }
@@ -41,7 +41,7 @@ fn shown(alloc: Global, kv: &Kv, cache: &mut Cache, service: Service) -> Result<
     })
 }
 
-/// The reply to a client that asks for a map.
+/// The reply to a client that asks for a map: the map, or the refusal if nothing may be read now.
 fn told(
     alloc: Global,
     kv: &Kv,

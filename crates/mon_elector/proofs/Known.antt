@@ -35,7 +35,7 @@ abbrev pub epoch_in : Here → ℕ
 epoch_in here = epoch_of (readings_of here.stored.now)
 
 module _ (here : Here) (x : Course) (b : Met here x) where
-  -- what is so of the event is so of what is known of it
+  -- what holds of the event also holds of what is known of it
   pub along : (P : Readings → Elector → Type 0) → P x.readings x.state.elector → P (readings_of here.stored.now) here.state.now
   along P p = subst (λ (r : Readings). P r here.state.now) b.readings (subst (P x.readings) b.role p)
 

@@ -46,7 +46,8 @@ is_input (input.Deliver m) = is_told m.body
 is_input (input.Timer t) = is_rung t
 is_input (input.Client session r) = false
 
--- a row, where the store's readers return this, the other roles are seen so, and the elector remembers that
+-- a call's result is this row of the table, if the store's readers return w, and the elector sees `view` and remembers
+-- s
 abbrev pub PlansElection : Me → (now : ℕ) → Readings → View → Elector → (Course → Result Course Which) →
     Result (Plan Elector) RoleStop → Type 0
 PlansElection me now w view s row result =
@@ -57,7 +58,7 @@ abbrev pub ByRow : Here → (Course → Result Course Which) → Result (Plan El
 ByRow here row result =
     PlansElection here.me.now here.time (readings_of here.stored.now) here.view.now here.state.now row result
 
--- An event under way in which an election is called: the epoch is this, and the elector remembers that.
+-- An event under way in which an election is called, in epoch e, by an elector that remembers s.
 pub record IsCalled (e : ℕ) (s : Elector) (x : Course) : Type 0 where
   pub epoch : epoch_of x.readings ≡ e
   pub role : x.state.elector ≡ s

@@ -12,7 +12,8 @@ use mon_msg::{Elector, Next, Plan, RoleStop};
 use mon_plan::{planned, stay};
 use mon_types::{Epoch, Rank};
 
-/// Another monitor defers to this one in an epoch.
+/// Another monitor defers to this one in an epoch. A candidate that may lead wins at once if all monitors of its map
+/// defer to it. If the epoch is after its own, the monitor enters it and calls an election.
 pub(crate) fn hear_ack(here: &Here<'_>, from: Rank, epoch: Epoch) -> Result<Plan<Elector>, RoleStop>
     ensures plans { ByRow here.now (hear_ack here.now.me.now here.now.time from epoch) result }
     ensures leaves { IfOk result (λ p. Leaves here.now.view.now.phase p.next p.tx) }
@@ -40,7 +41,7 @@ pub(crate) fn hear_ack(here: &Here<'_>, from: Rank, epoch: Epoch) -> Result<Plan
     Ok(stay(here.alloc, counted))
 }
 
-/// The time of an election is over.
+/// The timer `Election` fires. A monitor in an election wins if it may, and otherwise calls a new election.
 pub(crate) fn election_ends(here: &Here<'_>) -> Result<Plan<Elector>, RoleStop>
     ensures plans { ByRow here.now (election_ends here.now.me.now here.now.time) result }
     ensures leaves { IfOk result (λ p. Leaves here.now.view.now.phase p.next p.tx) }

@@ -21,7 +21,7 @@ use mon_plan::Stored;
 use mon_types::Moment;
 use std::alloc::Global;
 
-/// A message of another monitor.
+/// Hears a PROPOSE, ACK, VICTORY, PING or PING_REPLY of another monitor.
 fn hear(here: &Here<'_>, message: &Message) -> Result<Plan<Elector>, RoleStop>
     requires { IsTrue (is_told message.now.body) }
     ensures plans { (shared : List Entry) → ByRow here.now
@@ -40,7 +40,7 @@ fn hear(here: &Here<'_>, message: &Message) -> Result<Plan<Elector>, RoleStop>
     }
 }
 
-/// A timer, which was armed and is disarmed.
+/// A timer of the elector fires. It was armed, and is disarmed already.
 fn ring(here: &Here<'_>, timer: Timer) -> Result<Plan<Elector>, RoleStop>
     requires { IsTrue (is_rung timer) }
     ensures plans { ByRow here.now (timer_comes here.now.me.now here.now.time timer) result }

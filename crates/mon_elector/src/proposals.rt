@@ -14,7 +14,8 @@ use mon_msg::{Elector, Next, Plan, RoleStop, ScoreTable, Timer};
 use mon_plan::{armed, planned, stay};
 use mon_types::{Epoch, Rank};
 
-/// A monitor proposes itself in an epoch, and sends its table if scores count.
+/// Another monitor proposes itself in an epoch, with its table if scores count. The monitor defers to it, calls an
+/// election, or does neither.
 pub(crate) fn hear_propose(
     here: &Here<'_>,
     from: Rank,

@@ -12,7 +12,8 @@ use mon_msg::{Elector, Next, Plan, RoleStop, Timer};
 use mon_plan::{armed, stay};
 use mon_types::{Epoch, Rank, RankSet};
 
-/// Another monitor leads a quorum in an epoch.
+/// Another monitor leads a quorum in an epoch. The monitor follows it if that is the next epoch and it is in the
+/// quorum. In a later epoch than the next one it calls an election.
 pub(crate) fn hear_victory(
     here: &Here<'_>,
     from: Rank,

@@ -36,7 +36,7 @@ pub struct Event {
 }
 
 impl Event {
-    /// One that has just begun, at a monitor that remembers this. It takes no memory.
+    /// An event that has just begun, at a monitor with this state. It takes no memory.
     pub fn begun(alloc: Global, state: State) -> Event
         ensures { result ≡ record { tx = []; out = []; state = state } }
     {

@@ -25,9 +25,9 @@ use std::mem;
 pub struct State {
     /// The phase of the monitor.
     pub phase: Phase,
-    /// Its election, and its scores.
+    /// The election that it takes part in, and its scores.
     pub elector: Elector,
-    /// Who else is there, as it probes.
+    /// Which monitors it knows to be outside a quorum, while it probes.
     pub prober: Prober,
     /// What it asked, heard and began as a leader. It counts in the phases in which the monitor leads.
     pub leader: Leader,
@@ -35,7 +35,7 @@ pub struct State {
     pub peon: Peon,
     /// The commands and the clients that wait.
     pub clients: Clients,
-    /// Who copies its store.
+    /// The cookies of the monitors that copy its store.
     pub provider: Provider,
     /// How far it has copied another's store.
     pub requester: Requester,

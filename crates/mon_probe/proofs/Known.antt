@@ -31,7 +31,7 @@ abbrev pub Met : Me → ℕ → Readings → View → Prober → Course → Type
 Met me now w v s = IsMet me now w v (λ st. st.prober) s
 
 module _ (me : Me) (now : ℕ) (w : Readings) (v : View) (s : Prober) (x : Course) (b : Met me now w v s x) where
-  -- what is so of the event is so of what is known of it
+  -- what holds of the event also holds of what is known of it
   pub along : (P : Readings → Prober → Type 0) → P x.readings x.state.prober → P w s
   along P p = subst (λ (r : Readings). P r s) b.readings (subst (P x.readings) b.role p)
 

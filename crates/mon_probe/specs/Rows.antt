@@ -35,7 +35,7 @@ is_input (input.Deliver m) = is_told m.body
 is_input (input.Timer t) = is_rung t
 is_input (input.Client session r) = false
 
--- a row, where the store's readers return this, the other roles are seen so, and the prober remembers that
+-- a call's result is this row of the table, if the store's readers return w, and the prober sees `view` and remembers s
 abbrev pub PlansProbe : Me → (now : ℕ) → Readings → View → Prober → (Course → Result Course Which) →
     Result (Plan Prober) RoleStop → Type 0
 PlansProbe me now w view s row result =
@@ -46,8 +46,8 @@ abbrev pub ByRow : Here → (now : ℕ) → (Course → Result Course Which) →
 ByRow here now row result =
     PlansProbe here.me.now now (readings_of here.stored.now) here.view.now here.state.now row result
 
--- An event under way in which a monitor begins again: the epoch is this, and if it is alone in its quorum map the mark is
--- that from before the event.
+-- An event under way in which a monitor bootstraps in epoch e. If it is alone in its map, the mark is that from before
+-- the event.
 pub record IsBegun (me : Me) (w : Readings) (e : ℕ) (x : Course) : Type 0 where
   pub epoch : epoch_of x.readings ≡ e
   pub marked : nat_lt 1 me.member.monitors ≡ false → x.readings.marked ≡ w.marked

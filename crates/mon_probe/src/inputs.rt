@@ -17,7 +17,7 @@ use mon_plan::{Stored, planned};
 use mon_types::Moment;
 use std::alloc::Global;
 
-/// A message of another monitor.
+/// Hears a PROBE or PROBE_REPLY of another monitor.
 fn hear(here: &Here<'_>, message: &Message) -> Result<Plan<Prober>, RoleStop>
     requires { IsTrue (is_told message.now.body) }
     ensures plans { (shared : List Entry) (now : ℕ) → let m = message.now in
@@ -36,8 +36,9 @@ fn hear(here: &Here<'_>, message: &Message) -> Result<Plan<Prober>, RoleStop>
     }
 }
 
-/// What a prober does at a PROBE or PROBE_REPLY that is heard, and when the timer to probe, which was armed, comes and
-/// is disarmed: its row of the protocol's table. What is dropped takes no memory, and no number runs out.
+/// What a prober does at a PROBE or PROBE_REPLY that is heard, and when the timer `Probe` fires: its row of the
+/// protocol's table. The timer was armed, and is disarmed already. What is dropped takes no memory, and no number runs
+/// out.
 pub fn step(
     alloc: Global,
     kv: &Kv,
