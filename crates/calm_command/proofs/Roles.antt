@@ -41,7 +41,7 @@ pub data Role : Type 0 where
   Leading : (v p : ℕ) → (acks : List Bool) → (taken : List ℕ) → Role
   -- one whose value is under way, which these accepted
   Voting : (v : ℕ) → (accepted : List Bool) → (x : List Op) → (o : Origin) → (taken : List ℕ) → Role
-  -- a peon of v versions, which accepted no value for a version above p, with its lease or without
+  -- a peon with v versions and with or without a lease, which accepted no value for a version above p
   Following : (v p : ℕ) → (leased : Bool) → (sessions : List Asked) → (seq : ℕ) → Role
 
 -- a monitor does the same from all states of which the same is known

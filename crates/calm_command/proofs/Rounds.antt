@@ -20,11 +20,11 @@ crew l P (suc j) = P (suc j)
 abbrev pub to_rank : ℕ → Message → Envelope
 to_rank k m = record { to = k; message = m }
 
--- the others below rank k are in a new way
+-- the others below rank k are in their new states
 abbrev mixed : {D : Type 0} → D → (P Q : ℕ → D) → ℕ → ℕ → D
 mixed l P Q k = crew l (λ j. cond (ltb j k) (Q j) (P j))
 
--- nothing is sent by any of these
+-- if none of these sends anything, nothing is sent
 pub nothing_sent : (ks : List ℕ) → flat_map {X = ℕ} {A = Envelope} (λ _. []) ks ≡ []
 nothing_sent [] = refl
 nothing_sent (k ∷ ks) = nothing_sent ks

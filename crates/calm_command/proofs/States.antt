@@ -74,6 +74,6 @@ is_following n leased sessions seq s H = λ i. record s {
   clients = record s.clients { sessions = H.waits i; next_seq = H.next i };
 }
 
--- what their stores' readers return, of which v is the last version
+-- what the readers of a store with the last version v return
 abbrev pub reads : ℕ → Readings → Readings
 reads v w = record w { epoch = Some 2; promise = Some 100; last = v; marked = false }

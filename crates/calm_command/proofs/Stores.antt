@@ -45,7 +45,7 @@ pub nothing_written : (m : Store) → behind [] m ≡ m
 unfolding joined
 nothing_written m = refl
 
--- a command makes the value x over this log
+-- the value x is that of a command, over the whole log
 pub record Makes (log : List (List ℕ)) (x : List Op) : Type 0 where
   pub room : length log < 2 ^ 62
   pub all : AllValues log
@@ -65,7 +65,7 @@ module _ (log : List (List ℕ)) (fits : length log ≤ 2 ^ 62) (all : AllValues
         marked = S.unmarked i;
       }
 
-  -- the next version of a service is one
+  -- the next version of a service is at most 2^62
   pub service_fits : (v p : ℕ) (m : Store) → Stored log v p m → v < 2 ^ 62 → (s : Service)
       → suc (service_last (readings_of m) s) ≤ 2 ^ 62
   service_fits v p m S lt s =

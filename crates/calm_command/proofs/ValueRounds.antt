@@ -24,11 +24,11 @@ use Rattle.calm_command.proofs.Sets.{firsts}
 use Rattle.calm_command.proofs.Stores.{Makes}
 use Rattle.calm_command.proofs.Worlds.{and_then}
 
--- the peons, with what waits at each
+-- the peons, with the sessions that wait at each
 abbrev pub peons : (v p : ℕ) → Bool → (sessions : ℕ → List Asked) → (seq : ℕ → ℕ) → ℕ → Role
 peons v p leased sessions seq j = Following v p leased (sessions j) (seq j)
 
--- one message of each of these ranks
+-- one message from each of these ranks to the leader
 abbrev pub from_each : (ℕ → Message) → List ℕ → List Envelope
 from_each m ks = map (λ k. to_rank 0 (m k)) ks
 

@@ -1,4 +1,4 @@
--- Monitors of which each is in a known way, and messages that are delivered one after the other, in order.
+-- Monitors each of whose states is known, and messages that are delivered in order.
 use Rattle.mon_kv.specs.Readers.{most_size, size_of}
 use Rattle.mon_msg.specs.Joined.{joined}
 use Rattle.mon_msg.specs.Protocol.Changes.{spelled}
@@ -86,7 +86,7 @@ module _ (ms : Monitors) (D : Type 0) (Holds : D → Store → State → Type 0)
     pub up : o ≡ Some state
     pub holds : Holds d m state
 
-  -- the monitors' states, after k messages were delivered and while these wait
+  -- the monitors' states after k messages were delivered, while the messages `waits` wait
   pub record Stands (S : ℕ → D) (k : ℕ) (waits : List Envelope) (log : List (List ℕ)) (told : List Answer)
       (w : World) : Type 0 where
     pub each : (i : ℕ) → i < ms.count → Is (S i) (w.store i) (w.state i)
@@ -96,7 +96,7 @@ module _ (ms : Monitors) (D : Type 0) (Holds : D → Store → State → Type 0)
     pub logged : w.log ≡ log
     pub answered : answers w ≡ told
 
-  -- what monitor i does as it is: what it sends, what it replies, and what the log is then
+  -- monitor i reacts to an input: what it sends, what it replies, and what the log is then
   pub record Does (i : ℕ) (lt : ltb i ms.count ≡ true) (m : Store) (s : State) (came : Input) (log : List (List ℕ))
       (d : D) (out : List Envelope) (said : List Answer) (more : List (List ℕ)) : Type 0 where
     pub y : Course
@@ -107,7 +107,7 @@ module _ (ms : Monitors) (D : Type 0) (Holds : D → Store → State → Type 0)
     pub grows : grown log (apply (joined (spelled y.changes)) m) ≡ more
     pub leaves : Holds d (apply (joined (spelled y.changes)) m) y.state
 
-  -- one event at monitor i, after which the monitors have these states
+  -- one event at monitor i, which takes the monitors from the states S to the states T
   pub record One (S T : ℕ → D) (i : ℕ) (came : Input) (log : List (List ℕ)) (out : List Envelope)
       (said : List Answer) (more : List (List ℕ)) : Type 0 where
     pub below : i < ms.count

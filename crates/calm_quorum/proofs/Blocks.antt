@@ -1,4 +1,4 @@
--- What is sent to each, as blocks.
+-- What is sent to each monitor, as blocks of messages.
 use Rattle.std.proofs.Common.{◌≡◌, ℕ, zero, suc, ◌+◌, ◌*◌, ◌<◌, ◌≤◌, Bool, true, false, cond, not, ◌&&◌, eqb, List, [], ◌∷◌, ◌++◌, length, map, refl, sym, ap, ◌∙◌, arith, append_assoc, append-nil, length-append}
 use Rattle.std.proofs.Math.Nat.{suc-mul}
 use Rattle.std.specs.List.{filter, filter_map, range_with_len}
@@ -11,7 +11,7 @@ use Rattle.calm_quorum.proofs.Rounds.{flat}
 use Rattle.calm_quorum.proofs.Handling.{tell}
 use Rattle.calm_quorum.proofs.States.{says}
 
--- the same from the front
+-- the lists b a to b (a + n - 1) joined, from the first one on
 abbrev front : {A : Type 0} → ℕ → ℕ → (ℕ → List A) → List A
 front a zero b = []
 front a (suc n) b = b a ++ front (a + 1) n b
@@ -39,7 +39,7 @@ to_each n q i e b = flat n (λ k. cond (q k && not (eqb k i)) (env n i k e b ∷
 abbrev pub everyone : ℕ → Bool
 everyone k = true
 
--- what all of the others send to i
+-- a message from each of the others to i
 abbrev pub from_each : ℕ → ℕ → ℕ → Body → List Envelope
 from_each n i e b = flat n (λ k. cond (not (eqb k i)) (env n k i e b ∷ []) [])
 

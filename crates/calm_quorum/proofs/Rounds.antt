@@ -10,7 +10,7 @@ abbrev pub flat : {A : Type 0} → ℕ → (ℕ → List A) → List A
 flat zero b = []
 flat (suc k) b = flat k b ++ b k
 
--- what one input, or many, leave
+-- the state after one or more inputs, the messages sent, and the replies
 pub record Took (L M R : Type 0) : Type 0 where
   pub st : L
   pub out : List M
@@ -19,7 +19,7 @@ pub record Took (L M R : Type 0) : Type 0 where
 abbrev pub did : {L M R : Type 0} → L → List M → List R → Took L M R
 did l o r = record { st = l; out = o; done = r }
 
--- first a, then what b does from where a ended
+-- first a, and then b from the state after a
 abbrev pub chain : {L M R : Type 0} → Took L M R → (L → Took L M R) → Took L M R
 chain a b = record { st = (b a.st).st; out = a.out ++ (b a.st).out; done = a.done ++ (b a.st).done }
 
@@ -202,7 +202,7 @@ flat_none {A = A} (suc k) = rw (flat_none {A = A} k) refl
 pub single : {L M R : Type 0} (r : L → M → Took L M R) (m : M) (l : L) → all_of r (m ∷ []) l ≡ r l m
 single r m l = rw (append-nil (r l m).out, append-nil (r l m).done) refl
 
--- A TEAM: the first n are as A says, the others idle
+-- a team: the first n monitors are in the states A, and all others are idle
 abbrev pub team : {L : Type 0} → L → ℕ → (ℕ → L) → ℕ → L
 team idle n A = first_of_them n A (λ _. idle)
 
@@ -292,7 +292,7 @@ crew_self P = same_state _ _ (λ j. by j (cases_eq j 0))
     by j (inl z) = rw (eq-eqb j 0 z) (ap P (sym z))
     by j (inr nz) = rw (ne_eqb j 0 nz) refl
 
--- a message that is sent if c
+-- a message that is sent if c is true goes to k if its recipient is k
 pub goes_to : {M : Type 0} (to : M → ℕ) (c : Bool) (m : M) (k : ℕ) → to m ≡ k
     → AllByRecursion (λ x. to x ≡ k) (cond c (m ∷ []) [])
 goes_to to true m k e = (e, tt)

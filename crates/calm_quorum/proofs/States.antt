@@ -56,7 +56,7 @@ probing i outside = record (booting i) {
   timers = armed 0 timer.Probe unarmed;
 }
 
--- it stands for election itself, or deferred
+-- a monitor in an election, as a candidate or deferring to one
 abbrev pub electing : ℕ → List Bool → Bool → List Bool → Option ℕ → State
 electing i outside candidate acked deferred = record (booting i) {
   phase = phase.Electing;

@@ -33,7 +33,7 @@ service_keys a from =
     ∷ place a (key.Full (from + 24)) ∷ place a (key.Full (from + 49)) ∷ place a (key.Full (from + 74))
     ∷ run (version_at a) from 75
 
--- there is something
+-- the cell isn't empty
 abbrev IsThere : Cell → Type 0
 IsThere None = ⊥
 IsThere (Some x) = Unit {0}

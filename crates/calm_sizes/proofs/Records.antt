@@ -22,7 +22,7 @@ fulls log c = version_of_log Kv log c / 25 + version_of_log Log log c / 25
 
 -- ---- one version
 
--- which service has one version more
+-- the service that has one version more, and how long the record is
 record Steps (log : List (List ℕ)) (c : ℕ) : Type 0 where
   service : Service
   more : (u : Service)

@@ -1,4 +1,4 @@
--- Whatever comes to an unmarked monitor that has versions of the log: it has versions of the log afterwards, or it begins a full
+-- An unmarked monitor that has versions of the log still has such versions after any input, or it begins a full
 -- synchronization.
 use Rattle.std.proofs.Common.{◌≡◌, ℕ, suc, ◌+◌, ◌≤◌, ◌<◌, ◌^◌, Bool, true, false, not, ◌&&◌, ◌||◌, eqb, ltb, is_some, List, [], ◌∷◌, length, map, sym, subst, ◌≤◌, Option, Some, None, Ok, ap, ◌∙◌}
 use Rattle.std.proofs.lemmas.Bool.{and_parts}

@@ -41,7 +41,7 @@ use Rattle.mon_msg.specs.Protocol.Readings.{Readings}
 use Rattle.mon_msg.specs.Protocol.Reads.{shown, since, read}
 use Rattle.mon_msg.specs.Protocol.Table.{timer_comes}
 
--- such phases
+-- the phases in which a monitor is in no election and in no quorum
 pub record IsAside (p : Phase) : Type 0 where
   pub votes : votes p ≡ false
   pub leading : is_leading p ≡ false
@@ -175,7 +175,7 @@ module _ (me : Me) (several : 1 < me.member.monitors) (now : ℕ) (x y : Course)
     ping_reply f None e = drops e
     ping_reply f (Some table) e = keeps _ (record { changes = refl; phase = refl; requester = refl }) e
 
-    -- what is said of a synchronization of its own, or of another monitor's versions, is left to other rows
+    -- messages about its own synchronization, and about another monitor's versions, are those of other rows
     abbrev pub IsElse : Body → Type 0
     IsElse (body.ProbeReply quorum first own) = ⊥
     IsElse (body.Cookie full cookie own) = ⊥

@@ -84,7 +84,7 @@ module _ (log : List (List ℕ)) (fits : length log ≤ 2 ^ 62) (all : AllValues
 
 -- ---- the beginning
 
--- nothing is shared, so it is a copy from whatever version, of which nothing is made
+-- a store without shared keys is a copy from any version, up to the first place
 pub copy_begins : (log : List (List ℕ)) (s : ℕ) (m : Store) → shared_with_records m ≡ empty → IsFuzzyCopy log s s key_place.Start m
 copy_begins log s m none = record {
   made = λ at shared here. absurd cc;

@@ -46,7 +46,7 @@ use Rattle.log_copies.proofs.Shape.{still_shaped}
 use Rattle.log_copies.proofs.UnderWay.{Noted, Marked, Stands, stays, InStage}
 use Rattle.log_model.specs.LogOfValues.{AllValues}
 
--- cookies are of monitors of the log, and chunks hold what is the log's; whatever else comes may
+-- Cookies come from monitors of the log, and chunks hold what is the log's. Any other message may come.
 abbrev pub BodyOf : List (List ℕ) → Body → Type 0
 BodyOf log (body.Cookie full cookie last) = last ≤ length log
 BodyOf log (body.Chunk cookie p values entries done) = ChunkOf log (body.Chunk cookie p values entries done)

@@ -27,7 +27,7 @@ use Rattle.log_model.proofs.Records.{AreVersions, versions_spare}
 use Rattle.log_copies.specs.Versions.{HasVersions, behind, IsOwnChange}
 use Rattle.log_model.proofs.Places.{same_place, get_kept, is_shared, shared_is, local_named, tied}
 
--- changes of what a monitor with c versions doesn't share, but for its last version and its mark
+-- changes that leave the keys that a monitor with c versions shares, its last version and its mark
 record Leaves (c : ℕ) (ops : List Op) : Type 0 where
   shared : (at : Place) → is_local c at ≡ false → decision ops at ≡ None
   last : decision ops (place area.Paxos key.LastCommitted) ≡ None

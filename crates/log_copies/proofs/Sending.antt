@@ -41,7 +41,7 @@ use Rattle.log_model.proofs.FoldWindows.{keeps_last}
 use Rattle.log_model.proofs.Lists.{all_append}
 use Rattle.log_model.proofs.Records.{IsVersion, AreVersions, first_versions, run_versions, keeps_held}
 
--- what is shown to a client is what some beginning of the log makes
+-- what is shown to a client is what a prefix of the log makes
 pub record ToldOf (log : List (List ℕ)) (r : Reply) : Type 0 where
   pub version : ℕ
   pub within : version ≤ length log
@@ -57,7 +57,7 @@ reply_tells log (reply.Shown s paxos version map) h = h
 reply_tells log (reply.Since s from told more) h = h
 reply_tells log other h = tt
 
--- sent values are the log's, in order; so are chunks, and last versions
+-- Sent values are the log's, in order, and so are the values of chunks. No sent last version is beyond the log.
 abbrev pub BodyTells : List (List ℕ) → Body → Type 0
 BodyTells log (body.Last pn first last whole from values pending) = (last ≤ length log) × AreVersions log from values
 BodyTells log (body.Commit from values) = AreVersions log from values

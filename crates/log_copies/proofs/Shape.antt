@@ -60,7 +60,7 @@ still_shaped (op ∷ ops) m h shape = still_shaped ops (apply_op op m) h.1 (one_
 
 -- ---- monitors of the log, and copies
 
--- a key that is a monitor's own because of its last version alone is a record's
+-- a key that is a monitor's own only for this last version is a record's, so it is given up
 local_given : (last : ℕ) (at : Place) → is_local last at ≡ true → is_own at ≡ false → is_given_up at ≡ true
 local_given last = of_own (λ q. is_own q ≡ false → is_given_up q ≡ true) last (record {
   last_committed = λ h. refl;

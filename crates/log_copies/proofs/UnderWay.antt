@@ -94,11 +94,11 @@ place_same a b e =
 
 -- ---- under way
 
--- a store's own numbers are the same
+-- two stores have the same numbers of a monitor's own
 abbrev pub SameCells : Store → Store → Type 0
 SameCells m n = (a : Area) (k : Key) → is_number a k ≡ true → cell n a k ≡ cell m a k
 
--- `before` is what the store's readers returned at first, and `floor` what is to be reached
+-- `before` is what the store's readers returned at first, and `floor` is the version that the copy must reach
 module _ (log : List (List ℕ)) (before : Readings) (floor : ℕ) where
   -- what the readers of a marked store return
   pub record Noted (m : Store) : Type 0 where
@@ -140,14 +140,14 @@ module _ (log : List (List ℕ)) (before : Readings) (floor : ℕ) where
   InStage m sync.Chunks start p = Chunking m start p
   InStage m (sync.Replay next end) start p = Replaying m next end
 
-  -- it takes a copy
+  -- the monitor takes a copy
   pub record UnderWay (m : Store) (s : State) : Type 0 where
     pub in_phase : s.phase ≡ phase.Synchronizing
     pub full : s.requester.full ≡ true
     pub noted : Noted m
     pub stage : InStage m s.requester.stage s.requester.start s.requester.place
 
-  -- it looks for another monitor, or is not started yet
+  -- the monitor looks for another one, or isn't started yet
   pub record Waits (m : Store) (s : State) : Type 0 where
     pub in_phase : (s.phase ≡ phase.Probing) ⊎ (s.phase ≡ phase.Booting)
     pub noted : Noted m
@@ -156,7 +156,7 @@ module _ (log : List (List ℕ)) (before : Readings) (floor : ℕ) where
   abbrev pub Marked : Store → State → Type 0
   Marked m s = UnderWay m s ⊎ Waits m s
 
-  -- or it is finished
+  -- the synchronization is under way or waits, or it is finished
   abbrev pub Stands : Store → State → Type 0
   Stands m s = Marked m s ⊎ IsSynchronized log before floor m
 

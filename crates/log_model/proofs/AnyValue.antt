@@ -99,7 +99,7 @@ module _ (first last : ℕ) (s : Service) (n service_first : ℕ) (x t : List �
       by area.Paxos key.LastCommitted e = other key.LastCommitted (λ a b. refl) refl
       by a k e = absurd cc
 
-  -- of records it may take some away
+  -- it may erase records
   trimmed_record : (v : ℕ) → ((c : Cell) → final (log_trimmed first last) (key.Version v) c ≡ c) ⊎ ((c : Cell) → final (log_trimmed first last) (key.Version v) c ≡ None)
   trimmed_record v =
       cond_both (ltb 750 (last - first)) (log_cut first (paxos_to first last)) [] (λ es. ((c : Cell) → final es (key.Version v) c ≡ c) ⊎ ((c : Cell) → final es (key.Version v) c ≡ None))
@@ -119,7 +119,7 @@ module _ (first last : ℕ) (s : Service) (n service_first : ℕ) (x t : List �
 
 -- ---- a value
 
--- the incremental and the map of which it is made
+-- a value is made of an incremental and of the map after it
 record IsMade (w : Readings) (s : Service) (x : List Op) : Type 0 where
   incremental : List ℕ
   map : ShownMap
@@ -141,7 +141,7 @@ module _ (w : Readings) (c : Command) (asked : ℕ) (x : List Op) (h : value w c
   pub value_spares : Spares x
   value_spares = let m = is_made in subst Spares m.is (rules_spare w.first w.last s (suc (service_last w s)) (service_first w s) m.incremental (map_text m.map))
 
-  -- it puts no record of a version, and may take some away
+  -- it puts no record of a version, and may erase some
   pub value_records : (u : ℕ) → (decision x (place area.Paxos (key.Version u)) ≡ None) ⊎ (decision x (place area.Paxos (key.Version u)) ≡ Some None)
   value_records u =
       let m = is_made in

@@ -16,7 +16,7 @@ use Rattle.log_model.proofs.Own.{Same}
 use Rattle.log_model.proofs.Places.{get_kept, is_shared, shared_is}
 use Rattle.log_model.proofs.RowReadings.{read_some}
 
--- nothing is copied, nothing is pending, and no record follows the last version
+-- A store has the whole log: it isn't marked, nothing is pending, and no record follows the last version.
 pub record Holds (log : List (List ℕ)) (m : Store) : Type 0 where
   pub last : number m area.Paxos key.LastCommitted ≡ length log
   pub fits : length log ≤ 2 ^ 62

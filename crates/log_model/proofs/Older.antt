@@ -20,7 +20,7 @@ use Rattle.mon_msg.specs.Puts.{area_of}
 use Rattle.mon_msg.specs.Protocol.Changes.{erase}
 use Rattle.log_model.specs.LogOfValues.{one_by_one, IsOlder, none, same, range}
 
--- a value is one of its own spellings
+-- a value may also be encoded as it is
 pub older_itself : (ops : List Op) → IsOlder ops ops
 older_itself [] = none
 older_itself (op ∷ ops) = same op (older_itself ops)
@@ -79,7 +79,7 @@ each_decides (suc count) from a b k =
     (λ i. later (each_decides count (from + 1) a b k i) (decided-erase a (Version from) b k i))
     ∙ in_area (same_area b a) (covers (from + 1) (from + 1 + count) k) (same_key k (Version from)) (covers from (from + suc count) k) (one_covered from count k)
 
--- from beyond to: none
+-- a range that begins after its end has no versions
 range_end : (from to : ℕ) (k : Key) → covers from (from + (to - from)) k ≡ covers from to k
 range_end from to (Version v) = grind (arith, nat_tests)
 range_end from to FirstCommitted = refl

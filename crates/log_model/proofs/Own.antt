@@ -11,7 +11,8 @@ use Rattle.mon_msg.specs.Puts.{put}
 use Rattle.mon_msg.specs.Protocol.Changes.{Change, Boot, Epoch, Numbers, spelled}
 use Rattle.log_model.proofs.Places.{cell_other, lost_put, is_shared, shared_is, tied, local_named}
 
--- two maps have the same of the log and the services
+-- Two maps agree on the last version, the mark, the pending version, the records, the key-value service and all that is
+-- shared.
 pub record Same (m new : Store) : Type 0 where
   pub last : cell new area.Paxos key.LastCommitted ≡ cell m area.Paxos key.LastCommitted
   pub mark : cell new area.Sync key.InSync ≡ cell m area.Sync key.InSync

@@ -13,7 +13,7 @@ use Rattle.log_model.proofs.AreaEdits.{Edit, final, final_append}
 use Rattle.log_model.proofs.RuleEdits.{begun, new, full, trimmed, log_trimmed, service_edits}
 use Rattle.log_model.proofs.RuleCells.{first_high, first_rises, log_high, log_rises, trim_version, trim_full, trim_first, trim_other, new_version, new_first, new_last, new_other, full_other, full_full, full_latest, log_trim_version, log_trim_other, log_trim_first, log_begun_other, log_begun_version}
 
--- the functions agree below version n + 1, and there the second is x
+-- The functions agree up to version n. At version n + 1 the second one is x.
 pub record Grows (n : ℕ) (f g : ℕ → List ℕ) (x : List ℕ) : Type 0 where
   pub old : (v : ℕ) → v < suc n → g v ≡ f v
   pub newest : g (suc n) ≡ x
@@ -137,7 +137,7 @@ log_behind c v x was lt =
     log_trim_version c v _ ∙ ap (cond (within (log_from c) (log_from (suc c)) v) None) (log_begun_version c v _)
     ∙ behind c (log_from c) (log_from (suc c)) v x was (log_high (suc c) (omega arith)) lt
 
--- nothing is left but the first version's number and records
+-- only the first version's number and the records are kept in the log's area
 pub log_other_step : (c : ℕ) (x : List ℕ) (k : Key) → is_kept_key Paxos k ≡ false → log_after c x k None ≡ None
 log_other_step c x LastCommitted h = log_stays c x LastCommitted None (λ a b. refl) refl refl
 log_other_step c x LastPn h = log_stays c x LastPn None (λ a b. refl) refl refl

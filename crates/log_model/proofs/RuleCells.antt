@@ -94,12 +94,12 @@ nothing_within a v c = grind (arith, nat_tests)
 no_full_within : (a v : ℕ) (c : Cell) → c ≡ cond (within a a v && is_full v) None c
 no_full_within a v c = grind (arith, nat_tests)
 
--- version n + 1 comes if n are there
+-- a service with n versions gets version n + 1
 module _ (n : ℕ) where
   abbrev trim : List Edit
   trim = trimmed (suc n) (first_read service_from n)
 
-  -- what a cut and what nothing leaves is what the trim leaves
+  -- what holds after a cut if the window moves, and without one if it stays, holds after the trim
   by_window : (P : List Edit → ℕ → Type 0) → P (cut (service_from n) (service_from (suc n))) (service_from (suc n)) → P [] (service_from n) → P trim (service_from (suc n))
   by_window P cuts nothing = by (window n)
     where

@@ -12,7 +12,7 @@ use Rattle.mon_tx.proofs.After.{get-apply}
 use Rattle.mon_tx.proofs.Places.{places_total, exact_places}
 use Rattle.log_model.proofs.Places.{same_place, get_kept, is_shared}
 
--- what holds of each key that is a monitor's own, if `last` is its last version
+-- P holds of each key that is a monitor's own, if `last` is its last version
 pub record OfOwn (P : Place → Type 0) (last : ℕ) : Type 0 where
   pub last_committed : P (place area.Paxos key.LastCommitted)
   pub last_pn : P (place area.Paxos key.LastPn)
@@ -38,7 +38,7 @@ module _ (P : Place → Type 0) where
       or_later _ q _ h.last_committed (or_later _ q _ h.last_pn (or_later _ q _ h.accepted_pn (or_later _ q _ h.pending_v (or_later _ q _ h.pending_pn
       (or_later _ q _ h.behind (or_later _ q _ h.epoch (or_later _ q _ h.boots (or_later _ q _ h.mark (or_later _ q _ h.floor (λ e. absurd cc))))))))))
 
--- changes that leave none of some places
+-- changes that leave nothing under some places
 module _ (ops : List Op) (stays : Place → Bool) (gone : (q : Place) → stays q ≡ false → or_before (decision ops q) None ≡ None) (m : Store) where
   pub kept_apply : retain_keys (apply ops m) stays ≡ apply ops (retain_keys m stays)
   kept_apply = same_map places_total exact_places _ _ (λ q.

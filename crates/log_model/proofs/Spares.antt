@@ -92,7 +92,7 @@ spares_learned v value s = spares_append (put area.Paxos (key.Version v) (text v
 
 -- ---- what is read after them
 
--- what one store's readers return of its own, and another's of what is shared
+-- `own` for a monitor's own numbers, and `other` for what is shared
 abbrev pub with_shared : Readings → Readings → Readings
 with_shared own other = record own { first = other.first; record_of = other.record_of; row = other.row }
 
@@ -116,7 +116,7 @@ after_spared ops w s = λ i. record {
   row = (after ops w).row;
 }
 
--- changes of what is shared alone
+-- changes that leave a monitor's own numbers as they are
 abbrev pub SparesNumbers : Change → Type 0
 SparesNumbers (Record v value) = Unit {0}
 SparesNumbers (Learn v value) = Spares (ops_of (Learn v value))
