@@ -51,7 +51,7 @@ module _ (me : Me) (now : ℕ) (w : Readings) (v : View) (s : Clients) where
       instead me now clients_are Met (λ x. x) (λ x. one (clients_are after x)) other r f
       (weaken me now clients_are (IsUnderWay me now w v) Met (λ x. x) (λ x. one (clients_are after x)) r (λ x b. under_way me now w v s x b) h)
 
-  -- what a call plans for every course with these clients, it also plans for a course that has just been given them
+  -- what a call plans once the clients s are put in, it also plans for an event whose clients are s already
   pub in_place : (one other : Course → Result Course Which) (r : Result (Plan Clients) RoleStop) → ((x : Course) → Met x → other x ≡ one x)
       → PlansRow me now clients_are (IsUnderWay me now w v) (λ x. one (clients_are s x)) r → PlansRow me now clients_are Met other r
   in_place one other r f h = once s one other r (λ x b. f x b ∙ ap one (same x b)) h
