@@ -1,21 +1,21 @@
-# The commands of cephmon and the rule on their arguments. ./cephmon, ./preview, ./install and the installed command source this. The rule only says
-# sooner, and in a sentence, what is wrong: the program judges all arguments itself.
+# The commands of cephmon and the rule on their arguments. ./cephmon, ./preview, launch/manual and the installed command source this. The rule only
+# explains a fault before the program starts, in a sentence: the program judges all arguments itself.
 
-# The commands, a line each: the name, the arguments in order, the standard streams, what it works on, and what it does. Help, manual page, preview and
+# The commands, one per line: the name, the arguments in order, the standard streams, what it works on, and what it does. Help, manual page, preview and
 # the check of arguments are made from this table and the next.
 readonly COMMANDS='
 node          | RANK MONITORS RULE ADDRESSES DISK_A DISK_B TURNS |               | network | serves as one monitor of a quorum, over UDP, until it has made TURNS iterations
-follow        | SERVICE ADDRESSES TURNS                          |               | network | follows the map of a service of a running quorum, and writes a line for each newer version
+follow        | SERVICE ADDRESSES TURNS                          |               | network | follows the map of a service of a running quorum, and writes one line per newer version
 scrub         | RANK MONITORS DISK_A DISK_B                      | > REPORT      | store   | writes a report of what a stopped monitor shares with the others
 scrub-compare |                                                  | < TWO_REPORTS | streams | reads two reports, one after the other, and writes where they differ
-dump-keys     | RANK MONITORS DISK_A DISK_B                      |               | store   | writes a line for each key of a stopped monitor
-dump-paxos    | RANK MONITORS DISK_A DISK_B FROM TO              |               | store   | writes its committed versions from FROM to TO, and the changes of each
-store-export  | RANK MONITORS DISK_A DISK_B                      | > EXPORT      | store   | writes its whole store as one file
-store-import  | RANK MONITORS DISK_A DISK_B                      | < EXPORT      | store   | makes a store of an export, in two files that are empty or not there
+dump-keys     | RANK MONITORS DISK_A DISK_B                      |               | store   | writes one line per key of a stopped monitor
+dump-paxos    | RANK MONITORS DISK_A DISK_B FROM TO              |               | store   | writes the committed versions of a stopped monitor from FROM to TO, and the changes of each
+store-export  | RANK MONITORS DISK_A DISK_B                      | > EXPORT      | store   | writes the whole store of a stopped monitor as one file
+store-import  | RANK MONITORS DISK_A DISK_B                      | < EXPORT      | store   | makes a store from an export, in two empty or missing files
 replay        |                                                  | < SCHEDULE    | streams | replays a schedule of 1 to 15 monitors, and writes its trace
 made          | NUMBER EVENTS                                    |               | streams | replays the generated schedule of NUMBER, with EVENTS events, and writes a summary in one line of JSON
 '
-# The arguments, a line each: the name, the bounds of a number, and what it is. With a command and a colon before the name, the bounds are those of
+# The arguments, one per line: the name, the bounds of a number, and what it is. A row whose name begins with a command and a colon has the bounds of
 # that command.
 readonly ARGUMENTS='
 RANK         | 0 MONITORS-1          | the rank of the monitor, below MONITORS
@@ -23,7 +23,7 @@ MONITORS     | 1 15                  | the number of monitors
 RULE         |                       | who may lead, and whether scores count: classic, disallow=RANKS, connectivity or connectivity=RANKS
 SERVICE      |                       | the service: kv or log
 ADDRESSES    |                       | an address for each monitor in order of rank, joined by commas, as 127.0.0.1:6789,127.0.0.1:6790,127.0.0.1:6791
-DISK_A       |                       | one of the two files of the store; a new one is created
+DISK_A       |                       | one of the two files of the store; a missing one is created
 DISK_B       |                       | the other one
 TURNS        | 1 4611686018427387904 | the number of iterations, or never
 follow:TURNS | 1 2305843009213693952 |
@@ -67,7 +67,7 @@ read_tables() {
 }
 read_tables
 
-# bounds_of COMMAND NAME: the least and the greatest number, in words of the table, or nothing
+# bounds_of COMMAND NAME: the least and the greatest number, as the table has them, or nothing
 bounds_of() { printf '%s' "${BOUNDS[$1:$2]-${BOUNDS[$2]-}}"; }
 
 # meaning_of NAME: what an argument is, with its bounds
@@ -99,7 +99,7 @@ help_of() {
     done
 }
 
-# version_of FILE PROGRAM: the version that the file has, and the digest of the program, another one for each build
+# version_of FILE PROGRAM: the version in the file, and the digest of the program, which differs from build to build
 version_of() {
     local digest
     printf 'cephmon %s\n' "$(cat "$1")"

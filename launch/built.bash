@@ -1,4 +1,4 @@
-# From which sources, and by which toolchain, a program is built. ./cephmon and .ci/run source this, with the top of the repository in `top`.
+# From which sources, and by which toolchain, the program was built. ./cephmon, ./preview and .ci/run source this, with the top of the repository in `top`.
 
 program=$top/out/cephmon
 
@@ -17,7 +17,7 @@ toolchain() {
     rt=$(command -v rt) && stat -L -c '%n %s %Y' "$rt"
 }
 
-# other_logic: a sentence, if the logic of the toolchain isn't the one that TOOLCHAIN names. Another version of the same logic proves the same.
+# other_logic: a warning, if the logic of the toolchain isn't the one that TOOLCHAIN names. Another version of the same logic proves the same.
 other_logic() {
     local here wanted
     here=$(rt version) wanted=$(cat "$top/TOOLCHAIN")
@@ -25,7 +25,7 @@ other_logic() {
         printf 'the toolchain is %s, and this repository was proved by %s: trust nothing here until ./test has passed, or install that one\n' "$here" "$wanted"
 }
 
-# is_built_from SOURCES: the program is there, and was built from these sources by this toolchain, or by any if none is installed
+# is_built_from SOURCES: whether the program exists and was built from these sources by the installed toolchain, or by any if none is installed
 is_built_from() {
     local from by now
     [ -x "$program" ] && { read -r from; read -r by; } 2>/dev/null <"$program.from" || return
@@ -33,7 +33,7 @@ is_built_from() {
     [ "$from" = "$1" ] && { [ -z "$now" ] || [ "$by" = "$now" ]; }
 }
 
-# take_built FILE SOURCES: FILE, which was proved and built from these sources by this toolchain, becomes the program
+# take_built FILE SOURCES: FILE becomes the program. It was proved and built from these sources by the installed toolchain.
 take_built() {
     rm -f "$program.from" && cp "$1" "$program.new" && mv "$program.new" "$program" && printf '%s\n' "$2" "$(toolchain)" >"$program.from"
 }
