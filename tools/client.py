@@ -1,38 +1,38 @@
 #!/usr/bin/env python3
-"""Asks monitors over UDP, with what Python itself brings.
+"""Reads, writes and watches the maps of a quorum, over UDP. It needs no package of Python.
 
 usage: tools/client.py [--config FILE] [--monitor R] [--timeout SECONDS] [--once] [--verbose] [ADDRESSES] COMMAND
 
-    set KEY VALUE             sets a key, and prints the version that did it
+    set KEY VALUE             sets a key, and prints the version of this change
     set KEY --file FILE       sets it to the bytes of a file, or of standard input if FILE is -
-    remove KEY                removes a key, and prints the version that did it
-    log TEXT                  adds a text to the cluster log, and prints the version that did it
+    remove KEY                removes a key, and prints the version of this change
+    log TEXT                  adds a text to the cluster log, and prints the version of this change
     log --file FILE           adds the text of a file, or of standard input if FILE is -
     get [--raw] KEY           prints the value of a key; with --raw its bytes and nothing else
-    keys [--raw] [PREFIX]     prints the names of all keys, or of those with this prefix; with --raw a line for each
+    keys [--raw] [PREFIX]     prints the names of all keys, or of those with this prefix; with --raw one per line
     show SERVICE              prints the map of a service, kv or log
-    since SERVICE VERSION     prints what changed it after its version VERSION, or all of it if that is no longer kept
+    since SERVICE VERSION     prints the changes of its map after VERSION, or the whole map if these are no longer kept
     watch SERVICE [VERSION]   prints the map, and then each change as it is made, until it is stopped; with VERSION, the changes after it
 
 ADDRESSES are the addresses of all monitors in order of rank, as the monitors have them: 127.0.0.1:4000,127.0.0.1:4001,127.0.0.1:4002.
-Without them they are those of the file of the quorum, which --config names, or of /etc/cephmon/quorum.ini. A monitor drops a request that names
-another number of monitors, and the client says so if it is that. A monitor that is silent, Busy, Unavailable or NotReadable is left for the next
-one, until one serves the request or the timeout ends. The options stand before ADDRESSES and COMMAND. A KEY, VALUE or TEXT that begins with a hyphen
+Without ADDRESSES the client takes them from the file of the quorum: the one that --config names, or /etc/cephmon/quorum.ini. A monitor drops a request
+that names another number of monitors, and the client then reports that. If a monitor is silent, Busy, Unavailable or NotReadable, the next one is asked,
+until one serves the request or the timeout ends. The options stand before ADDRESSES and COMMAND. A KEY, VALUE or TEXT that begins with a hyphen
 stands after `--`, as in `set -- -key value`.
 
-An answer is one line of JSON, but for --raw. The status is
+An answer is one line of JSON, except with --raw. The status is
     0    the request was served
-    1    the monitors refuse it: no such key, too long, or the map is full. This try changed nothing. The monitor that refuses knows the keys as of
-         a map that it would show, which may be as old as such a map
+    1    the monitors refuse it: no such key, too long, or the map is full. This try changed nothing. The monitor judges by the map that it would
+         show, which may be as old as any map that it shows
     2    the arguments are faulty, or the file can't be read. Nothing was asked
     3    no monitor served it in time. A change may have been made, and may still be made
     4    it was served, but standard output failed. A change was made; standard error names its version
     130  it was interrupted (ctrl-C). A change may have been made
 
 A change without an answer is asked for again and may be made twice; a line on standard error says so if it may have happened. Setting or removing
-twice leaves the same map, unless another client came between. A removal that was already made is then refused as "no such key", and a text stands
-in the log twice. To exclude that, use --once: the request is sent once, and status 3 means that it may have been made once. Look then, and ask again
-only if it wasn't. A network that duplicates a datagram may still make a change twice.
+twice leaves the same map, unless another client changed it in between. A removal that was already made is then refused as "no such key", and a text
+stands in the log twice. To exclude that, use --once: the request is sent once, and status 3 means that the change may have been made. Then read, and ask
+again only if it wasn't made. If the network duplicates a datagram, a change may still be made twice.
 
 As a module:
 
@@ -60,11 +60,11 @@ from wire import (HELLO, LOG, MOST_MESSAGE, MOST_NUMBER, REMOVE, SERVICES, SET, 
 
 # The name in the usage: that of the call, without the folder of an installed command.
 NAME = os.path.basename(sys.argv[0]) if os.path.isabs(sys.argv[0]) else sys.argv[0]
-# A file of a value that is longer is not asked for. Monitors refuse values that are longer than they take.
+# The most bytes of a file. It is above the limits of values and texts, which the monitors judge.
 MOST_FILE = 1_000_000
-# Seconds between two tries, between two looks for changes, and for a request if nothing else is said.
+# Seconds between two tries, seconds between two requests for changes, and the time limit of a request unless another is given.
 PAUSE, LOOK, TIMEOUT = 0.1, 0.25, 30.0
-# The replies that serve a request, what a monitor is said to do that is silent, and the replies that refuse for good.
+# The kinds of replies that serve a request, the outcome of a silent monitor, and the kinds that refuse for good, with what is printed.
 SERVED = 'Done', 'Shown', 'Since'
 NO_ANSWER = 'no answer'
 REFUSALS = {
@@ -82,7 +82,7 @@ class NotServed(Exception):
     """No monitor served the request in time. A change may have been made, and may still be made.
 
     `outcomes` has the last outcome of each monitor that was asked, by its rank: `no answer`, `Unavailable`, `NotReadable`, `Busy`, or a sentence if
-    it drops these requests, since it is one of another number of monitors."""
+    the monitor drops these requests because they name another number of monitors."""
 
     def __init__(self, seconds: float, outcomes: dict[int, str]):
         self.outcomes = outcomes
@@ -110,7 +110,7 @@ class Client:
         self.asked = first if monitor is None else monitor
         self.timeout, self.patience, self.once = timeout, patience, once
         self.tries, self.silent, self.reply = 0, 0, None
-        # How many monitors there are, as those say that were silent.
+        # By rank, how many monitors there are, as the hello of a silent monitor says.
         self.sizes = {}
         self.assembly = Assembly()
         self.boot, self.numbers = new_number(), []
@@ -129,15 +129,15 @@ class Client:
         self.socket.close()
 
     def set(self, key: str | bytes, value: str | bytes) -> int:
-        """Sets a key, and returns the version of the log that did it. A value has at most 65,536 bytes of UTF-8."""
+        """Sets a key, and returns the log's version of this change. A value has at most 65,536 bytes of UTF-8."""
         return self.ask(bytes([SET]) + key_field(key) + text_field(value))['version']
 
     def remove(self, key: str | bytes) -> int:
-        """Removes a key, and returns the version of the log that did it. It is refused if there is no such key."""
+        """Removes a key, and returns the log's version of this change. It is refused if there is no such key."""
         return self.ask(bytes([REMOVE]) + key_field(key))['version']
 
     def log(self, text: str | bytes) -> int:
-        """Adds a text to the cluster log, and returns the version of the log of versions that did it. It has at most 1,024 bytes."""
+        """Adds a text of at most 1,024 bytes to the cluster log, and returns the version of this change in the log of all changes."""
         return self.ask(bytes([LOG]) + text_field(text))['version']
 
     def get(self, key: str | bytes) -> str:
@@ -158,7 +158,7 @@ class Client:
 
     def since(self, service: str, version: int) -> dict:
         """The changes of a service's map `from` a version `to` another, and whether there are `more`. If the monitor no longer has all
-        of them, it is what `show` returns."""
+        of them, the result is what `show` returns."""
         return self.ask(bytes([SINCE]) + service_field(service) + number_field(version))
 
     def watch(self, service: str, version: int | None = None, pause: float = LOOK) -> Iterator[tuple[int, dict]]:
@@ -199,7 +199,7 @@ class Client:
             if reply or time.monotonic() < end:
                 outcomes[self.asked] = reply.kind if reply else self.silence()
             else:
-                # A last try that was cut short says nothing of a monitor that answered before.
+                # If the timeout cut the last try short, an earlier outcome of this monitor is kept.
                 outcomes.setdefault(self.asked, NO_ANSWER)
             if self.monitor is None:
                 self.asked = (self.asked + 1) % len(self.addresses)
@@ -208,19 +208,19 @@ class Client:
         raise NotServed(round(time.monotonic() - began, 1) if self.is_elsewhere() else self.timeout, outcomes)
 
     def is_elsewhere(self) -> bool:
-        """Whether all who may be asked say that they are monitors of another number, and so drop each request."""
+        """Whether each monitor that may be asked says that it is one of another number of monitors, and so drops each request."""
         asked = range(len(self.addresses)) if self.monitor is None else [self.monitor]
         return all(self.sizes.get(rank, len(self.addresses)) != len(self.addresses) for rank in asked)
 
     def silence(self) -> str:
-        """Why the monitor that was asked gave no answer, as far as it says."""
+        """Why the monitor that was asked gave no answer, as far as its hello shows."""
         size, count = self.sizes.get(self.asked), len(self.addresses)
         if size in (None, count):
             return NO_ANSWER
         return f'it is one of {size} monitors, and drops requests to one of {count}; give the addresses of all {size}'
 
     def late_answer(self, end: float) -> Reply | None:
-        """Asks a silent monitor who it is, and waits a little for that, or for a reply that comes late after all."""
+        """Asks a silent monitor for its hello, and waits a little for that or for a late reply, which is returned."""
         try:
             self.socket.sendto(greeting(self.addresses), self.addresses[self.asked])
         except OSError:
@@ -235,7 +235,7 @@ class Client:
             for datagram in datagrams(message, self.boot, self.numbers[-1]):
                 self.socket.sendto(datagram, self.addresses[self.asked])
         except OSError:
-            # What can't be sent is like what is lost.
+            # A datagram that can't be sent counts as lost.
             pass
 
     def answer(self, end: float) -> Reply | None:
@@ -304,7 +304,7 @@ COMMANDS = {
     'watch': ['service', 'version'],
 }
 CHANGES = 'set', 'remove', 'log'
-# What may be left out: a value or a text that is a file's, and what has a default.
+# Arguments that may be left out: a value or a text that --file gives, and those with a default.
 OPTIONAL = [('set', 'value'), ('log', 'text'), ('keys', 'prefix'), ('watch', 'version')]
 
 
@@ -319,7 +319,7 @@ def command_parser() -> argparse.ArgumentParser:
         if name in ('set', 'log'):
             command.add_argument('--file', metavar='FILE', help=f'take the {fields[-1]} from this file, or from standard input if it is -')
         if name in ('get', 'keys'):
-            command.add_argument('--raw', action='store_true', help='print no JSON, but the value alone' if name == 'get' else 'print no JSON, but a line for each key')
+            command.add_argument('--raw', action='store_true', help='print no JSON, but the value alone' if name == 'get' else 'print no JSON, but one key per line')
     return parser
 
 
@@ -338,7 +338,7 @@ def option_parser() -> argparse.ArgumentParser:
 
 
 def addresses_given(parser: argparse.ArgumentParser, found: argparse.Namespace) -> list[tuple[str, int]]:
-    """The addresses, which are taken from the arguments that are left, or are those of the file."""
+    """The addresses. They are taken from the arguments that are left, or else from the file."""
     if found.rest and found.rest[0] not in COMMANDS:
         if found.config is not None:
             parser.error(f"'{found.rest[0]}' is no command; with --config there are no ADDRESSES")
@@ -398,7 +398,7 @@ def answers(client: Client, asked: argparse.Namespace) -> Iterator:
 
 
 def explained(client: Client, began: float) -> str:
-    """How the last request went."""
+    """Who answered the last request, in which epoch, after how many tries and how long."""
     tries = f'{client.tries} {"try" if client.tries == 1 else "tries"}, {time.monotonic() - began:.3f} s'
     return f'monitor {client.reply.rank}, epoch {client.reply.epoch}, {tries}' if client.reply else f'nobody, {tries}'
 
@@ -424,7 +424,7 @@ def put(answer, raw: bool):
 
 
 def warn_of_doubles(client: Client, asked: argparse.Namespace):
-    """Says if a change was sent more than once, and each of these may be made."""
+    """Warns if a change was sent more than once, so that it may be made more than once."""
     if asked.command in CHANGES and client.silent and client.tries > 1:
         say(f'{client.tries} tries were sent, and {client.silent} had no answer, so this may be made more than once; --once sends one')
 
@@ -446,7 +446,7 @@ def main() -> int:
             warn_of_doubles(client, asked)
             return {Refused: 1, NotServed: 3}.get(type(why), 2)
         except OSError as why:
-            # The answer is known, so it is the output that failed. Nothing more may be written there, not even at the end.
+            # The answer is known, so the output failed. Python must write nothing more there, not even at its end.
             os.dup2(os.open(os.devnull, os.O_WRONLY), 1)
             made = f'the change is made, as version {answer}' if isinstance(answer, int) else 'the request was served'
             say(f'{made}; standard output failed: {why.strerror}')

@@ -1,7 +1,7 @@
-"""The schedules that scripts of `examples` print, since they are long, and how much of their traces is kept."""
+"""The schedules that are printed by scripts of `examples`, because they are long, and how much of their traces is kept."""
 from __future__ import annotations
 
-# How many of a trace's last lines are kept, or None for all, and how many columns of each line.
+# By schedule: how many of its trace's last lines are kept (None: all), and how many columns of each line.
 PRINTED = {
     'limits': (None, 100),
     'full_synchronisation': (123, 100),
@@ -16,7 +16,7 @@ PRINTED = {
 
 
 def kept(name: str, trace: bytes) -> bytes:
-    """The part of a schedule's trace that is kept beside it. That of a schedule which is a file is kept whole."""
+    """The part of a schedule's trace that is kept beside it. The trace of a schedule that is a file is kept whole."""
     if name not in PRINTED:
         return trace
     count, columns = PRINTED[name]

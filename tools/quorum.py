@@ -16,14 +16,14 @@ MOST_TURNS = str(2**62)
 
 
 def built_program() -> str:
-    """The program of this repository, which is proved and built first where it isn't yet."""
+    """The program of this repository. It is proved and built first, if it isn't built yet."""
     with open(os.path.join(TOP, 'examples', 'first.schedule'), encoding='ascii') as schedule:
         subprocess.run([os.path.join(TOP, 'cephmon'), 'replay'], stdin=schedule, stdout=subprocess.DEVNULL, check=True)
     return os.path.join(TOP, 'out', 'cephmon')
 
 
 def free_ports(count: int) -> list[int]:
-    """Ports that nothing hears at. They are below those that a system gives away by itself, so that one stays free while its monitor is down."""
+    """Free ports of 127.0.0.1. They are below those that the system assigns by itself, so a port stays free while its monitor is down."""
     ports = random.sample(range(10_000, 32_000), 10 * count)
     return [port for port in ports if is_free(port)][:count]
 
@@ -38,8 +38,8 @@ def is_free(port: int) -> bool:
 
 
 class Quorum:
-    """Monitors that are started and killed by their ranks, without lines of theirs unless CEPHMON_LOG has another value. At its end all are killed, also
-    where a signal ends the script."""
+    """Monitors that are started and killed by their ranks. They write no lines unless CEPHMON_LOG has another value than `off`. When the `with` block ends,
+    all are killed, also if SIGTERM ends the script."""
 
     def __init__(self, program: str, folder: str, monitors: int = 3, rule: str = 'classic'):
         self.program, self.folder, self.rule = program, folder, rule
@@ -73,7 +73,7 @@ class Quorum:
             self.start(rank)
 
     def kill(self, rank: int):
-        """Kills a monitor without mercy. One that ended by itself before is an error."""
+        """Kills a monitor with SIGKILL. If it had ended by itself, that is an error."""
         process = self.running.pop(rank)
         ended = process.poll()
         process.kill()
@@ -85,7 +85,7 @@ class Quorum:
         return Client(self.addresses, **how)
 
     def shown_by(self, rank: int, paxos: int, seconds: float) -> tuple[dict, dict] | None:
-        """The maps of both services, as one monitor shows them in time, where it has that version of all changes then."""
+        """The maps of both services as one monitor shows them, once it has this version of the log of all changes; None if it hasn't in time."""
         end = time.monotonic() + seconds
         with self.client(monitor=rank, timeout=1.0) as client:
             while time.monotonic() < end:
@@ -99,7 +99,7 @@ class Quorum:
         return None
 
     def serve(self, seconds: float = 40):
-        """Starts all, and waits until a change is made."""
+        """Starts all monitors, and waits until a change is made."""
         self.start_all()
         with self.client(timeout=seconds, patience=0.5) as client:
             client.log('begun')
@@ -109,7 +109,7 @@ class Quorum:
         return [rank for rank, process in self.running.items() if process.poll() is not None]
 
     def final(self, paxos: int, seconds: float = 60) -> list[tuple[dict, dict]] | None:
-        """The maps of both services that all show once they show one, or nothing."""
+        """What each monitor shows of both services, once all show the same version of the log; None if they don't in time."""
         end = time.monotonic() + seconds
         while time.monotonic() < end:
             found = [self.shown_by(rank, paxos, 1.0) for rank in self.ranks()]

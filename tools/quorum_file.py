@@ -10,8 +10,9 @@ It is an INI file with one section, `quorum`:
     program = /usr/local/lib/cephmon/cephmon
 
 or a JSON object with the same names, in which `addresses` may be a list. `name` is the quorum's: monitors of quorums with different names don't
-hear each other, whatever their addresses. `addresses` are those of all monitors in order of rank. `rule` is `classic` if it isn't given. `folder` holds the files `a` and `b` of a monitor's store. `{rank}` in it is the monitor's rank, and if
-there is none, the monitors must be on different machines. `folder` and `program` are for the tools that start a monitor or read its store.
+hear each other, whatever their addresses. `addresses` are those of all monitors in order of rank. `rule` is `classic` if it isn't given. `folder` holds
+the files `a` and `b` of a monitor's store. `{rank}` in it is replaced by the monitor's rank. If there is no `{rank}`, the monitors must be on different
+machines. `folder` and `program` are for the tools that start a monitor or read its store.
 """
 from __future__ import annotations
 
@@ -25,10 +26,10 @@ from wire import MOST_MONITORS, MOST_QUORUM_NAME
 
 # The longest argument of the program, in bytes.
 MOST_ARGUMENT = 4_096
-# Where an installed quorum has its file.
+# The file of an installed quorum.
 DEFAULT = '/etc/cephmon/quorum.ini'
 NAMES = ['addresses', 'name', 'rule', 'folder', 'program']
-# The environment variable by which the program takes the name of its quorum. No name is the empty one.
+# The environment variable from which the program takes the name of its quorum. Without it the name is empty.
 VARIABLE = 'CEPHMON_QUORUM'
 RULE = re.compile(r'(classic|connectivity)|(disallow|connectivity)=(.*)')
 
@@ -55,7 +56,7 @@ class QuorumFile(NamedTuple):
 
 
 def fields_of(path: str) -> dict:
-    """The fields of the file as they stand there."""
+    """The fields of the file, not yet checked."""
     try:
         with open(path, encoding='utf-8') as file:
             text = file.read()

@@ -1,6 +1,7 @@
-"""The stores of stopped monitors, by the program's own commands, and what an export of one holds, as docs/FORMATS.md specifies it.
+"""Reads and makes the stores of stopped monitors by the program's own commands. Reads what an export of a store holds, as docs/FORMATS.md specifies it.
 
-An export is a *backup* if it is good for a restore: it holds at least one version, and no full synchronization was in progress.
+An export is a *backup* if a quorum can be restored from it: it holds at least one version, its maps are complete, and no full synchronization was in
+progress.
 """
 from __future__ import annotations
 
@@ -18,15 +19,15 @@ CHECKPOINT = b'\x80'
 # The services by their names, and the prefixes of their keys.
 PREFIXES = {'kv': b'kv', 'log': b'logm'}
 MOST_TEXTS, MOST_LOG = 500, 12_288
-# The program's status if an import was to write over a file.
+# The program's status if an import would write over a file.
 NOT_EMPTY = 15
 AGREE = b'end mismatches=0\n'
-# The entry of the epoch, before its value.
+# The bytes of the epoch's entry before its value and that value's length.
 EPOCH = b'\x07monitor\x0eelection_epoch'
 
 
 class Unfit(Exception):
-    """A store or an export isn't what is needed, for this reason. `status` is the program's, if that ended with one."""
+    """A store or an export isn't what is needed, for this reason. `status` is that of the program if it failed, and 0 otherwise."""
 
     def __init__(self, text: str, status: int = 0):
         super().__init__(text)
@@ -34,14 +35,14 @@ class Unfit(Exception):
 
 
 class Export(NamedTuple):
-    """What an export holds: whose store it is, and the store's map, from pairs of a prefix and a key to values."""
+    """An export: its bytes, the rank and the number of monitors of its store, and the store's entries, from pairs of a prefix and a key to values."""
     octets: bytes
     rank: int
     monitors: int
     entries: dict
 
     def number(self, prefix: bytes, key: bytes) -> int:
-        """A number that is kept at a key, or 0."""
+        """The number at a key, or 0 if there is none."""
         value = self.entries.get((prefix, key), b'')
         return int.from_bytes(value, 'little') if len(value) == 8 else 0
 
@@ -50,14 +51,14 @@ class Export(NamedTuple):
         return self.number(b'paxos', b'last_committed')
 
     def has_pending(self) -> bool:
-        """Whether a value is accepted that isn't committed, which a quorum of this store may commit."""
+        """Whether the store has a pending value: accepted and not committed. A quorum with this store may commit it."""
         return self.number(b'paxos', b'pending_v') == self.last() + 1 and (b'paxos', b'%d' % (self.last() + 1)) in self.entries
 
     def is_marked(self) -> bool:
         return (b'mon_sync', b'in_sync') in self.entries
 
     def of(self, rank: int, monitors: int) -> bytes:
-        """The same store as that of another member."""
+        """The bytes of the same export for another rank and number of monitors."""
         at = len(MARK)
         return self.octets[:at] + bytes([rank, monitors]) + self.octets[at + 2:]
 
@@ -80,7 +81,7 @@ class Export(NamedTuple):
         return version, dict(sorted(found.items())) if service == 'kv' else found
 
     def maps(self) -> dict:
-        """Both maps, in the form of JSON."""
+        """Both maps and whose they are, as JSON takes them."""
         found = {'rank': self.rank, 'monitors': self.monitors, 'last': self.last(), 'pending': self.has_pending()}
         for service in PREFIXES:
             version, entries = self.service(service)
@@ -88,7 +89,7 @@ class Export(NamedTuple):
         return found
 
     def said(self) -> str:
-        """What it is, in a line."""
+        """A summary in one line."""
         text = f'of monitor {self.rank} of {self.monitors}, last version {self.last()}'
         try:
             (keys_at, keys), (texts_at, texts) = self.service('kv'), self.service('log')
@@ -97,7 +98,7 @@ class Export(NamedTuple):
         return f'{text}, {counted(len(keys), "key")} at version {keys_at}, {counted(len(texts), "text")} at version {texts_at}'
 
     def with_epoch(self, epoch: int) -> Export:
-        """The same store after an election in this epoch, in place of the one that it knows. Raises Unfit if it knows none."""
+        """The same export with this epoch in place of its own. Raises Unfit if it has none."""
         place = EPOCH + (8).to_bytes(4, 'little')
         if self.octets.count(place) != 1:
             raise Unfit('it has no epoch of an election')
@@ -110,7 +111,7 @@ def counted(count: int, name: str, names: str | None = None) -> str:
 
 
 def surplus_dropped(texts: list) -> list:
-    """The cluster log without the oldest entries that are too many."""
+    """The cluster log without its oldest entries, as far as it is above its limits."""
     size = 4 + sum(5 + len(text.encode()) for _, text in texts)
     while len(texts) > MOST_TEXTS or size > MOST_LOG:
         size -= 5 + len(texts[0][1].encode())
@@ -156,7 +157,7 @@ class Store:
         self.files = [os.path.join(folder, side) for side in 'ab']
 
     def run(self, command: str, given: bytes = b'') -> bytes:
-        """What a command of the program writes. Raises Unfit if its status isn't 0."""
+        """The standard output of a command of the program on this store. Raises Unfit if the status isn't 0."""
         words = [self.program, command, str(self.rank), str(self.monitors), *self.files]
         try:
             done = subprocess.run(words, input=given, stdout=subprocess.PIPE, stderr=subprocess.PIPE)
@@ -168,14 +169,14 @@ class Store:
         return done.stdout
 
     def export(self) -> Export:
-        """The export of a store that is there. The program would take missing files for those of an empty store, and make them."""
+        """The export of an existing store. The program alone would create missing files, and export an empty store."""
         for file in self.files:
             if not os.path.isfile(file):
                 raise Unfit(f"monitor {self.rank}: '{file}' is no file", 6)
         return read_export(self.run('store-export'))
 
     def fault(self) -> str | None:
-        """Why a store can't be made here, if it can't: the folder isn't there, or a file has something in it."""
+        """Why a store can't be made here, or None: the folder is missing or can't be written, or a file isn't empty."""
         if not os.path.isdir(self.folder):
             return f"monitor {self.rank}: '{self.folder}' is no folder; make it first, for the user that runs the monitor"
         if not os.access(self.folder, os.W_OK | os.X_OK):
@@ -186,14 +187,14 @@ class Store:
         return None
 
     def make(self, export: Export, made: list[str]):
-        """Makes the store of an export here, for this member, and reads it again. The files belong to the owner of the folder. Those that weren't there
-        before are added to `made`, unless a monitor took them meanwhile."""
+        """Makes the store of an export here, for this rank, and reads it again. The files get the owner of the folder. Files that weren't there before are
+        added to `made`, unless another process has taken them since."""
         wanted = export.of(self.rank, self.monitors)
         new = [file for file in self.files if not os.path.lexists(file)]
         try:
             self.run('store-import', wanted)
         except Unfit as why:
-            # Files that are locked, or that aren't empty any more, are somebody else's now.
+            # Files that are locked or no longer empty belong to another process now.
             made += [] if why.status == NOT_EMPTY or 'locked' in str(why) else [file for file in new if os.path.exists(file)]
             raise
         made += new
@@ -207,17 +208,17 @@ class Store:
 
 
 def give(file: str, folder: str):
-    """Makes a file the property of its folder's owner, if this user may do so, as the monitor's user needs it."""
+    """Gives a file to its folder's owner, if this user is root: the monitor's user must be able to open it."""
     owner = os.stat(folder)
     if os.geteuid() == 0:
         os.chown(file, owner.st_uid, owner.st_gid)
 
 
 def digest_of(report: bytes) -> str:
-    """What the reports of monitors that agree have in common: the text without the rank, as 16 digits."""
+    """16 digits of the SHA-256 of a report without its rank. Reports of monitors that agree have the same."""
     return hashlib.sha256(re.sub(rb' rank=\d+', b'', report)).hexdigest()[:16]
 
 
 def compared(program: str, one: bytes, other: bytes) -> bytes:
-    """How two reports differ, by the program."""
+    """The program's comparison of two reports."""
     return subprocess.run([program, 'scrub-compare'], input=one + other, stdout=subprocess.PIPE, check=True).stdout

@@ -1,4 +1,4 @@
-"""What a monitor knows of itself, as it answers a status request: the request, the answer, and its metrics for Prometheus.
+"""What a monitor reports of itself in its answer to a status request: the request, the answer, and its metrics for Prometheus.
 
 Nothing here sends or receives.
 """
@@ -11,11 +11,11 @@ from wire import Malformed
 
 # The first byte of a status request and of its answer, and the bytes before the text of an answer.
 WATCH, HEADER = 5, 9
-# The names of datagrams by the place of their counts: pieces of long messages, and messages by the bytes of their kinds.
+# The names of the counted datagrams, in order: pieces of long messages, and then messages by the bytes of their kinds.
 KINDS = ('piece', 'probe', 'probe_reply', 'propose', 'ack', 'victory', 'collect', 'last', 'begin', 'accept', 'commit', 'lease', 'lease_ack', 'forward', 'route',
          'get_cookie_full', 'get_cookie_recent', 'cookie', 'get_chunk', 'chunk', 'last_chunk', 'no_cookie', 'ping', 'ping_reply', 'request', 'reply')
 PHASES = ('unknown', 'probing', 'synchronizing', 'electing', 'collecting', 'active', 'peon')
-# The bound of each bucket of the times of syncs, in seconds. The last bucket has none.
+# The upper bound of each bucket of the histogram of syncs, in seconds. The last bucket has none.
 BOUNDS = [2**k / 1000 for k in range(15)]
 COUNTS = ('elections', 'epoch', 'monitors', 'ms', 'quorum', 'rank', 'refused', 'version')
 DISK_COUNTS = ('bytes_read', 'bytes_written', 'greatest_ms', 'length', 'reads', 'slow', 'syncs', 'total_ms', 'writes')
@@ -27,12 +27,12 @@ def status_request(number: int) -> bytes:
 
 
 class Watched(NamedTuple):
-    """What a monitor knows of itself. `of` has the members of its answer."""
+    """An answer to a status request: its number, and `of` with its members."""
     number: int
     of: dict
 
     def ranks(self) -> list[int]:
-        """The quorum that it names, which is empty if it knows none."""
+        """The ranks of the quorum that the monitor names. It is empty if the monitor knows none."""
         return [rank for rank in range(15) if self.of['quorum'] >> rank & 1]
 
     def is_in_quorum(self) -> bool:
@@ -48,7 +48,7 @@ def are_counts(values, many: int) -> bool:
 
 
 def is_answer(of) -> bool:
-    """Whether the members of an answer are those that a monitor gives."""
+    """Whether all members of an answer are there and have their types."""
     if not isinstance(of, dict) or not all(is_count(of.get(name)) for name in COUNTS) or of.get('phase') not in PHASES:
         return False
     disks = of.get('disks')
@@ -61,7 +61,7 @@ def is_answer(of) -> bool:
 
 
 def watched_of(datagram: bytes) -> Watched:
-    """What this answer says. Raises Malformed if it is none."""
+    """The answer in this datagram. Raises Malformed if it is none."""
     if len(datagram) <= HEADER or datagram[0] != WATCH:
         raise Malformed('no answer to a status request')
     try:
@@ -76,7 +76,7 @@ def watched_of(datagram: bytes) -> Watched:
 # ---- metrics
 
 class Metric(NamedTuple):
-    """A metric: its name, its type, its text, and its samples, each with the labels beside those of the monitor."""
+    """A metric: its name, type and text, and its samples: for each the labels beyond those of the monitor, the suffix of the name, and the value."""
     name: str
     kind: str
     text: str
@@ -103,7 +103,7 @@ def histogram(disks: list[dict]) -> Metric:
 
 
 def metrics(of: dict) -> list[Metric]:
-    """The metrics of a monitor. Their names lack the beginning that all share."""
+    """The metrics of a monitor. Their names lack the prefix that all share."""
     disks, here = of['disks'], range(of['monitors'])
     peers = [rank for rank in here if rank != of['rank']]
     return [

@@ -1,7 +1,7 @@
-"""Requests, replies and hellos as bytes, as docs/FORMATS.md specifies them: what a client of the monitors sends and receives. Also the frame of
-datagrams between monitors, for tools that see those.
+"""The bytes that a client of monitors sends and receives: requests, replies and hellos, as docs/FORMATS.md specifies them. Also the frame of datagrams
+between monitors, for tools that see those.
 
-Nothing here sends or receives. A function that makes bytes raises ValueError for what has no encoding; one that reads them raises Malformed.
+Nothing here sends or receives. A function that encodes raises ValueError for what has no encoding; a function that reads bytes raises Malformed.
 """
 from __future__ import annotations
 
@@ -17,7 +17,7 @@ MOST_NUMBER = 2**62
 REQUEST, REPLY = 24, 25
 SET, REMOVE, LOG, SHOW, SINCE = range(1, 6)
 SERVICES = {'kv': 1, 'log': 2}
-# Messages of which not all pieces came yet, at most.
+# The most incomplete messages that are kept.
 MOST_PARTIAL = 16
 # The first bytes of a framed datagram and of a hello; the bytes of a frame; and the most bytes of a quorum's name and of a program's version.
 FRAME, HELLO = 3, 4
@@ -32,7 +32,7 @@ class Malformed(Exception):
 
 
 class Reader:
-    """Takes fields from the front of bytes. The checks judge by a reader of their own, bench/fields.py."""
+    """Reads fields from bytes, one after the other. The checks have a reader of their own, bench/fields.py."""
 
     def __init__(self, octets: bytes):
         self.octets, self.at = octets, 0
@@ -53,7 +53,7 @@ class Reader:
         return found
 
     def choice(self, choices):
-        """The meaning of a byte."""
+        """The next byte, decoded by a table of choices."""
         code = self.unsigned(1)
         if code not in choices:
             raise Malformed(f'a byte {code} before {self.at}')
@@ -80,7 +80,7 @@ class Reader:
 
 
 def encoded(text: str | bytes) -> bytes:
-    """The UTF-8 bytes of a text, which may be given as such."""
+    """The UTF-8 bytes of a text, which may also be given as bytes."""
     try:
         octets = text.encode('utf-8') if isinstance(text, str) else bytes(text)
         octets.decode('utf-8')
@@ -114,7 +114,7 @@ def service_field(service: str) -> bytes:
 
 
 def new_number() -> int:
-    """A number for a request or a long message. Nobody can guess it, so nobody who doesn't see the request can forge a reply to it."""
+    """A random number for a request or a long message. Nobody can guess it, so only who sees the request can forge a reply to it."""
     return secrets.randbelow(MOST_NUMBER)
 
 
@@ -123,7 +123,7 @@ def request_message(monitors: int, number: int, request: bytes) -> bytes:
 
 
 def datagrams(message: bytes, boot: int, seq: int) -> list[bytes]:
-    """A message as it goes out: whole, or in pieces under two numbers that no other message of the sender has."""
+    """The datagrams of a message: the message itself, or its pieces. The pair of `boot` and `seq` must differ for each long message of the sender."""
     if len(message) <= MOST_DATAGRAM:
         return [message]
     head = b'\2\0\0\0' + number_field(boot) + number_field(seq) + struct.pack('<I', len(message))
@@ -131,7 +131,7 @@ def datagrams(message: bytes, boot: int, seq: int) -> list[bytes]:
 
 
 def rule_field(rule: str) -> bytes:
-    """A rule as the program takes it: a byte for its kind, and for all but `classic` the ranks that never lead, bit r of two bytes for rank r."""
+    """A rule, encoded: a byte for its kind, and except for `classic` two bytes in which bit r is set if rank r never leads."""
     kind, _, ranks = rule.partition('=')
     if kind not in RULES:
         raise ValueError(f'a rule is {", ".join(RULES)}')
@@ -140,7 +140,7 @@ def rule_field(rule: str) -> bytes:
 
 
 def quorum_field(name: str, monitors: int, rule: str) -> bytes:
-    """What names a quorum: its name, how many monitors it has, and its rule."""
+    """The bytes that identify a quorum: its name, its number of monitors, and its rule."""
     octets = encoded(name)
     if len(octets) > MOST_QUORUM_NAME:
         raise ValueError(f'the name of a quorum has at most {MOST_QUORUM_NAME} bytes')
@@ -153,12 +153,12 @@ def tag_of(name: str, monitors: int, rule: str) -> bytes:
 
 
 def framed(datagram: bytes, tag: bytes | None) -> bytes:
-    """A datagram as one monitor sends it to another: in the frame of this tag, or without one if there is no tag."""
+    """A datagram as one monitor sends it to another: in a frame with this tag, or without a frame if the tag is None."""
     return datagram if tag is None else bytes([FRAME]) + tag + datagram
 
 
 def unframed(datagram: bytes) -> tuple[bytes | None, bytes]:
-    """The tag of a datagram between monitors and what is in its frame; no tag and the datagram itself if it has no frame."""
+    """The tag and the content of a framed datagram between monitors; None and the datagram itself if it has no frame."""
     if datagram[:1] != bytes([FRAME]) or len(datagram) < FRAME_HEADER:
         return None, datagram
     return datagram[1:FRAME_HEADER], datagram[FRAME_HEADER:]
@@ -180,7 +180,7 @@ class Hello(NamedTuple):
 
 
 def greeting(addresses: list[tuple[str, int]]) -> bytes:
-    """A hello with which a client asks a monitor for its own. What it says of a quorum doesn't matter."""
+    """The hello with which a client asks a monitor for its own. The monitor ignores what this one says of a quorum."""
     return Hello('client', '', len(addresses), 'classic', 0, addresses).encode()
 
 
@@ -210,7 +210,7 @@ def hello_of(datagram: bytes) -> Hello:
 
 
 class Assembly:
-    """Joins pieces. They may come in any order, and some never."""
+    """Joins the pieces of messages. They may arrive in any order, and some may never arrive."""
 
     def __init__(self):
         self.partial = {}
@@ -237,12 +237,12 @@ class Assembly:
 
 
 def log_entry(reader: Reader) -> list:
-    """The monitor that was asked, and the text."""
+    """An entry of the cluster log: the rank of the monitor that was asked, and the text."""
     return [reader.unsigned(1), reader.text()]
 
 
 def map_of(service: str, octets: bytes) -> dict | list:
-    """The values of the keys, or the entries of the log, the oldest first."""
+    """A map from its bytes: of `kv` a dictionary, of `log` the list of its entries, the oldest first."""
     reader = Reader(octets)
     entries = range(reader.unsigned(4))
     if service == 'kv':
@@ -278,7 +278,7 @@ def since(reader: Reader) -> dict:
 
 
 def numbers(*names):
-    """A reader of numbers with these names."""
+    """A function that reads as many numbers as there are names, into a dictionary."""
     return lambda reader: {name: reader.number() for name in names}
 
 
@@ -307,7 +307,7 @@ class Reply(NamedTuple):
 
 
 def reply_of(message: bytes, monitors: int) -> Reply:
-    """The REPLY that a monitor of this many sent. Raises Malformed if the message is none."""
+    """The REPLY of a monitor of this number of monitors. Raises Malformed if the message is none."""
     reader = Reader(message)
     if reader.take(2) != bytes([1, REPLY]):
         raise Malformed('no REPLY')
