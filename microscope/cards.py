@@ -1,4 +1,4 @@
-"""What a monitor remembers and keeps, as a teacher would say it: a card of it after an event."""
+"""A *card*: a short summary of what a monitor remembers and has in its store after an event."""
 from __future__ import annotations
 
 from played import TIMERS, app, run
@@ -15,7 +15,7 @@ def ranks(bits) -> str:
 
 
 def value_of(ops) -> str:
-    """The command of a value, as a client asks it."""
+    """The command whose value this is, as a client asks it."""
     for op in ops:
         if op.n != 'Put' or not bytes(op.a[1]).isdigit():
             continue
@@ -39,7 +39,7 @@ def shortened(text: str, most: int = 60) -> str:
 
 
 def card(play: run.Play, rank: int, now: int) -> dict:
-    """What a monitor is and knows, by name. What it doesn't have is None."""
+    """The card of a monitor: its fields by name. A field that doesn't apply is None."""
     world = play.scene.d['world'].d
     store, state = app(world['store'], rank), app(world['state'], rank)
     view = app(run.fn(run.PR + 'Readings', 'readings_of'), store)
@@ -58,7 +58,7 @@ def card(play: run.Play, rank: int, now: int) -> dict:
 
 
 def memory(state: dict, rank: int, now: int) -> dict:
-    """What a running monitor remembers."""
+    """The fields of a running monitor's card that aren't in its store."""
     phase = state['phase'].n
     leads, is_peon = phase in LEADING, phase == 'Peon'
     role = state['leader'].d if leads else state['peon'].d
@@ -78,7 +78,7 @@ def memory(state: dict, rank: int, now: int) -> dict:
 
 
 def map_of(view) -> str:
-    """Both maps, in few letters."""
+    """Both maps, in at most 80 letters."""
     read = run.fn(run.PR + 'Services', 'read_map')
     pairs = run.apps(read, view, run.Con('Kv')).a[0].d
     texts = run.apps(read, view, run.Con('Log')).a[0]

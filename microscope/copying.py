@@ -1,4 +1,4 @@
-"""What carries the messages of a simulation that takes copies: a link of each monitor that sends again, by the executed definitions."""
+"""Carries the messages of a simulation with copies: each monitor has a link, executed by its definitions, that sends again what is lost."""
 from __future__ import annotations
 
 from typing import NamedTuple
@@ -9,12 +9,12 @@ import again
 
 HEADERS, PIECES = 'mon_decode.specs.Headers', 'mon_frag.specs.Pieces'
 antt.NATIVE['byteorder.specs.Endian.little_bytes'] = nat(2)(lambda octets, number: (number % 256**octets).to_bytes(octets, 'little'))
-# How many bytes the two numbers take with which the body of a kind begins, if these aren't 8 each.
+# By kind, the lengths in bytes of the two numbers with which its body begins, if they aren't 8 each.
 SHORT = {'Victory': (2, 8), 'Commit': (8, 2)}
 
 
 class Carried(NamedTuple):
-    """A datagram on its way: from and to which monitor, the number of its message in the run, and its bytes."""
+    """A datagram on its way: its sender and receiver, the number of its message in the run, and its bytes."""
     sender: int
     to: int
     number: int
@@ -22,8 +22,8 @@ class Carried(NamedTuple):
 
 
 def encoded(message, same: int) -> bytes:
-    """Bytes with the header, the first numbers and the length of a message, in which `same` names those that are equal to it. Nothing that is sent
-    again depends on more of a body."""
+    """Bytes with the header, the first numbers and the length of a message. `same` is a number that equal messages share. The link depends on no other part
+    of a body."""
     heading = app(resolve(HEADERS, 'heading'), message).d
     kind, first, second = heading['kind'], heading['first'], heading['second']
     if kind.n == 'Commit':
@@ -35,19 +35,20 @@ def encoded(message, same: int) -> bytes:
 
 
 class Copying:
-    """The links of all monitors. Each call has a monitor and a time, and returns what goes on the wire then."""
+    """The links of all monitors. Each call returns the datagrams that go on the wire at its time."""
 
     def __init__(self, monitors: int):
         self.links, self.lives, self.long = [again.Link() for _ in range(monitors)], [0] * monitors, 0
-        # When a datagram came last, the numbers of messages that are equal, those of datagrams, and which pieces of a message arrived.
+        # By monitor, the time of the last datagram; by message, a number that equal messages share; by datagram, the number of its message; and the pieces of
+        # each message that have arrived.
         self.last, self.equal, self.numbers, self.arrived_of = [0] * monitors, {}, {}, {}
 
     def starts(self, rank: int):
-        """A monitor starts: it keeps nothing of before."""
+        """A monitor starts, with a new link."""
         self.links[rank], self.lives[rank] = again.Link(), self.lives[rank] + 1
 
     def sends(self, now: int, number: int, message, to: int) -> list[Carried]:
-        """A message is to go, which has this number in the run."""
+        """A monitor sends a message, which has this number in the run."""
         sender, same = message.d['from'], self.equal.setdefault(message, len(self.equal))
         whole = encoded(message, same)
         self.long += len(whole) > 60_000
@@ -63,7 +64,7 @@ class Copying:
         return [Carried(sender, to, self.numbers[sender, to, datagram], datagram) for to, datagram in going]
 
     def arrives(self, now: int, carried: Carried) -> tuple[bool, list[Carried]]:
-        """A datagram arrives. Whether its message is whole and handed up, and what goes then."""
+        """A datagram arrives. Returns whether its message is now complete and handed up, and what is sent then."""
         _, rank, number, datagram = carried
         if now > self.last[rank]:
             self.links[rank].run, self.last[rank] = 0, now
@@ -71,7 +72,7 @@ class Copying:
         return is_up and self.is_whole(carried), self.named(rank, going)
 
     def is_whole(self, carried: Carried) -> bool:
-        """Whether a message is whole with this datagram. Its pieces are those from then on again."""
+        """Whether this datagram completes its message. If it does, the pieces are collected anew from then on."""
         sender, to, number, datagram = carried
         if datagram[0] != 2:
             return True
@@ -84,9 +85,9 @@ class Copying:
         return True
 
     def rests(self, now: int, rank: int) -> list[Carried]:
-        """Nothing arrives."""
+        """Nothing arrives at a monitor: returns the copies that are due."""
         return self.named(rank, self.links[rank].rested(now))
 
     def due(self, rank: int) -> int | None:
-        """When a monitor's next copy goes."""
+        """The time of a monitor's next copy, or None."""
         return self.links[rank].due()

@@ -9,13 +9,13 @@ from typing import NamedTuple
 from played import TOP
 
 FOLDER = os.path.join(TOP, 'microscope', 'exercises')
-# In a pattern, what a group of this name matched in an earlier one: {name}, or {"name"} as JSON has it.
+# In a pattern, {name} is the text that the group of this name matched in an earlier pattern, and {"name"} that text as JSON.
 NAMED = re.compile(r'\{("?)([a-z]+)\1\}')
 
 
 class Exercise(NamedTuple):
-    """A question, the first line of its answers, the most events of one if there is a limit, and what its trace must have in this order and
-    must not have, each as a text and a pattern; what helps, and what answers its question."""
+    """An exercise: its question; the first line of its answers; the limit of their events or None; what a trace must have in this order, and what it must not
+    have, each as a text and a pattern; its hints; and the text that answers the question."""
     question: str
     header: str
     events: int | None
@@ -40,15 +40,15 @@ class Exercise(NamedTuple):
 
 
 def compiled(pattern: str, names: dict[str, str]) -> re.Pattern:
-    """The pattern with what these groups matched in earlier ones."""
+    """The pattern, in which the names of groups are replaced by what they matched earlier."""
     def text(found):
         return re.escape(json.dumps(names[found[2]]) if found[1] else names[found[2]])
     return re.compile(NAMED.sub(text, pattern), re.MULTILINE | re.DOTALL)
 
 
 def shown_of(trace: str, patterns: list[str], at: int = 0, names: dict[str, str] = {}) -> int:
-    """How many of the patterns, from the first on, a trace has one after the other. If what an earlier one matched doesn't go with a later one, the
-    next place of the earlier one is tried."""
+    """How many of the patterns, from the first on, a trace matches one after the other. If no match of a later pattern follows, the next match of the earlier
+    one is tried."""
     most = 0
     for found in compiled(patterns[0], names).finditer(trace, at) if patterns else ():
         most = max(most, 1 + shown_of(trace, patterns[1:], found.end() - 1, {**names, **found.groupdict()}))
@@ -58,11 +58,11 @@ def shown_of(trace: str, patterns: list[str], at: int = 0, names: dict[str, str]
 
 
 class Faulty(Exception):
-    """A file is no exercise, for this reason."""
+    """A file isn't an exercise, for this reason."""
 
 
 def names(folder: str = FOLDER) -> list[str]:
-    """The exercises of a folder, the easier ones of this one first."""
+    """The names of a folder's exercises. Those of this folder come first, the easier before the harder."""
     order = 'alone two_of_three lease made_twice no_reply retried half_a_write value_lost two_winners old_map catch_up'.split()
     found = sorted(name[:-len('.exercise')] for name in os.listdir(folder) if name.endswith('.exercise'))
     return [name for name in order if name in found] + [name for name in found if name not in order]

@@ -1,4 +1,4 @@
-"""A schedule that is run by the proved definitions: what each event did, and what its monitor remembers and keeps afterwards."""
+"""Runs a schedule by the proved definitions: what each event did, and what its monitor remembers and has in its store afterwards."""
 from __future__ import annotations
 
 import os
@@ -17,18 +17,18 @@ from schedules import TIMERS, faults_of  # noqa: E402
 
 # The prefixes of a store whose numbers are shown.
 PREFIXES = b'paxos', b'monitor', b'mon_sync', b'kv', b'logm'
-# How a row says that it does nothing with an input, or nothing more.
+# What is printed of a row that does nothing with an input, or nothing more.
 ENDS = {'dropped': 'drops it', 'nothing_more': 'does no more'}
-# How many characters of bytes are shown.
+# The most characters of bytes that are shown.
 LONGEST = 60
 
 
 class Refused(Exception):
-    """The text is no schedule, or the definitions stop at one of its events."""
+    """The text isn't a schedule, or the definitions stop at one of its events."""
 
 
 class Drop(NamedTuple):
-    """A row that dropped its input or did no more with it: its name, how it ended, the part of its test that decided so, and whether that holds."""
+    """A row that dropped its input or did no more with it: its name, how it ended, the part of its test that decided so, and whether that part holds."""
     row: str
     how: str
     test: str
@@ -40,7 +40,7 @@ class Drop(NamedTuple):
 
 class Step(NamedTuple):
     """An event: its number, its lines in the trace, its changes as (monitor, part, before, after), the rows that dropped its input, what each
-    monitor then remembers and keeps, and the run after it."""
+    monitor then remembers and has in its store (`looks`), and the run after it."""
     number: int
     lines: list[str]
     changes: list[tuple[int, str, str, str]]
@@ -99,7 +99,7 @@ def kept(store) -> dict[str, str]:
 
 
 def looks(play) -> list[dict[str, str]]:
-    """What each monitor remembers and keeps."""
+    """What each monitor remembers and has in its store, as texts by name."""
     world = play.scene.d['world'].d
     return [{**remembered(app(world['state'], rank)), **kept(app(world['store'], rank))} for rank in range(play.n)]
 
@@ -112,8 +112,8 @@ def lines_of(octets: bytes) -> list[str]:
 
 
 def after(play: run.Play, line: str, before: list[dict[str, str]] | None = None) -> Step:
-    """The event of a line, after a run that stays as it is. `before` are its looks, if they are known. Raises Refused if a number runs out, where the
-    program stops too."""
+    """The event of a line after a run, which isn't changed. `before` are the looks of that run, if they are known. Raises Refused if a number runs out; the
+    program stops then, too."""
     before, play, number = before or looks(play), play.copy(), play.events + 1
     antt.DROPS.clear()
     if not play.take(line):
@@ -121,7 +121,7 @@ def after(play: run.Play, line: str, before: list[dict[str, str]] | None = None)
     now = looks(play)
     changes = [(rank, part, before[rank].get(part, '-'), now[rank].get(part, '-'))
                for rank in range(play.n) for part in {**before[rank], **now[rank]} if before[rank].get(part) != now[rank].get(part)]
-    # A crash in no event is written as one in a timer that isn't set. That such a timer is dropped explains nothing.
+    # A kill between two events is written as a crash in a timer that isn't set. That this timer is dropped explains nothing, so it is left out.
     is_crash = any(it.startswith('  crashed ') for it in play.trace)
     drops = [Drop(*drop) for drop in dict.fromkeys(antt.DROPS) if not (is_crash and drop[0] == 'take_timer')]
     return Step(number, play.trace, changes, drops, now, play)

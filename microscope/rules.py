@@ -1,4 +1,5 @@
-"""Named changes of the protocol's rules, each of which breaks a clause of `Safe`: what the proofs are about. A change replaces a text of a definition."""
+"""Named changes of the protocol's rules, each of which breaks a clause of `Safe`. They show what the proofs exclude. A change replaces a text of a
+definition."""
 from __future__ import annotations
 
 import os
@@ -12,8 +13,8 @@ SHORT_LOG = {'PAXOS_DUE': 2, 'PAXOS_KEEPS': 1, 'PAXOS_GOES': 1}
 
 
 class Rule(NamedTuple):
-    """A changed rule: its name, what is changed, what the true rule says, why it matters, pairs of texts by the path of their module, constants
-    that are smaller than the program's, under the true rule too, and the names of how the search begins."""
+    """A changed rule: its name, what it changes, what the true rule says, why that matters, and pairs of an old and a new text by their module. `constants` are
+    smaller than the program's, also when the true rule is tried. `opening` is the name of how a search begins."""
     name: str
     changed: str
     true: str
@@ -82,14 +83,14 @@ def of_patch(path: str) -> Rule:
 
 
 def add_arguments(parser):
-    """Gives a tool the arguments that name a changed rule."""
+    """Adds the arguments that name a changed rule to a tool's parser."""
     changes = parser.add_mutually_exclusive_group()
     changes.add_argument('--rule', metavar='NAME', help='the changed rule of this name of microscope/break')
     changes.add_argument('--patch', metavar='FILE', help='the changed rule of a file')
 
 
 def asked_for(asked) -> Rule | None:
-    """The changed rule that the arguments name, if they name one. Raises Refused."""
+    """The changed rule that the arguments name, or None. Raises Refused if there is no such rule or its file is faulty."""
     try:
         return named(asked.rule) if asked.rule else of_patch(asked.patch) if asked.patch else None
     except OSError as why:
@@ -97,7 +98,7 @@ def asked_for(asked) -> Rule | None:
 
 
 def take(rule: Rule | None, is_true: bool = False):
-    """Reads the definitions anew: under a changed rule; or the true ones, with the constants of that rule."""
+    """Reads the definitions anew, under a changed rule. With `is_true` they are the true ones, with the constants of that rule."""
     run.reload({} if rule is None or is_true else rule.changes, {} if rule is None else rule.constants)
     if rule is not None and not is_true:
         for module in rule.changes:

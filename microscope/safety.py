@@ -1,4 +1,4 @@
-"""Whether a run is safe: which clauses of `Safe` hold of the world after an event. crates/quorum_model/specs/Safe.antt has them."""
+"""Judges whether a run is safe: which clauses of `Safe` (crates/quorum_model/specs/Safe.antt) hold of the world after an event."""
 from __future__ import annotations
 
 from typing import NamedTuple
@@ -7,7 +7,7 @@ from played import run
 
 
 class Clause(NamedTuple):
-    """A clause of `Safe`: its name there, its name in the documents, what it says, and what bench/definitions calls its parts."""
+    """A clause of `Safe`: its name there, its name in the documents, what it says, and the names of its parts in bench/definitions."""
     name: str
     title: str
     says: str
@@ -22,12 +22,12 @@ CLAUSES = [
     Clause('one_active', 'One leader', 'No epoch has two active leaders.', ('one active',)),
     Clause('held', 'Storage', "A store is the result of its monitor's transactions, in order.", ('held', 'whole')),
 ]
-# What each part says if it fails, of the number that it names.
+# The sentence for each part that fails. {} is the number that the failure names.
 SAYS = {
     'agree': "the store of monitor {} isn't what the log leaves",
     'asked': 'the entry of version {} of the log is the value of no command that a client asked',
     'kept': "version {} was acknowledged, and isn't in the log or not at an active leader",
-    'answered': 'a client was told that its command is done in version {}, which nobody acknowledged for it',
+    'answered': 'a client got the reply that its command is done in version {}, which nobody acknowledged for it',
     'shown': "event {} shows a map that isn't the log's",
     'since': "event {} returns changes that aren't the log's",
     'fence': 'event {} shows a map without a version that was acknowledged before, in the same epoch',
@@ -42,7 +42,7 @@ def said(part: str, number: int) -> str:
 
 
 def broken(play: run.Play) -> dict[str, str]:
-    """The clauses that don't hold after a run, and what is wrong of each first."""
+    """The clauses that don't hold after a run, each with the first thing that is wrong."""
     found = {}
     for part, number in run.unsafe(play.scene.d['world'], play.n, play.writes):
         found.setdefault(next(clause.name for clause in CLAUSES if part in clause.parts), said(part, number))

@@ -1,6 +1,6 @@
 """The form of a schedule, as docs/FORMATS.md specifies it: which field of a line is at fault, and what may stand there.
 
-Nothing of the program is used. checks/microscope compares the verdicts with those of a second implementation.
+It shares no code with the program. checks/microscope compares its verdicts with those of a second implementation.
 """
 from __future__ import annotations
 
@@ -18,8 +18,8 @@ DELIVERY = re.compile(r'((?:(?:crash|fail) [ab] \d+ \d )?deliver )(\d+)( \d+)')
 
 
 class Fault(NamedTuple):
-    """The first fault of a schedule: its line from 1, its kind, where in the line it begins and ends, the field's name if one is at fault,
-    and what may stand there."""
+    """A fault of a schedule: its line, from 1; its kind; the places in the line at which it begins and ends; the field's name, if one is at fault; and what
+    may stand there."""
     line: int
     kind: str
     start: int
@@ -40,7 +40,7 @@ def is_decimal(text: str) -> bool:
 
 
 def is_within(text: str, least: int, most: int) -> bool:
-    """Whether a decimal number is within these bounds. A number of more than 20 digits is above all bounds, and isn't converted."""
+    """Whether a decimal number is within these bounds. A number of more than 20 digits is above all bounds, so it isn't converted."""
     return len(text) <= 20 and least <= int(text) <= most
 
 
@@ -68,13 +68,13 @@ REST = 'VALUE', 'TEXT'
 VALUE, TEXT = (Field(name, 'a space, and then the rest of the line, which may be empty', lambda _: None) for name in REST)
 COMMANDS = {'set': [KEY, VALUE], 'remove': [KEY], 'log': [TEXT], 'show': [SERVICE], 'since': [SERVICE, number('V', 'a version', 0, MOST_NUMBER)]}
 PLAIN = 'start', 'deliver', 'timer', 'client'
-# How many images a disk may keep of a write.
+# The number of images: of what a disk may keep of a write after a crash.
 IMAGES = 4
 UPSET = [word('DISK', 'a', 'b'), number('CALL', 'the number of a write or sync', 1, 1_000), number('IMAGE', 'what is kept of a write', 0, IMAGES - 1)]
 
 
 def fields_after(first: str, monitors: int) -> list[Field]:
-    """The fields after the first word of an event, up to the next word that decides."""
+    """The fields after the first word of an event, up to the next word that decides what follows."""
     return {
         'start': [rank(monitors), TIME],
         'deliver': [number('K', 'the number of a sent message', 1, MOST_MESSAGE_NUMBER), TIME],
@@ -135,7 +135,7 @@ def allows_nobody(header: str) -> bool:
 
 
 def faults_of(octets: bytes) -> Iterator[Fault]:
-    """The faults of a schedule, one a line. The first is the one with which the program refuses it."""
+    """The faults of a schedule, at most one per line. The program refuses the schedule at the first one."""
     if len(octets) > MOST_SCHEDULE:
         yield Fault(0, 'TooLong', 0, 0, None, f'at most {MOST_SCHEDULE} bytes')
         return
