@@ -1,7 +1,7 @@
-"""A game with the protocol: a run by the proved definitions that goes on by single acts, and goes back to any of them at once.
+"""A game with the protocol: a run by the proved definitions that goes on by single acts, and can go back to any of them at once.
 
-Each act keeps what was before it, so nothing is replayed. What was done is a schedule. What is dropped is never delivered there, and what is delayed
-is delivered later, so neither has a line of its own.
+The state before each act is kept, so going back replays nothing. The acts so far are a schedule. To drop or to delay a message has no line there: the
+message is never delivered, or delivered later.
 """
 from __future__ import annotations
 
@@ -18,15 +18,15 @@ from played import Refused, Step, after, lines_of, run
 from schedules import MOST_EVENTS, fault_of_event
 from words import Sent, Story, paragraph_of, sends_of, time_of, why
 
-# How many seconds of work a request takes at most while time runs by itself, and how many events.
+# The most seconds of work and the most events of one request while time runs by itself.
 WORK, MOST_AT_ONCE = 0.06, 40
-# After this number of events the values that are kept of definitions are forgotten.
+# After this number of events the cache of the definitions' values is emptied.
 FORGET_AFTER = 300
 UPSET = re.compile(r'(?:crash|fail) [ab] \d+ \d')
 
 
 class Flight(NamedTuple):
-    """A message on its way: when it is due, in which events it was delivered, and whether it was dropped."""
+    """A message that was sent: when it is due, in which events it was delivered, and whether it was dropped."""
     sent: Sent
     due: int
     got: tuple[int, ...] = ()
@@ -37,8 +37,8 @@ class Flight(NamedTuple):
 
 
 class Moment(NamedTuple):
-    """A game after an act: the run, the time, the messages, the tears that wait for a monitor's next write, and the event that the act made, if it
-    made one, with its words and the clauses of `Safe` that don't hold after it."""
+    """A game after an act: the run, the time, the messages by number, and the tears that wait for a monitor's next write. If the act made an event: the
+    step, its sentence, the clauses of `Safe` that don't hold after it, and its line."""
     play: run.Play
     now: int
     wire: dict[int, Flight]
@@ -50,7 +50,7 @@ class Moment(NamedTuple):
 
 
 class Game:
-    """The acts so far, and how many of them are done. The others can be done again."""
+    """The acts so far, and how many of them are done. The others were undone, and can be done again."""
 
     def __init__(self, header: str):
         self.rule, self.exercise, self.folder, self.latency, self.loss = None, None, exercises.FOLDER, 10, 0
@@ -67,7 +67,7 @@ class Game:
         return self.moments[self.at]
 
     def now_on(self, moment: Moment):
-        """Goes on from here by an act. What was undone is forgotten."""
+        """Goes on from here by an act. Acts that were undone are forgotten."""
         if self.at + 1 < len(self.moments):
             self.branch += 1
         self.moments[self.at + 1:] = [moment]
@@ -84,7 +84,8 @@ class Game:
         return int(words[1])
 
     def take(self, line: str, is_judged: bool = True):
-        """Goes on by the event of a line. A tear that waits for this monitor is in it, if the event writes. Raises Refused if it can't be."""
+        """Goes on by the event of a line. If a tear waits for this monitor and the event writes, the event becomes that crash. Raises Refused if the event is
+        faulty or can't be played."""
         here = self.here
         if fault := fault_of_event(0, line, here.play.n):
             raise Refused(f'{line}: expected {fault.allowed}')
@@ -170,7 +171,7 @@ class Game:
         return [(int(words[4]), words[5]) for words in (line.split(' ', 5) for line in lines) if words[3] == str(client)]
 
     def hold(self, kind: str, number: int, by: int):
-        """Drops a message, takes one up again that was dropped, or delays one."""
+        """Drops a message, takes back a drop, or delays a message."""
         if number not in self.here.wire:
             raise Refused(f'message {number} is not there')
         flight = self.here.wire[number]
@@ -184,13 +185,13 @@ class Game:
         self.now_on(self.here._replace(tears={**others, rank: tear} if tear else others, line=None))
 
     def go(self, event: int):
-        """Goes to after an event: to the last act before the next one."""
+        """Goes to the state after an event: to the last act before the next event."""
         self.at = max(at for at, moment in enumerate(self.moments) if moment.play.events <= max(0, event))
 
     # ---- time
 
     def due(self) -> tuple[int, int, str] | None:
-        """What happens next by itself: its time, its place among what happens then, and its line up to its time. Messages come before timers."""
+        """What happens next by itself: its time, its place among what happens at that time, and its line without the time. Messages come before timers."""
         here = self.here
         found = [(it.due, 0, it.sent.number, f'deliver {it.sent.number}') for it in here.wire.values() if it.is_under_way()]
         for rank in range(here.play.n):
@@ -201,7 +202,7 @@ class Game:
         return time, place, line
 
     def run(self, milliseconds: int | None, most: int):
-        """Lets time run: for so long, or up to the next thing that happens."""
+        """Lets time run for a number of milliseconds, or for None without a limit, and makes at most `most` events."""
         end, begun = None if milliseconds is None else self.here.now + milliseconds, time.monotonic()
         for _ in range(most):
             due = self.due()
@@ -225,8 +226,8 @@ class Game:
         return [self.header, *(line for it in self.moments[1:self.at + 1] if it.line is not None for line in it.step.lines)]
 
     def load(self, lines: list[str]):
-        """Begins anew with a schedule. What the run refuses is left out from there on, and raised after that. Under the true rules the last event alone
-        is judged: what it leaves shows whether all before it are safe."""
+        """Begins anew with a schedule. If the run refuses an event, the events before it are played, and Refused is raised. Under the true rules only the last
+        event is judged, since a run that is safe after it is safe after all events."""
         self.begin(lines[0])
         for number, line in enumerate(lines[1:], 1):
             self.take(line, self.rule is not None or number == len(lines) - 1)
@@ -244,7 +245,7 @@ class Game:
         return card(self.here.play, rank, self.here.now)
 
     def view(self, branch: int, known: int) -> dict:
-        """All that a page shows. Of the lines only those that it doesn't know: it says how many of a branch it knows."""
+        """All that a page shows. `branch` and `known` are how many lines of which branch the page has, and only the other lines are in the view."""
         here = self.here
         done = [it for it in self.moments[1:] if it.line is not None]
         begin = known if branch == self.branch and known <= len(done) else 0

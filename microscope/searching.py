@@ -1,8 +1,8 @@
-"""A search for a run that isn't safe, under a changed rule: random runs that go on from an opening.
+"""A search for an unsafe run under a changed rule: random runs that go on from an opening.
 
-There are two kinds of runs. A *walk* delivers, drops and doubles messages, fires timers, stops and starts monitors, and asks, as chance has it. In a run of
-*parts* a majority of the monitors, and nobody else, hears each other until one of them leads. It takes a value, of which some messages arrive, and then
-another majority is by itself. That is how values under way meet.
+There are two kinds of runs. A *walk* delivers, drops and doubles messages, fires timers, restarts monitors, and asks commands, all at random. In a run of
+*parts* a majority of the monitors is cut off from the others until one of them leads. That leader takes a value, and some of its messages arrive. Then
+another majority is cut off. In this way the new leader meets the values of the one before.
 """
 from __future__ import annotations
 
@@ -15,14 +15,14 @@ import safety
 from played import TIMERS, app, run
 
 LEADS = 'Active', 'Updating'
-# The kinds of messages in a quorum, of which one is slow.
+# The kinds of messages in a quorum. In a walk one of them is slow.
 SLOW = 'BEGIN', 'ACCEPT', 'COMMIT', 'LEASE', 'LEASE_ACK'
-# Events of a walk, and of a part of a run at most.
+# The number of steps of a walk, and the most events of a part.
 STEPS, PART = 45, 160
 
 
 class Course:
-    """A run that goes on by chance: its lines, the messages that have not arrived, and the time."""
+    """A run that goes on at random: its lines, the messages that have not arrived, and the time."""
 
     def __init__(self, header: str):
         self.play, self.lines, self.now, self.waiting, self.asked = run.Play(header), [header], 0, [], 0
@@ -33,7 +33,7 @@ class Course:
         return other
 
     def take(self, line: str) -> list[str]:
-        """Goes on by an event, and returns its lines in the trace. A number that runs out ends the run, which no search gets to."""
+        """Goes on by an event, and returns its lines in the trace. Raises LookupError if a number runs out, which no search reaches."""
         at, seen = len(self.play.trace), len(self.messages())
         if not self.play.take(line):
             raise LookupError(line)
@@ -73,7 +73,8 @@ class Course:
 # ---- parts
 
 def part(course: Course, group: tuple[int, ...], restarted: tuple[int, ...], still: tuple[int, ...] = ()) -> int | None:
-    """A group hears each other alone until one of it leads, and returns it. First some are restarted. The timers of those that are still don't fire."""
+    """The monitors of a group hear only each other, until one of them leads. Returns the leader, or None if none leads. Some are restarted first. The timers of
+    the monitors in `still` don't fire."""
     course.waiting.clear()
     course.now += 1
     for rank in group:
@@ -97,7 +98,7 @@ def part(course: Course, group: tuple[int, ...], restarted: tuple[int, ...], sti
 
 
 def within(course: Course, group: tuple[int, ...]):
-    """What a group doesn't send itself is lost."""
+    """Drops all waiting messages except those between members of the group."""
     course.waiting = [it for it in course.waiting if it[1] in group and it[2] in group]
 
 
@@ -111,7 +112,7 @@ def is_of(course: Course, rank: int, group: tuple[int, ...]) -> bool:
 
 
 def write_in(course: Course, leader: int, group: tuple[int, ...], delivered: int):
-    """The leader takes a value, of which this number of messages arrives within the group."""
+    """The leader is asked for a write, and then this number of messages is delivered within the group."""
     course.waiting.clear()
     course.write(leader)
     within(course, group)
@@ -127,7 +128,7 @@ def majorities(monitors: int) -> list[tuple[int, ...]]:
 
 
 def parts(course: Course, chance: random.Random) -> Iterator[Course]:
-    """A run of parts, as it is where it is worth to be judged."""
+    """A run of parts. It yields the run at each state that is worth judging."""
     groups, last = majorities(course.play.n), None
     for _ in range(4):
         group = chance.choice([it for it in groups if it != last])
@@ -146,8 +147,8 @@ def parts(course: Course, chance: random.Random) -> Iterator[Course]:
 # ---- walks
 
 def walk(course: Course, chance: random.Random, is_calm: bool = True) -> Iterator[Course]:
-    """A walk, as it is where it is worth to be judged. One kind of message is slow on its way to one monitor, and the others are so rarely. If the walk is
-    calm, no monitor stops, and no timer fires but those that renew leases."""
+    """A walk. It yields the run at each state that is worth judging. One kind of message to one monitor is slow, and other messages are rarely slow. If the
+    walk is calm, no monitor is restarted, and only the timers that renew leases fire."""
     slow = chance.choice(SLOW if is_calm else [*SLOW, 'PROPOSE', 'ACK', 'VICTORY', 'COLLECT', 'LAST']), chance.randrange(course.play.n)
     for _ in range(STEPS):
         trace = step(course, chance, is_calm, slow)
@@ -159,7 +160,7 @@ def walk(course: Course, chance: random.Random, is_calm: bool = True) -> Iterato
 
 
 def readers(course: Course) -> Iterator[Course]:
-    """The run, if a client now reads at one of the monitors."""
+    """The runs in which a client now reads at one of the monitors."""
     for rank in course.up():
         other = course.copy()
         other.ask(rank, 'show kv')
@@ -171,13 +172,13 @@ def wild(course: Course, chance: random.Random) -> Iterator[Course]:
 
 
 def next_of(course: Course, chance: random.Random, slow: tuple[str, int]) -> int:
-    """The place of the message that arrives next."""
+    """The place of the next message in the list of those that wait."""
     quick = [place for place, it in enumerate(course.waiting) if (it[3], it[2]) != slow]
     return chance.randrange(len(course.waiting)) if chance.random() < 0.15 or not quick else quick[0]
 
 
 def step(course: Course, chance: random.Random, is_calm: bool, slow: tuple[str, int]) -> list[str]:
-    """An event of a walk. The likelier ones keep a quorum at work."""
+    """A step of a walk. The likelier events keep a quorum at work."""
     draw, up = chance.random(), course.up()
     course.now += chance.choice([0, 1, 1, 5])
     if draw < 0.70 and course.waiting:
@@ -196,7 +197,7 @@ def step(course: Course, chance: random.Random, is_calm: bool, slow: tuple[str, 
     timers = [it for it in course.timers(up) if not is_calm or it[2] == 'renew']
     if draw < 0.98 and timers:
         end, rank, name = chance.choice(timers)
-        # A timer that fires early is allowed, and keeps the leases.
+        # A timer may fire early. For `renew` that keeps the leases valid.
         course.now = course.now if name == 'renew' else max(course.now, end)
         return course.take(f'timer {rank} {name} {course.now}')
     return [] if is_calm else course.take(f'start {chance.randrange(course.play.n)} {course.now}')
@@ -205,7 +206,7 @@ def step(course: Course, chance: random.Random, is_calm: bool, slow: tuple[str, 
 # ---- openings
 
 def elections(course: Course):
-    """All monitors start, and each hears that the others are there."""
+    """All monitors start, and each gets the first messages of the others."""
     for rank in range(course.play.n):
         course.take(f'start {rank} 0')
     for _ in range(2 * course.play.n):
@@ -227,8 +228,8 @@ def rival(course: Course):
 
 
 def copied(course: Course):
-    """The last monitor misses as many writes as are trimmed, so that it lacks just these. It still promises a number to a leader, which then stores a value
-    that nobody else hears of."""
+    """The last monitor misses writes, and the others trim just those that it lacks. It still promises a number to a leader, which then stores a value that
+    nobody else hears of."""
     quorum(course)
     leader = part(course, (0, 1), (0,))
     for _ in range(4):
@@ -242,8 +243,8 @@ OPENINGS: dict[str, tuple[Callable[[Course], None], list]] = {
 
 
 class Found(NamedTuple):
-    """A schedule after which a clause of `Safe` doesn't hold: its lines up to the first such event, that clause, what is wrong, and how many runs of how many
-    events it took."""
+    """A schedule after which a clause of `Safe` doesn't hold: its lines up to the first such event, that clause, what is wrong, and how many runs and events
+    the search took."""
     lines: list[str]
     clause: str
     what: str
@@ -252,7 +253,7 @@ class Found(NamedTuple):
 
 
 def search(opening: str, seed: int, seconds: float, header: str = 'monitors 3 classic') -> Found | None:
-    """The first unsafe run that is found within this number of seconds of a processor."""
+    """The first unsafe run that is found within this number of seconds of processor time, or None."""
     begin, kinds = OPENINGS[opening]
     base, end, events = Course(header), time.process_time() + seconds, 0
     begin(base)
@@ -268,7 +269,7 @@ def search(opening: str, seed: int, seconds: float, header: str = 'monitors 3 cl
 
 
 def first_of(lines: list[str], broken: dict[str, str], runs: int, events: int) -> Found:
-    """The shortest beginning that isn't safe."""
+    """The shortest prefix of a schedule that isn't safe."""
     play = run.Play(lines[0])
     for at, line in enumerate(lines[1:], 2):
         play.take(line)

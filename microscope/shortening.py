@@ -8,7 +8,7 @@ from played import run
 from schedules import DELIVERY, MOST_MESSAGE_NUMBER
 
 SENT = re.compile(r'^(\d+) |^  send (\d+) ', re.MULTILINE)
-# The number of a message that no event sends.
+# A number that no message has. A delivery has it if no event sends its message.
 NEVER = MOST_MESSAGE_NUMBER
 
 
@@ -23,7 +23,7 @@ Source = tuple[int, int]
 
 
 def messages_of(trace: str) -> dict[Source, int]:
-    """The number of each message of a trace."""
+    """The number of each message of a trace, by the event that sends it and its place there."""
     found, event, place = {}, 0, 0
     for match in SENT.finditer(trace):
         if match[1]:
@@ -35,7 +35,7 @@ def messages_of(trace: str) -> dict[Source, int]:
 
 
 class Shortening:
-    """A schedule whose events are removed. `kept` has the numbers of those that are left."""
+    """A schedule from which events are removed. `kept` has the numbers of the events that are left."""
 
     def __init__(self, lines: list[str], replay, holds):
         self.header, self.events, self.replay, self.holds = lines[0], lines[1:], replay, holds
@@ -59,8 +59,8 @@ class Shortening:
         return f'{match[1]}{messages.get((places.get(sender, 0), place), NEVER)}{match[3]}'
 
     def numbered(self, kept: list[int]) -> tuple[list[int], list[str], Ended]:
-        """The kept events whose messages are sent, their lines, and their replay. What comes before the first wrong number is right, so each
-        replay corrects at least one."""
+        """The kept events without deliveries of messages that aren't sent, their lines, and their replay. All numbers before the first wrong one are right, so
+        each replay corrects at least one."""
         places = {event: place for place, event in enumerate(kept, 1)}
         found = [self.events[event - 1] for event in kept]
         lines = None
@@ -76,7 +76,7 @@ class Shortening:
         return kept, [self.header, *lines], ended
 
     def tries(self, kept: list[int]) -> bool:
-        """Keeps only these events, if the condition holds of them."""
+        """Keeps only these events if the condition holds of them. Returns whether it does."""
         kept, lines, ended = self.numbered(kept)
         if len(kept) < len(self.kept) and self.holds(lines, ended):
             self.kept, self.lines = kept, lines
@@ -84,7 +84,7 @@ class Shortening:
         return False
 
     def run(self) -> list[str]:
-        """Removes events in runs of half the length each time, and then one by one until none can go."""
+        """Removes groups of successive events, of half the length in each round, and then single events until none can be removed."""
         size = len(self.kept) // 2
         while size:
             at, removed = len(self.kept), False
@@ -98,13 +98,13 @@ class Shortening:
 
 
 class Prefixes:
-    """Replays by the definitions. What a schedule has in common with the one before it isn't run again."""
+    """Replays by the definitions. The lines that a schedule has in common with the one before it aren't run again."""
 
     def __init__(self, header: str):
         self.lines, self.plays, self.traces = [header], [run.Play(header)], [[header]]
 
     def is_taken(self, place: int, line: str) -> bool:
-        """Runs the line of this place, after those before it. Whether the run goes on."""
+        """Runs the line at this place after those before it. Returns whether the run goes on."""
         if self.lines[place:place + 1] == [line]:
             return True
         for held in (self.lines, self.plays, self.traces):
@@ -131,7 +131,7 @@ class Prefixes:
 
 
 class OfDefinitions(Shortening):
-    """One by the definitions. They run event by event, so each message has its number when its delivery comes, and one replay is enough."""
+    """A shortening by the definitions. They run event by event, so each message has its number before its delivery, and one replay is enough."""
 
     replay: Prefixes
 

@@ -1,4 +1,4 @@
-"""Scenarios, and their runs by the proved definitions: messages take time, are lost, late or repeated, and timers fire by themselves."""
+"""Reads scenarios and runs them by the proved definitions: messages take time, are lost, late or repeated, and timers fire by themselves."""
 from __future__ import annotations
 
 import heapq
@@ -11,7 +11,7 @@ from copying import Carried, Copying
 from played import Refused, app, lines_of, quorum_file, run
 from schedules import IMAGES, MOST_EVENTS, TIMERS, Fault, fault_of_event, fault_of_header, is_within
 
-# The actions at a time, each with its form, and a request, which ends with a value or a text, and what is before that.
+# The actions at a time with their forms; and the form of a request, with what comes before its value or text.
 FORMS = {
     'start': 'start R or start all', 'kill': 'kill R', 'tear': 'tear R DISK CALL IMAGE', 'client': 'client R C ID COMMAND', 'cut': 'cut SIDES, cut A>B,.. or cut -',
     'latency': 'latency L [A>B]', 'loss': 'loss PERCENT [A>B]', 'repeat': 'repeat PERCENT [A>B]', 'delay': 'delay PERCENT L [A>B]',
@@ -29,7 +29,7 @@ class Faulty(Exception):
 
 
 class Named(NamedTuple):
-    """What becomes of the next messages of a kind on a link, or on all: `lose`, `twice` or `late`; how much later; and how many of them."""
+    """A command on the next messages of a kind, on one link or on all: `lose`, `twice` or `late`; how much later; and for how many messages."""
     what: str
     kind: str
     link: tuple[int, int] | None
@@ -50,7 +50,7 @@ def refuse(fault: Fault | None):
 
 
 def words_of(line: str) -> list[str]:
-    """The words of a line without its comment. The value or text at the end of a request is one word."""
+    """The words of a line without its comment. The value or text at the end of a request counts as one word."""
     if line.lstrip().startswith('#'):
         return []
     if request := REQUEST.fullmatch(line):
@@ -69,7 +69,7 @@ def link_of(word: str, monitors: int) -> tuple[int, int]:
 
 
 def links_cut(word: str, monitors: int) -> set[tuple[int, int]]:
-    """The links of a cut: those that it names, each in one direction, or those between its sides."""
+    """The links that a cut ends: those that it names, each in one direction, or those between its sides."""
     if word == '-':
         return set()
     if '>' in word:
@@ -169,7 +169,7 @@ class Scenario:
         return [links_cut(rest[0], self.monitors), rest[0]] if len(rest) == 1 else None
 
     def of_network(self, _time, name, rest):
-        """What is so of a link or of all from then on, or of the next messages of a kind."""
+        """The arguments of a command on the network: a link or None for all, and what holds there from then on; or what happens to the next messages of a kind."""
         link = next((word for word in rest if '>' in word), None)
         rest, ends = [word for word in rest if word != link], None if link is None else link_of(link, self.monitors)
         if name in ('lose', 'twice', 'late'):
@@ -187,14 +187,14 @@ class Scenario:
 
 
 class Simulation:
-    """A run of a scenario by the definitions. The next thing that happens is the earliest; commands come before messages, these before copies, and
-    these before timers."""
+    """A run of a scenario by the definitions. What is due first happens first. At the same time, commands come before messages, messages before copies, and
+    copies before timers."""
 
     def __init__(self, scenario: Scenario):
         self.scenario, self.play = scenario, run.Play(scenario.header)
         self.schedule, self.marks = [scenario.header], {}
         self.now, self.cut, self.dead, self.tears, self.named = 0, set(), set(), {}, []
-        # What is so of a link, or of all links for the key None.
+        # The settings of each link. The key None has those of all other links.
         self.network = {'latency': {None: 1}, 'loss': {None: 0}, 'repeat': {None: 0}, 'delay': {None: (0, 0)}}
         self.chance, self.wire, self.seen, self.order = random.Random(scenario.seed), [], 0, itertools.count()
         self.copying = Copying(self.play.n) if scenario.copies else None
@@ -209,7 +209,7 @@ class Simulation:
         return percent > 0 and self.chance.random() * 100 < percent
 
     def next_of(self, kind: str, link: tuple[int, int]) -> Named | None:
-        """What was asked for the next message of this kind, which then is asked for one less."""
+        """The command on the next message of this kind and link, if there is one. Its count falls by one."""
         for place, it in enumerate(self.named):
             if it.kind == kind and it.link in (None, link):
                 self.named[place:place + 1] = [it._replace(count=it.count - 1)] if it.count > 1 else []
@@ -229,7 +229,7 @@ class Simulation:
             self.put(carried)
 
     def put(self, carried: Carried):
-        """Puts a message, or a datagram of it, on the wire, once for each time that it arrives."""
+        """Puts a message, or a datagram of it, on the wire, once for each time that it will arrive."""
         link = carried.sender, carried.to
         named = self.next_of(run.NAMES[self.world()['messages'][carried.number - 1].d['message'].d['body'].n], link)
         is_lost = self.happens(self.of_link('loss', link)) or named is not None and named.what == 'lose'
@@ -242,7 +242,8 @@ class Simulation:
             heapq.heappush(self.wire, (self.now + takes * copy, next(self.order), carried))
 
     def take(self, line: str, rank: int):
-        """Adds a line to the schedule, and puts what its event sends on the wire. A tear that waits for the monitor is in it, if the event writes."""
+        """Adds a line to the schedule, and puts what its event sends on the wire. If a tear waits for the monitor and the event writes, the event becomes that
+        crash."""
         if len(self.schedule) > MOST_EVENTS:
             raise Faulty(f'the schedule has more than {MOST_EVENTS} events')
         before, at = self.play.copy() if rank in self.tears else None, len(self.play.trace)
@@ -268,7 +269,7 @@ class Simulation:
         return min(found, default=None)
 
     def next_copies(self):
-        """When copies go next, and of which monitor."""
+        """The time at which copies are sent next, and the monitor that sends them."""
         due = [(self.copying.due(rank), rank) for rank in range(self.play.n) if rank not in self.dead] if self.copying else []
         return min((it for it in due if it[0] is not None), default=None)
 
@@ -282,7 +283,7 @@ class Simulation:
             self.take(f'deliver {carried.number} {self.now}', carried.to)
 
     def mark(self, name: str, rest: list):
-        """Notes what becomes of the network, before the next event."""
+        """Notes a change of the network before the next event, as text."""
         if name == 'cut':
             said = f'cut {rest[1]}' if rest[0] else 'the network is whole'
         elif name in ('lose', 'twice', 'late'):
@@ -337,7 +338,7 @@ class Simulation:
 
 
 def read_schedule(octets: bytes) -> tuple[list[str], dict[int, list[str]]]:
-    """The lines of a schedule, or those of a scenario's, with what becomes of its network before which events. Raises Refused."""
+    """The lines of a schedule, or of a scenario's schedule, and the changes of its network by the number of the event that follows. Raises Refused."""
     try:
         return lines_of(octets), {}
     except Refused as why:

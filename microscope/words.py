@@ -1,4 +1,4 @@
-"""The run in words: what happened in an event, and why a row dropped its input, with its paragraph of docs/PROTOCOL.md."""
+"""A run in sentences: what happened in an event, and why a row dropped its input, with the row's paragraph of docs/PROTOCOL.md."""
 from __future__ import annotations
 
 import functools
@@ -23,10 +23,10 @@ ROWS = {
     'hear_cookie': '**COOKIE** from the provider', 'hear_no_cookie': '**NO_COOKIE** from the provider',
     'hear_chunk': '**CHUNK and LAST_CHUNK**', 'hear_last_chunk': '**CHUNK and LAST_CHUNK**', 'replay_step': '**`step`**',
 }
-# Those points of a paragraph that say why a row drops something, if not all that do.
+# The points of a row's paragraph that say why the row drops something, if they aren't all of its points.
 POINTS = {'hear_propose': (), 'hear_earlier': (1,), 'weigh': (4, 5), 'copy_again': (1,), 'hear_probe_reply': (), 'hear_collect': (), 'hear_last': (2,),
           'hear_get_chunk': (1,), 'hear_chunk': (), 'hear_last_chunk': ()}
-# What a part of a test means if it decides so: how its text begins, whether it holds, and the words.
+# What it means that a part of a test decided: the beginning of that part's text, whether the part holds, and the meaning.
 TESTS = [
     ('of_leader ', False, "the message isn't from the leader that the monitor follows, or is of another epoch"),
     ('of_member ', False, "the message isn't from a member of its quorum in this epoch, or comes in a phase that doesn't take it"),
@@ -68,7 +68,7 @@ TESTS = [
     ('of_provider', False, "the message isn't from the monitor that is copied"),
     ('is_cookie', False, "the message is of another copy"),
 ]
-# Values of a monitor that starts which say nothing.
+# Values of a starting monitor that are left out.
 PLAIN = '-', '0', '{}', '[]', 'no', 'off'
 SEND = re.compile(r'  send (\d+) (\d+)>(\d+) (\S+) e=(\d+) ?(.*)')
 UPSET = re.compile(r'(crash|fail) ([ab]) (\d+) (\d) (.*)')
@@ -100,14 +100,14 @@ def sends_of(step: Step) -> list[Sent]:
 
 
 def why(drop: Drop) -> str:
-    """Why a row dropped its input, in words."""
+    """A sentence on why a row dropped its input."""
     name = drop.test.lstrip('(')
     return next((words for begin, holds, words in TESTS if name.startswith(begin) and holds is drop.holds), f'{drop.test} {"holds" if drop.holds else "fails"}')
 
 
 @functools.lru_cache(maxsize=None)
 def paragraph_of(row: str) -> tuple[str, str]:
-    """The section of docs/PROTOCOL.md that a row is in, and the row's paragraph, with those points of its list that drop something."""
+    """The section of docs/PROTOCOL.md that a row is in, and the row's paragraph, with the points of its list on which it drops something."""
     begin, section = ROWS[row], ''
     with open(os.path.join(TOP, 'docs', 'PROTOCOL.md'), encoding='utf-8') as file:
         blocks = re.split(r'\n\n|\n(?=- |\d+\. )', file.read())
@@ -127,7 +127,7 @@ def paragraph_of(row: str) -> tuple[str, str]:
 
 
 def changes_of(step: Step) -> list[str]:
-    """What an event changed, a line for each part. All that a monitor begins with is a line, and so is all that it forgets."""
+    """What an event changed, one line per part. All that a starting monitor begins with is one line, and so is all that a crashed one forgets."""
     began = {rank for rank, part, _, after in step.changes if (part, after) == ('up', 'yes')}
     ended = {rank for rank, part, _, after in step.changes if (part, after) == ('up', 'no')}
     lines = []
@@ -143,19 +143,19 @@ def changes_of(step: Step) -> list[str]:
 
 
 def is_plain(value: str) -> bool:
-    """Whether a first value says nothing, or is a list of such values."""
+    """Whether a first value is left out: it is one of PLAIN, or a list of such values."""
     return value in PLAIN or value.startswith('[') and all(part in PLAIN for part in value[1:-1].split(', '))
 
 
 class Story:
-    """What was sent and delivered so far, so that each event can be said in words."""
+    """What was sent and delivered so far, from which each event gets its sentence."""
 
     def __init__(self):
         self.sent: dict[int, Sent] = {}
         self.got: dict[int, list[int]] = {}
 
     def take(self, step: Step) -> str:
-        """The next event in words."""
+        """The sentence of the next event."""
         said = self.said(step)
         words = step.lines[0].split(' ', 1)[1]
         words = UPSET.sub(r'\5', words).split(' ')

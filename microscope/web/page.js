@@ -79,7 +79,7 @@ function show(at) {
   history.replaceState(null, '', `#${at + 1}`);
 }
 
-// The chart with its shorter notes is as wide as its place, but no letter is smaller than it can be read; a step of zoom is a fifth.
+// Without zoom the chart, with its notes cut short, is as wide as its place, but letters stay large enough to read. One step of zoom is a factor of 1.2.
 function size() {
   const fit = Math.min(1.35, Math.max(0.62, (picture.clientWidth - 2) / Math.min(wide, COLUMNS[COLUMNS.length - 1] + NOTES))), scale = fit * 1.2 ** zoom;
   svg.style.width = `${wide * scale}px`;
