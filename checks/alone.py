@@ -8,7 +8,7 @@ from quorum import MOST_TURNS, free_ports
 
 
 def await_monitor(port):
-    """Waits until the monitor answers anything, so that no change has to be asked for twice."""
+    """Waits until the monitor answers anything, so that no change is sent twice."""
     with Client([('127.0.0.1', port)], timeout=0.2, once=True) as client:
         for _ in range(300):
             try:
@@ -21,7 +21,7 @@ def await_monitor(port):
 
 @contextlib.contextmanager
 def serving(program, files):
-    """A monitor that serves from these files, until it is killed at the end: a client of it, and its address."""
+    """Runs a monitor on these files and kills it at the end. Yields a client of it, and its address."""
     port = free_ports(1)[0]
     running = subprocess.Popen([program.path, 'node', '0', '1', 'classic', f'127.0.0.1:{port}', *files, MOST_TURNS], stdin=subprocess.DEVNULL)
     try:

@@ -20,7 +20,7 @@ SECONDS = 20
 
 
 class Browser:
-    """A browser with one page. It is left with `with`."""
+    """A browser with one page, to be used with `with`."""
 
     def __init__(self):
         path = next(filter(None, map(shutil.which, NAMES)), None)
@@ -31,7 +31,7 @@ class Browser:
         self.of, to_write = os.pipe()
 
         def pipes():
-            # Chromium reads what is asked from descriptor 3 and answers to 4.
+            # Chromium reads requests from descriptor 3 and writes answers to 4.
             os.dup2(to_read, 13)
             os.dup2(to_write, 14)
             os.dup2(13, 3)
@@ -70,7 +70,7 @@ class Browser:
         return json.loads(text)
 
     def call(self, method: str, **params) -> dict:
-        """What the browser answers. Errors of the page are noted meanwhile."""
+        """Sends a request and returns the browser's answer. Errors of the page that come before it are noted."""
         self.number += 1
         asked = {'id': self.number, 'method': method, 'params': params, **({'sessionId': self.session} if self.session else {})}
         os.write(self.to, json.dumps(asked).encode() + b'\0')
@@ -96,7 +96,7 @@ class Browser:
         self.until('document.readyState === "complete"')
 
     def of_page(self, expression: str):
-        """The value of an expression in the page, after it is settled."""
+        """The value of an expression in the page. A promise is awaited."""
         found = self.call('Runtime.evaluate', expression=expression, awaitPromise=True, returnByValue=True)
         if 'exceptionDetails' in found:
             raise Failed(f'{expression}: {found["exceptionDetails"].get("exception", {}).get("description")}')

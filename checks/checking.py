@@ -17,8 +17,8 @@ import traceback
 TOP = os.path.dirname(os.path.dirname(os.path.abspath(__file__)))
 EXAMPLES, TOOLS = os.path.join(TOP, 'examples'), os.path.join(TOP, 'tools')
 sys.path[:0] = [TOOLS, os.path.join(TOP, 'bench')]
-# The lines that `node` and `follow` write on standard error because of the machine or of other monitors, each in the form of its beginning. Those of a
-# `node` have the milliseconds since its start.
+# Lines that `node` and `follow` write on standard error because of the machine or of other monitors: the pattern of each line. Lines of a `node` begin with
+# the milliseconds since its start.
 ROOM = rb'(?:\d+ ms: )?link: room for \d+ bytes, less than a long message takes: raise net\.core\.rmem_max\n'
 SEEN = rb'\d+ ms: [^\n]*\n'
 ASIDE = re.compile(b'^(?:' + b'|'.join([ROOM, SEEN]) + b')', re.MULTILINE)
@@ -29,7 +29,7 @@ class Failed(Exception):
 
 
 class Skipped(Exception):
-    """A check can't be made on this machine, for this reason."""
+    """A check can't run on this machine, for this reason."""
 
 
 def needs(tool: str):
@@ -39,7 +39,7 @@ def needs(tool: str):
 
 
 def without_asides(errors: bytes) -> bytes:
-    """What a monitor or a client that follows wrote on standard error, without the lines that depend on the machine or on other monitors."""
+    """The standard error of a `node` or a `follow`, without the lines that depend on the machine or on other monitors."""
     return ASIDE.sub(b'', errors)
 
 
@@ -63,7 +63,7 @@ def same_text(found: bytes, wanted: bytes, what=''):
 
 
 class Checks:
-    """Runs checks, one after the other, each in a line."""
+    """Runs checks, one after the other, and prints one line per check."""
 
     def __init__(self, only: str | None):
         self.only, self.passed, self.failed, self.skipped = only, 0, 0, 0
@@ -113,7 +113,7 @@ class Program:
         return Ended(done.returncode, done.stdout, without_asides(done.stderr) if has_socket else done.stderr)
 
     def ended(self, running: subprocess.Popen, seconds: float) -> Ended:
-        """How a monitor or a client that follows ends in time, which was started before."""
+        """Waits until a `node` or a `follow` that was started before ends. Fails if it doesn't in time."""
         output, errors = running.communicate(timeout=seconds)
         return Ended(running.returncode, output or b'', without_asides(errors))
 
@@ -124,7 +124,7 @@ class Program:
         return ended.output
 
     def ends(self, status: int, text: str, *words, **how):
-        """Fails unless the program ends so, with this text on standard error and nothing on standard output."""
+        """Fails unless the program ends with this status, this text on standard error and nothing on standard output."""
         ended = self.run(*words, **how)
         equal((ended.status, ended.errors, ended.output), (status, (text + '\n').encode(), b''), ' '.join(map(shown, words))[:80])
 
@@ -149,7 +149,8 @@ def read(*names: str) -> bytes:
 
 
 def main(text: str, checks) -> int:
-    """Calls `checks` with what runs a check, and with the program if the script's text asks for one."""
+    """Calls `checks` with a function that runs a check, and with the program if the script's text has the word PROGRAM. Returns the exit
+    status."""
     wants = 'PROGRAM' in text
     parser = argparse.ArgumentParser(description=text, formatter_class=argparse.RawDescriptionHelpFormatter)
     parser.add_argument('--only', metavar='TEXT', help='only the checks whose names have this text')

@@ -1,4 +1,4 @@
-"""Arguments that the program and the launcher refuse, in one table: the arguments, and a word of what the launcher says of them."""
+"""Arguments that the program and the launcher refuse, in one table: the arguments, and a part of the launcher's explanation."""
 
 ALONE = '127.0.0.1:6789'
 
@@ -68,7 +68,7 @@ FAULTY = [
     (['0' * 4097], 'longer than 4096'),
 ]
 
-# The launcher answers this by a page; the program refuses it as any other.
+# For this the launcher prints its help. The program refuses it.
 HELP = ['--help']
 
 # These aren't UTF-8, which the shell can't judge: only the program refuses them.

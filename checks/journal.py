@@ -1,10 +1,10 @@
-"""The bytes of a store's two files, as docs/FORMATS.md describes them, written here apart from the program."""
+"""Makes the bytes of a store's two files, as docs/FORMATS.md describes them. It shares no code with the program."""
 import struct
 
 NEW = b'CEPHMON2'
-# How many bytes the file of a new store of a single monitor has.
+# The length of the file of a new store of a single monitor, in bytes.
 HEADER = 26
-# What a record adds to its payload: the commit byte and the length.
+# The bytes of a record beyond its payload: the commit byte and the length.
 HEAD = 5
 
 
@@ -33,7 +33,7 @@ def transaction(*ops, version=1):
 
 
 def checkpoint(*entries):
-    """The payload with which a checkpoint begins: the entries of the map, in order of their keys."""
+    """The payload of a checkpoint: the entries of the map, in order of their keys."""
     return b'\x80' + struct.pack('<I', len(entries)) + b''.join(word(prefix) + word(key) + struct.pack('<I', len(value)) + value
                                                                for prefix, key, value in entries)
 

@@ -1,6 +1,6 @@
-/* A system that grants a socket little room: a greater SO_RCVBUF than ROOM_MAX is granted as ROOM_MAX, as net.core.rmem_max does it.
+/* Limits the receive buffers of sockets, as net.core.rmem_max does: if more than ROOM_MAX bytes are asked for by SO_RCVBUF, ROOM_MAX are granted.
  *
- * It is loaded before the C library. SO_RCVBUFFORCE, which needs a right, is refused. */
+ * It is loaded before the C library. SO_RCVBUFFORCE, which needs a privilege, is refused. */
 #define _GNU_SOURCE
 #include <dlfcn.h>
 #include <errno.h>

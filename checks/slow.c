@@ -1,4 +1,4 @@
-/* A disk of which each sync takes SLOW_MS milliseconds longer. It is loaded before the C library. */
+/* Makes each sync of a file take SLOW_MS milliseconds longer. It is loaded before the C library. */
 #define _GNU_SOURCE
 #include <dlfcn.h>
 #include <stdlib.h>

@@ -1,7 +1,7 @@
-"""What somebody on a network does who has no key: called by checks/network within a network namespace of its own.
+"""A stranger on a network, without a key of the tunnel. checks/network calls it within a network namespace of its own.
 
-usage: checks/stranger.py record INTERFACE SECONDS FILE    writes each frame that passes, the length in 4 bytes before it
-       checks/stranger.py repeat INTERFACE FILE            sends these frames once more
+usage: checks/stranger.py record INTERFACE SECONDS FILE    writes each frame that passes, with its length in 4 bytes before it
+       checks/stranger.py repeat INTERFACE FILE            sends these frames again
        checks/stranger.py forge FROM TO NAME MONITORS RANK EPOCH
                                                            sends a call for an election, as the monitor of this rank would, from one HOST:PORT to another
 """
@@ -19,7 +19,7 @@ ALL_FRAMES, PROPOSE = 3, 3
 def record(interface, seconds, path):
     with socket.socket(socket.AF_PACKET, socket.SOCK_RAW, socket.htons(ALL_FRAMES)) as link, open(path, 'wb') as file:
         link.bind((interface, 0))
-        # promiscuous, as whoever listens on a wire
+        # Promiscuous mode receives all frames of the wire.
         link.setsockopt(263, 1, struct.pack('iHH8s', socket.if_nametoindex(interface), 1, 0, b''))
         print('recording', flush=True)
         end = time.monotonic() + float(seconds)
@@ -49,7 +49,7 @@ def repeat(interface, path):
             try:
                 link.send(frame)
             except OSError:
-                # longer than this interface sends
+                # The frame is longer than this interface can send.
                 continue
 
 
