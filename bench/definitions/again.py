@@ -1,7 +1,7 @@
-"""The link that sends again, by its definitions in crates/mon_resend/specs: what it keeps of the datagrams that go and come, and what goes again.
+"""The link that sends again, by its definitions in crates/mon_resend/specs: which datagrams it keeps, and which it sends again.
 
-A `Link` is that of one monitor. Its datagrams are bytes, as they go between monitors without the frame of a quorum. Its times are milliseconds. The
-definitions read each datagram themselves. `cases` are those that the tests of the link have, and `wrong_step` plays one.
+A `Link` belongs to one monitor. Its datagrams are bytes, as they go between monitors, without the frame of a quorum. Its times are milliseconds. The
+definitions read each datagram themselves. `cases` returns the cases of the link's tests, and `wrong_step` plays one.
 """
 import os
 import re
@@ -21,28 +21,28 @@ antt.MEMO['mon_resend.specs.Datagrams.part_of'] = 64
 
 
 def part_of(datagram):
-    """what a datagram is of its message, or None: a constructor Whole, First or Later, the first two with the message's header"""
+    """Which part of its message a datagram is, or None: a constructor Whole, First or Later, the first two with the message's header."""
     return app(resolve('mon_resend.specs.Datagrams', 'part_of'), datagram)
 
 
 class Link:
-    """what a monitor's link keeps, and the steps of it"""
+    """A monitor's link: the copies that it keeps, and its steps."""
 
     def __init__(self):
         self.copies, self.run = resolve(WORLD, 'fresh'), 0
 
     def sent(self, now, to, datagram):
-        """a datagram is to go to a monitor; whether it goes now"""
+        """The monitor sends a datagram to another one. Returns whether it goes on the wire now."""
         goes = apps(resolve(WORLD, 'goes_now'), to, datagram, now, self.copies)
         self.copies = apps(resolve(WORLD, 'sent'), True, to, datagram, now, self.copies)
         return goes
 
     def arrived(self, now, sender, datagram):
-        """a datagram arrives from a monitor; whether it is handed up, and what goes then, as pairs of a monitor and a datagram"""
+        """A datagram arrives from a monitor. Returns whether it is handed up, and what is sent then, as pairs of a monitor and a datagram."""
         return self.took(now, Con('Datagram', (Con('Monitor', (sender,)), datagram)))
 
     def rested(self, now):
-        """nothing arrives; what goes then"""
+        """Nothing arrives. Returns what is sent then."""
         return self.took(now, IDLE)[1]
 
     def took(self, now, got):
@@ -55,12 +55,12 @@ class Link:
         return got.n == 'Datagram' and not is_kept, [(out.d['to'].a[0], out.d['bytes']) for out in going]
 
     def due(self):
-        """when the next copy goes, or None"""
+        """The time of the next copy, or None."""
         due = app(resolve(WORLD, 'due_of'), self.copies)
         return None if due == NEVER else due
 
     def kept(self, rank):
-        """the datagrams that are kept for a monitor, each with its note"""
+        """The datagrams that are kept for a monitor, each with its note."""
         shelf = apps(resolve(WORLD, 'box_of'), rank, self.copies).d['shelf']
         return [(kept.d['out'].d['bytes'], kept.d['note'].d) for kept in shelf]
 
@@ -73,8 +73,8 @@ STEP = re.compile(r'\((\w+), (Sends|SendsToAnother|Hears|Rests), (\w+), (\w+), (
 
 
 def cases():
-    """for each case of the tests its name and its steps: a time, what is done, a message's kind, epoch and number, how many datagrams go out then,
-    and whether what comes is handed up"""
+    """The cases of the tests: for each its name and its steps. A step has a time, what is done, a message's kind, epoch and number, how many datagrams are sent
+    then, and whether a datagram that arrives is handed up."""
     texts = [open(os.path.join(antt.ROOT, 'resend_tests', 'src', name)).read() for name in ('again.rt', 'again_calls.rt', 'again_copies.rt', 'again_rows.rt')]
     bytes_of = {name: int(byte) for text in texts for name, byte in BYTE.findall(text)}
 
@@ -91,12 +91,12 @@ def cases():
     return found
 
 
-# no kinds of messages: the second and the third piece of a long message
+# These aren't kinds of messages: the second and the third piece of a long message.
 PIECES, PART, LONG = {101: 1, 102: 2}, 59_000, 118_001
 
 
 def message(kind, epoch, number):
-    """the beginning of a message of monitor 0 of 3, whose body begins with this number twice; or a piece of one with this number"""
+    """The first bytes of a message of monitor 0 of 3, whose body begins with this number twice; or a piece of a message with this number."""
     if kind in PIECES:
         place = PIECES[kind] * PART
         head = bytes([2, 0, 0, 0]) + number.to_bytes(8, 'little') * 2 + LONG.to_bytes(4, 'little') + place.to_bytes(4, 'little')
@@ -105,7 +105,7 @@ def message(kind, epoch, number):
 
 
 def wrong_step(steps):
-    """the first step of a case that the definitions don't take as it says, with how many datagrams go and whether what comes is handed up; or None"""
+    """The first step of a case at which the definitions differ from it, with the number of datagrams that they send and whether they hand up; or None."""
     link = Link()
     for step in steps:
         time, does, kind, epoch, number, sent, is_up = step

@@ -1,4 +1,4 @@
-"""Schedules of its own: one to fifteen monitors, every rule and timer, crashes of either disk at any call."""
+"""Makes random schedules: one to fifteen monitors, every rule and timer, crashes of either disk at any call."""
 import random
 import run
 TIMERS = list(run.TIMER)
@@ -31,7 +31,7 @@ def first_line(rng, big):
 
 
 def schedule_of(seed, events, flavour, seen=lambda lines, play: None):
-    """the schedule of a number, and how it was played; `seen` gets the lines and the play after each event"""
+    """The schedule of a number, and its play. `seen` is called with the lines and the play after each event."""
     rng = random.Random(seed)
     big = flavour == 'big'
     n, first = first_line(rng, big)
@@ -44,7 +44,7 @@ def schedule_of(seed, events, flavour, seen=lambda lines, play: None):
     often = {'timer': rng.choice([0.02, 0.1, 0.25]), 'start': rng.choice([0, 0.002, 0.01]), 'client': rng.choice([0.05, 0.15, 0.4])}
     old, lost, armed, crashed = rng.choice([0, 0.05, 0.2]), rng.choice([0, 0.02, 0.1]), rng.choice([0.3, 0.7]), rng.choice([0, 0.01, 0.04])
     state = lambda i: run.app(play.scene.d['world'].d['state'], i)
-    # most begin with an election and some commands that nothing disturbs
+    # Most schedules begin with an undisturbed election and some undisturbed commands.
     quiet = rng.choice([0, 1, 1]) * (5 * n * n + 40)
     while len(lines) <= events:
         if len(lines) > quiet and rng.random() < 0.3:

@@ -1,12 +1,12 @@
-"""Tries in the definitions that a majority can serve again: the way that docs/LAWS.md describes (The way back), after random runs.
+"""Tries by the definitions that a majority can serve again after random runs, by the events that docs/LAWS.md describes (The way back).
 
 usage: recover.py FIRST_SEED COUNT EVENTS [EVERY [PROGRAM]]
 
-A run of fuzz.py is played. At its end, and before that after each EVERY events, a majority whose monitors are near the whole log goes on by itself,
-and a command is asked. It must get its reply within 2n² + 14n + 5 events, none of which delivers a message that was sent before. If a program is
-given, its trace of all of these events must be the same. A run that ends early, or a majority that lacks a member that may lead, is counted apart.
-It prints the counts, and for each number of monitors how many events the longest way has. The status is 0 if each other majority got its reply, and
-1 otherwise.
+COUNT runs of fuzz.py are played. At the end of each, and before that after every EVERY events, a majority whose monitors are near the whole log goes on
+alone, and a command is asked. It must get its reply within 2n² + 14n + 5 events for n monitors, none of which delivers a message that was sent before. If
+PROGRAM is given, its trace of all of these events must be the same. A run that ends early, and a majority without a member that may lead, are counted
+separately. The script prints the counts, and for each number of monitors the length of the longest way. The status is 0 if every other majority got its
+reply, and 1 otherwise.
 """
 from __future__ import annotations
 
@@ -89,7 +89,7 @@ def most_events(n: int) -> int:
 
 
 def outcome(seed: int, schedule: str, play: run.Play, program: str | None, longest: collections.Counter) -> str:
-    """What becomes of a majority after the run of a seed. Notes the longest way of each number of monitors."""
+    """How a majority fares after the run of a seed. Notes the longest way of each number of monitors."""
     near = [rank for rank in range(play.n) if is_near(play, rank)]
     least = play.n // 2 + 1
     where = f'seed {seed}, event {play.events}'
@@ -115,7 +115,7 @@ def outcome(seed: int, schedule: str, play: run.Play, program: str | None, longe
 
 
 def outcomes(seed: int, events: int, every: int, program: str | None, longest: collections.Counter) -> list[str]:
-    """What becomes of a majority at the end of the run of a seed, and at regular numbers of events before it."""
+    """How a majority fares at the end of the run of a seed, and at regular intervals before it."""
     found = []
 
     def seen(lines: list[str], play: run.Play):

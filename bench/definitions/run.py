@@ -5,8 +5,8 @@ usage: run.py parse
        run.py PROGRAM file SCHEDULE
        run.py PROGRAM PROFILE FIRST_SEED COUNT EVENTS
 
-What an antt record, constructor or tuple is in Python stands in antt.py: `x.d` are a record's fields, `x.n` and `x.a` a constructor's name and
-arguments. `fn` names a definition, and `app` and `apps` apply one.
+antt.py defines records, constructors and tuples in Python: `x.d` has a record's fields, `x.n` and `x.a` are a constructor's name and arguments. `fn`
+looks up a definition, and `app` and `apps` apply one.
 """
 import collections
 import copy
@@ -88,7 +88,7 @@ def app_in(o, d):
             del d[k]
 
 
-# what the last transaction made of a map, for which it is asked several times
+# The result of the last transaction on a map is cached, since it is asked for several times.
 APPLIED = [None, None, None]
 
 
@@ -212,11 +212,11 @@ def fn(p, n):
 for name in ('fold', 'incrementals', 'map_of_log'):
     antt.MEMO['mon_msg.specs.Fold.' + name] = 10 ** 6
 antt.MEMO[PR + 'Readings.readings_of'] = 256
-# what an event meets is asked several times
+# The state in which an event happens is cached, since it is asked for several times.
 for name in ('mon_world.specs.Events.scheduled_of', 'quorum_model.specs.Meets.meets', 'quorum_model.specs.Scenes.event_in'):
     antt.MEMO[name] = 8
 antt.MEMO['mon_tx.specs.Keys.shared'] = 32
-# where a named key stands
+# The prefix and the key of a named key.
 PLACES = {}
 
 
@@ -248,7 +248,7 @@ N[PR + 'Reaction.reaction'] = nat(5)(reaction)
 
 
 def reload(changes={}, constants={}):
-    """reads the definitions anew under changed rules, see antt.py"""
+    """Reads the definitions anew under changed rules: see antt.py."""
     antt.reload(changes, constants)
     PLACES.clear()
     VALUES.clear()
@@ -363,7 +363,7 @@ def reply(r):
 
 
 def parse_client(ws, line, j):
-    # ws: fields after 'client'
+    # `ws` has the fields after `client`.
     r, t, c, i = int(ws[1]), int(ws[2]), int(ws[3]), int(ws[4])
     kind = ws[5]
     ses = Rec({'client': c, 'id': i})
@@ -413,7 +413,7 @@ def event_of(line):
 
 
 def lines_of(line):
-    """the lines of a step, as a trace has them"""
+    """The lines of a step, as a trace has them."""
     d = line.d
     o = d['outcome']
     out = []
@@ -442,7 +442,7 @@ KINDS = collections.Counter()
 
 
 class Play:
-    """a schedule that is played event by event, with its trace so far"""
+    """A schedule that is played event by event, with its trace so far."""
 
     def __init__(self, first):
         self.ms = monitors_of(first)
@@ -451,17 +451,17 @@ class Play:
         self.stop = None
         self.events = 0
         self.trace = [first]
-        # what each monitor's events wrote, which is nothing where it reacted to none
+        # The transactions that each monitor's events wrote. An event to which it didn't react wrote none.
         self.writes = [[] for _ in range(self.n)]
 
     def copy(self):
-        """another play that goes on from here, whose trace begins here"""
+        """Another play that goes on from here. Its trace begins here."""
         other = copy.copy(self)
         other.trace, other.writes = [], [list(writes) for writes in self.writes]
         return other
 
     def take(self, line):
-        """plays an event; whether the run goes on"""
+        """Plays an event. Returns whether the run goes on."""
         event = event_of(line)
         before = self.scene
         done = apps(fn('mon_world.specs.Step', 'step'), self.ms, before, event)
@@ -486,7 +486,7 @@ class Play:
         return True
 
     def count(self, event, met, before, outcome):
-        """which kind of a scheduled crash it was"""
+        """Counts a scheduled crash by its kind."""
         rank, came, reaction = met.a
         files = apps(fn(SCENES, 'files_at'), came, app(before.d['files'], rank))
         ops = app(fn(SCENES, 'ops_of'), reaction)
@@ -516,7 +516,7 @@ def played(schedule):
     return play
 
 
-# the value for each rank is read once an event, so that no chain of updates grows
+# The value of each rank is read once per event, so that no chain of updates grows.
 def tabled(f, n):
     values = [app(f, i) for i in range(n)]
     return nat(1)(lambda i: values[i])
@@ -553,12 +553,12 @@ def entry(log, v):
     return apps(fn('mon_msg.specs.Fold', 'entry'), log, v)
 
 
-# the encodings of the values of commands over logs
+# The encoded values of commands after logs.
 VALUES = {}
 
 
 def spelled_value(log, c, r):
-    """the value of a command that monitor r was asked over a log, encoded; or None if it is refused"""
+    """The encoded value of a command that monitor r is asked when it has this log, or None if the command is refused."""
     key = log, c, r
     if key not in VALUES:
         if len(VALUES) > 20000:
@@ -569,7 +569,7 @@ def spelled_value(log, c, r):
 
 
 def unsafe(w, n, writes):
-    """what of a world isn't safe, in which the monitors' events wrote these transactions"""
+    """The parts of Safe that fail in a world in which the monitors' events wrote these transactions, each with a number."""
     d = w.d
     log = d['log']
     bad = []
@@ -593,7 +593,7 @@ def unsafe(w, n, writes):
             asked[(c.a[0], a.d['rank'] if c.a[0].n == 'Log' else 0)] = (c.a[0], a.d['rank'], B(apps(incremental, a.d['rank'], c.a[0])))
     for v in range(len(log)):
         spelled = B(entry(log, v + 1))
-        # the commands whose incremental stands in the entry come first
+        # Commands whose change is in the entry come first.
         tried = sorted(asked.values(), key=lambda c: c[2] not in spelled)
         if not any(spelled_value(log[:v], c, r) == spelled for c, r, _ in tried):
             bad.append(('asked', v))
@@ -648,7 +648,7 @@ def unsafe(w, n, writes):
 
 
 def not_calm(ms, orders, events):
-    """what of the run of events isn't calm, in which these commands were asked"""
+    """The parts of Calm that fail in a run of events in which these commands were asked."""
     n = ms.d['count']
     ran = apps(fn(QM + 'Runs', 'ran'), ms, events).d
     d = ran['world'].d
@@ -710,7 +710,7 @@ def calm(n, orders):
 
 
 def compared(program, schedule, play, name):
-    """whether a played schedule's trace is the program's, and its last world is safe"""
+    """Whether a played schedule's trace is the program's, and its last world is safe."""
     p = subprocess.run([program, 'replay'], input=schedule.encode(), stdout=subprocess.PIPE, stderr=subprocess.PIPE)
     got, want, stop = play.ended(), p.stdout.decode(), play.stop
     statuses = {0: None, 10: 'Spent', 13: 'Full'}
@@ -733,7 +733,7 @@ def compared(program, schedule, play, name):
 
 
 def all_compared(program, name, first, count, play_of):
-    """plays schedule after schedule, and reports each as soon as it is compared"""
+    """Plays schedule after schedule, and reports each one as soon as it is compared."""
     good = 0
     t = time.time()
     for seed in range(first, first + count):
@@ -758,7 +758,7 @@ def all_compared(program, name, first, count, play_of):
 
 
 def parse():
-    """reads every file of definitions of the protocol and of the world, and prints how much of each is computed"""
+    """Reads every file of definitions of the protocol and of the world, and prints how many definitions of each were read."""
     files, types = 0, 0
     for folder in ('mon_msg/specs/Protocol', 'mon_msg/specs', 'quorum_model/specs', 'mon_world/specs'):
         for name in sorted(os.listdir(os.path.join(antt.ROOT, folder))):
@@ -771,14 +771,14 @@ def parse():
 
 
 def calm_orders(n):
-    """five commands, and which of n monitors is asked each"""
+    """Five commands, each with the rank that is asked, of n monitors."""
     key = lambda k: Con('Set', (b'k%d' % k, b'v'))
     log, remove = Con('Log', (b'text',)), lambda name: Con('Remove', (name,))
     return [Tup(rank % n, command) for rank, command in ((0, key(1)), (1, log), (2, remove(b'none')), (1, remove(b'k1')), (0, key(2)))]
 
 
 def compare(program, profile, words):
-    """plays the schedule of a file, its own ones, or those that the program makes"""
+    """Plays the schedule of a file, random ones, or those that the program generates, and compares them with the program."""
     if profile == 'file':
         with open(words[0]) as file:
             schedule = file.read()

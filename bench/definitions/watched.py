@@ -1,10 +1,10 @@
-"""Tries in the definitions that what a link that watches shows of its monitor is so, after each event of random runs.
+"""Tries by the definitions that a watching link shows the true state of its monitor after each event of random runs.
 
 usage: watched.py FIRST_SEED COUNT EVENTS
 
-Runs of fuzz.py are played. After each event what is seen of each monitor that is up is folded from the headers of what it sent since its start, and
-compared with what its core remembers. It reports how often each phase was seen in each phase of a core. The status is 0 if all that was seen was so,
-and 1 otherwise.
+Runs of fuzz.py are played. A watching link concludes the state of its monitor from the headers of the messages that the monitor sent since its start. After
+each event this state is compared with what the monitor's core remembers. The script reports how often each phase was concluded in each phase of a core.
+The status is 0 if all conclusions agreed, and 1 otherwise.
 """
 from __future__ import annotations
 
@@ -19,13 +19,13 @@ SEEN, LAWS, LEADER = 'mon_watch.specs.Seen', 'watch_laws.specs.Watching', 'quoru
 
 
 class Watch:
-    """What is seen of each monitor of a play."""
+    """What a watching link concludes of each monitor of a play."""
 
     def __init__(self, monitors: int):
         self.seen, self.sent = [resolve(SEEN, 'nothing_seen')] * monitors, 0
 
     def took(self, play: run.Play, line: str):
-        """An event was played."""
+        """Takes an event that was played."""
         plain = run.app(run.fn('mon_world.specs.Events', 'scheduled_of'), run.event_of(line)).d['plain']
         if plain.n == 'Start':
             self.seen[plain.a[0]] = resolve(SEEN, 'nothing_seen')
@@ -37,7 +37,7 @@ class Watch:
         self.sent = len(messages)
 
     def line(self, rank: int) -> str | None:
-        """What its monitor's last line on standard error would say."""
+        """The last line that the monitor would write on standard error."""
         seen = self.seen[rank].d
         phase, epoch = seen['phase'].n, seen['epoch']
         if phase in ('Collecting', 'Active'):
@@ -50,7 +50,7 @@ class Watch:
 
 
 def wrong(own: int, seen, epoch: int, state) -> str | None:
-    """What is seen of a monitor and isn't so."""
+    """What is concluded of a monitor and isn't true, or None."""
     shown, actual = seen.d['phase'], state.d['phase']
     if apps(resolve(LAWS, 'lags'), shown, actual):
         return None
@@ -68,7 +68,7 @@ def wrong(own: int, seen, epoch: int, state) -> str | None:
 
 
 def tried(seed: int, events: int, phases: collections.Counter) -> str | None:
-    """What is first wrong in a run."""
+    """The first wrong conclusion in a run, or None."""
     schedule, _ = fuzz.schedule_of(seed, events, 'small')
     lines = schedule.split('\n')[:-1]
     play = run.Play(lines[0])
