@@ -1,7 +1,7 @@
-"""Fields of bytes, and transactions from their bytes, as docs/FORMATS.md specifies them: for the checks, the benches and the definitions that are executed.
+"""Reads fields and transactions from bytes, as docs/FORMATS.md specifies them: for the checks, the benches and the executed definitions.
 
-tools/wire.py has a reader of its own, for what operators use. The two share nothing: the checks judge the tools too, so a fault of one reader may not be
-one of the other.
+tools/wire.py has another reader, for what operators use. The two share no code: the checks judge the tools, too, so a fault of one reader must not be a
+fault of the other.
 """
 from __future__ import annotations
 
@@ -9,7 +9,7 @@ MOST_NUMBER, MOST_TRANSACTION = 2**62, 4_194_304
 
 
 class At(Exception):
-    """The bytes are refused at this one."""
+    """The bytes are refused at this place."""
 
     def __init__(self, at: int):
         super().__init__(at)
@@ -17,7 +17,7 @@ class At(Exception):
 
 
 class Fields:
-    """Takes fields from bytes, from a place on. One that doesn't fit, or isn't of its form, is at fault at its first byte."""
+    """Reads fields from bytes, from a place on. A field that doesn't fit, or is malformed, raises At with the place of its first byte."""
 
     def __init__(self, octets: bytes, at: int = 0):
         self.octets, self.at = octets, at
@@ -45,7 +45,7 @@ class Fields:
 
 
 def changes_of(octets: bytes) -> list[tuple]:
-    """The changes of a transaction, each as its name in `mon_tx` and its fields. Raises At if the bytes are none."""
+    """The changes of a transaction, each as its name in `mon_tx` and its fields. Raises At if the bytes aren't a transaction."""
     if len(octets) > MOST_TRANSACTION:
         raise At(MOST_TRANSACTION)
     fields = Fields(octets)

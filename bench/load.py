@@ -1,5 +1,5 @@
-"""Clients that ask the monitors of a quorum without a pause, note what they were answered, and a judge of it. bench/kills, the scripts of bench/hostile,
-checks/lossy and checks/stale_leader use it."""
+"""Clients that send requests to the monitors of a quorum without end and record the replies, and a judge of these records. bench/kills, the scripts of
+bench/hostile, checks/lossy and checks/stale_leader use it."""
 from __future__ import annotations
 
 import bisect
@@ -9,20 +9,20 @@ import time
 
 from client import NotServed, Refused
 
-# A change that was answered: its version, its key, and the number that the key was set to, or after which it was removed. It is sure if it was asked
-# once, so that it can't be made twice.
+# A change that was answered: its version, its key, the number that the key was set to or after which it was removed, whether it was removed, whether it was
+# sent only once (`sure`), and when the request began and ended.
 Answered = collections.namedtuple('Answered', 'version key number removed sure began ended')
 
 
 class Setter(threading.Thread):
-    """A client that sets keys of its own to rising numbers. If the load removes, each key is removed between two of them. A key with a change of which
-    the end isn't known, or that may be made twice, is left for ever."""
+    """A client that sets its own keys to rising numbers. If the load removes, a key is removed after each set. If the outcome of a change isn't known, or it may
+    be made twice, its key is never used again."""
 
     def __init__(self, load: Load, number: int):
         super().__init__(daemon=True)
         self.load, self.number, self.answered, self.unserved = load, number, [], 0
         self.generation, self.is_there = [0] * load.keys, [False] * load.keys
-        # The keys that are left, and whether the last change was to remove it; and refusals of what had to be done.
+        # The keys that aren't used any more, each with whether its last change was a removal; and refusals of changes that had to be done.
         self.left, self.wrong = {}, []
 
     def run(self):
@@ -63,7 +63,7 @@ class Setter(threading.Thread):
 
 
 class Looker(threading.Thread):
-    """A client that looks at one monitor again and again."""
+    """A client that reads the map of one monitor again and again."""
 
     def __init__(self, load, rank):
         super().__init__(daemon=True)
@@ -81,8 +81,8 @@ class Looker(threading.Thread):
 
 
 class Load:
-    """Setters, each of which pauses after an answer, and a looker for each monitor, every `look` seconds. With `asked` one monitor alone is asked for
-    changes. Each is asked once within `timeout`; without `once` again, of another monitor, after `patience`."""
+    """Setters, each of which pauses after an answer, and a looker for each monitor, which reads every `look` seconds. If `asked` is a rank, all changes are
+    asked of that monitor. With `once` each change is sent once; without it a change is sent to the next monitor after `patience` seconds, until `timeout`."""
 
     def __init__(self, quorum, clients=3, pause=0.01, octets=0, patience=3.0, asked=None, most=None, seconds=None, name='c', keys=6, removes=False, once=True,
                  timeout=None, look=0.1):
@@ -125,7 +125,7 @@ class Load:
         return max(later - earlier for earlier, later in zip(moments, moments[1:]))
 
     def first(self, began):
-        """The time until the first answer to what was asked after a moment."""
+        """The time from `began` until the first answer to a change that was asked after it."""
         return min((change.ended - began for change in self.answered() if change.began >= began), default=None)
 
 
@@ -134,14 +134,14 @@ def number_of(value):
 
 
 class Judge:
-    """Judges what clients saw. `wrong` has a line for each fault."""
+    """Judges what clients saw. `wrong` has one line per fault."""
 
     def __init__(self, load, final=None):
         self.wrong = [line for setter in load.setters for line in setter.wrong]
         self.answered = load.answered()
         self.left = {key: removed for setter in load.setters for key, removed in setter.left.items()}
         self.known = collections.defaultdict(list)
-        # Of each key the last version of each number, so that a long history is judged in the time of its maps.
+        # By key, the last version of each number. With it the time to judge a long history grows only with its maps.
         self.made = collections.defaultdict(dict)
         for change in self.answered:
             self.known[change.key].append((change.version, change.number, change.removed))
@@ -154,9 +154,9 @@ class Judge:
             self.end(final)
 
     def order(self):
-        """Each version is one reply, and they rise in the order of time."""
+        """Each version is the reply to one change, and a change that began after another one's reply has a greater version."""
         versions = collections.Counter(change.version for change in self.answered)
-        self.wrong += [f'version {version} was told {count} times' for version, count in versions.items() if count > 1]
+        self.wrong += [f'version {version} is the reply to {count} changes' for version, count in versions.items() if count > 1]
         events = sorted([(c.began, 1, c.version) for c in self.answered] + [(c.ended, 0, c.version) for c in self.answered])
         greatest = 0
         for _, begins, version in events:
@@ -165,7 +165,7 @@ class Judge:
             greatest = greatest if begins else max(greatest, version)
 
     def maps(self, seen):
-        """Each version has one map, with what was answered up to it and nothing older."""
+        """Each version has one map, with all changes that were answered up to it and nothing older."""
         one = {}
         for where, paxos, shown in seen:
             if one.setdefault(paxos, shown) != shown:
@@ -181,14 +181,14 @@ class Judge:
                     self.wrong.append(f'{key} is {value} at {paxos}, before its version')
 
     def may_follow(self, value, key, changes, place) -> bool:
-        """Whether a key may have this value, or none, after this number of its changes: that of the last one, or of one that wasn't answered."""
+        """Whether a key may have this value, or none, after this number of its answered changes: the value of the last one, or of an unanswered later one."""
         _, number, removed = changes[place - 1]
         if value is None:
             return removed or place == len(changes) and self.left.get(key, False)
         return value >= number
 
     def rises(self, lookers):
-        """What a monitor shows doesn't fall."""
+        """The versions that a monitor shows don't fall."""
         for looker in lookers:
             greatest, ends = 0, collections.deque()
             for began, ended, paxos, _ in looker.maps:

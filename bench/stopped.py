@@ -1,5 +1,5 @@
-"""What the tools for a stopped store write and read: reports and their comparison, exports, and the two dumps, by the bytes that docs/FORMATS.md
-describes. A map is a dictionary from pairs of a prefix and a key to values, all of them bytes, as store.py reads it."""
+"""Computes what the commands on a stopped store write and read: reports and their comparison, exports, and the two dumps, as docs/FORMATS.md specifies
+them. A map is a dictionary from pairs of a prefix and a key to values, all of them bytes, as store.py reads it."""
 from __future__ import annotations
 
 import hashlib
@@ -14,7 +14,7 @@ PARTS = b'kv', b'logm', b'paxos'
 
 
 class Full(Exception):
-    """The map of an export would have this size."""
+    """The map of an export is too large: it would have this size."""
 
     def __init__(self, would_be: int):
         super().__init__(would_be)
@@ -34,7 +34,7 @@ def export_of(rank: int, monitors: int, kv: dict) -> bytes:
 
 
 def read_export(octets: bytes) -> tuple[int, int, dict]:
-    """The member and its map."""
+    """The rank, the number of monitors and the map of an export. Raises At or Full if it is refused."""
     if len(octets) > MOST_EXPORT:
         raise At(MOST_EXPORT)
     fields = Fields(octets)
@@ -79,7 +79,7 @@ PART = {part: re.compile(part + rb' keys=' + DECIMAL + rb' sha256=([0-9a-f]{64})
 
 
 def line_of(number: int, line: bytes):
-    """The fields of a report's line, or None. Lines 0 and 4 begin the two reports."""
+    """The fields of a report's line, or None if the line is faulty. Lines 0 and 4 begin the two reports."""
     if number % 4 == 0:
         found = FIRST.fullmatch(line)
         fields = found and [int(field) for field in found.groups()]
@@ -89,7 +89,7 @@ def line_of(number: int, line: bytes):
 
 
 def compared(octets: bytes) -> tuple[int | None, bytes]:
-    """The line at which the bytes are refused as two reports; or None, and where the two differ."""
+    """The line at which the bytes are refused as two reports, or None; and the text of their comparison."""
     if len(octets) > MOST_REPORTS:
         return 0, b''
     *lines, rest = octets.split(b'\n')
@@ -119,7 +119,7 @@ def keys_of(kv: dict) -> bytes:
 
 
 def lines_of(version: int, value: bytes) -> bytes:
-    """A version and a line for each change of its value, or `none` if that is no transaction."""
+    """A version, and one line per change of its value, or `none` if the value isn't a transaction."""
     try:
         changes = changes_of(value)
     except At:
@@ -138,7 +138,7 @@ def line_of_change(kind: str, prefix: bytes, *more) -> bytes:
 
 
 def versions_of(kv: dict, first: int, end: int) -> bytes:
-    """The versions from `first` to `end`, and what each changes."""
+    """The versions from `first` to `end`, and the changes of each."""
     last = min(end, number_at(kv, b'paxos', b'last_committed'))
     kept = sorted(int(key) for prefix, key in kv if prefix == b'paxos' and re.fullmatch(DECIMAL, key) and first <= int(key) <= last)
     return b''.join(lines_of(version, kv[b'paxos', b'%d' % version]) for version in kept)

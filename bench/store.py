@@ -4,24 +4,24 @@ from __future__ import annotations
 from fields import MOST_NUMBER, Fields, changes_of
 
 HEADER = 25
-# The keys of the log that a monitor has for itself, beside the version after the last.
+# The keys of the log that each monitor has for itself. Another one is the version after the last.
 OWN = b'last_pn', b'accepted_pn', b'pending_v', b'pending_pn'
 
 
 def payloads(octets: bytes):
-    """What the records of an open file hold."""
+    """The payloads of the records of an open file."""
     fields = Fields(octets, HEADER)
     while fields.unsigned(1) == 1:
         yield fields.counted()
 
 
 def generation(octets: bytes) -> int:
-    """That of an open file, and 0 of a closed one."""
+    """The generation of an open file, and 0 of a closed one."""
     return int.from_bytes(octets[17:HEADER], 'little') if len(octets) > 1 and octets[0] == 1 else 0
 
 
 def play(kv: dict, payload: bytes):
-    """Makes the changes of a transaction, or puts the entries of a checkpoint."""
+    """Applies a payload to a map: makes the changes of a transaction, or puts the entries of a checkpoint."""
     if payload[:1] == b'\x80':
         fields = Fields(payload, 1)
         for _ in range(fields.unsigned(4)):
@@ -59,14 +59,14 @@ def size_of(kv: dict) -> int:
 
 
 def number_at(kv: dict, prefix: bytes, key: bytes) -> int:
-    """The number that is kept at a key, and 0 if none is."""
+    """The number at a key, or 0 if there is none."""
     value = kv.get((prefix, key), b'')
     number = int.from_bytes(value, 'little')
     return number if len(value) == 8 and number <= MOST_NUMBER else 0
 
 
 def shared_map(a: str, b: str) -> dict:
-    """What the files hold that monitors of one version have in common, and that version."""
+    """The part of the files' map that all monitors of one version share, and that version."""
     kv = read_store(a, b)
     own = {*OWN, b'%d' % (number_at(kv, b'paxos', b'last_committed') + 1)}
     return {name: value for name, value in kv.items() if name[0] in (b'kv', b'logm') or name[0] == b'paxos' and name[1] not in own}

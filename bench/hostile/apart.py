@@ -1,4 +1,4 @@
-"""Monitors on this machine behind a network that can be cut and that loses, delays, doubles and reorders datagrams. The scripts beside this file,
+"""Runs monitors on this machine over a network that can be cut, and that loses, delays, doubles and reorders datagrams. The scripts beside this file,
 checks/lossy and checks/stale_leader use it, with the clients and the judge of bench/load.py."""
 from __future__ import annotations
 
@@ -18,8 +18,8 @@ sys.path[:0] = [os.path.join(TOP, 'tools'), os.path.join(TOP, 'bench')]
 from load import Judge, Load  # noqa: E402
 from quorum import MOST_TURNS, Quorum, built_program, free_ports  # noqa: E402
 
-# What a way from one monitor to another does: whether it is cut; the chances that a datagram is lost, doubled or late; and the seconds that each
-# takes, that it takes more at most, by chance, and that a late one takes more.
+# The settings of a *way* from one monitor to another: whether it is cut; the chances that a datagram is lost, doubled or late; the seconds that each
+# datagram takes, the most random seconds in addition, and the seconds that a late one takes in addition.
 SETTINGS = 'cut', 'loss', 'doubled', 'late', 'delay', 'spread', 'late_by'
 MOST_MONITORS = 15
 ROOM = 4 << 20
@@ -34,7 +34,7 @@ def bound(port):
 
 
 class Network:
-    """Takes what monitor i sends to the port that it has for monitor j, and hands it to j from the port that j has for i."""
+    """Takes the datagrams that monitor i sends to its port for monitor j, and sends them to j from the port that j has for i."""
 
     def __init__(self, monitors: int, seed: int):
         self.monitors, self.seed = monitors, seed
@@ -57,7 +57,7 @@ class Network:
         self.each(**dict.fromkeys(SETTINGS, 0.0))
 
     def part(self, group):
-        """Cuts these monitors off from the others, both ways."""
+        """Cuts these monitors off from the others, in both directions."""
         self.each(cut=0.0)
         self.each([(i, j) for i, j in self.ways() if (i in group) != (j in group)], cut=1.0)
 
@@ -98,12 +98,12 @@ class Network:
         try:
             self.sockets[j, i].sendto(datagram, ('127.0.0.1', self.real[j]))
         except OSError:
-            # What can't be handed on is lost.
+            # A datagram that can't be sent on is lost.
             pass
 
 
 class Apart(Quorum):
-    """Monitors that know each other by the ports of a network."""
+    """Monitors that have the ports of a network as addresses of each other."""
 
     def __init__(self, program, folder, monitors=3, rule='classic', seed=0):
         super().__init__(program, folder, monitors, rule)
@@ -129,7 +129,7 @@ class Apart(Quorum):
 
 
 def words(about: str, seconds: float, **more):
-    """The arguments that each script takes: --program, --seconds, --monitors, --seed, and more, each with its default and what it is."""
+    """Parses the arguments that each script takes: --program, --seconds, --monitors, --seed and --only. `more` has others: the default and the help of each."""
     parser = argparse.ArgumentParser(description=about, formatter_class=argparse.RawDescriptionHelpFormatter)
     parser.add_argument('--program', help='the built program (that of this repository, which is proved and built first)')
     parser.add_argument('--seconds', type=float, default=seconds, help=f'how long each network lasts ({seconds:g})')
@@ -151,7 +151,7 @@ def judged(quorum, load, seconds=60):
 
 
 def told(name, figures, wrong):
-    """Prints a line of figures, and a line for each fault. Whether there is one."""
+    """Prints a line of figures, and one line per fault, eight at most. Returns whether there is a fault."""
     shown = ', '.join(f'{what} {value:.2f}' if isinstance(value, float) else f'{what} {value}' for what, value in figures.items())
     print(f'{name}: {shown}', flush=True)
     for line in wrong[:8]:

@@ -1,4 +1,4 @@
-"""Datagrams that no monitor may heed, and a network that sends them beside the real ones. The script `garbled` uses it."""
+"""Makes datagrams that a monitor must ignore, and a network that sends them beside the real ones. The script `garbled` uses it."""
 from __future__ import annotations
 
 import collections
@@ -11,7 +11,7 @@ import time
 from apart import Network
 from wire import FRAME, FRAME_HEADER, MOST_DATAGRAM, REQUEST, framed, request_message, text_field, unframed
 
-# Real datagrams that are kept to be garbled, of each way.
+# The number of real datagrams per way that are kept to be garbled.
 SHOWN = 200
 # The kinds that no message has.
 NO_KINDS = [0, *range(26, 256)]
@@ -20,13 +20,13 @@ HOWS = 'drawn by a stranger', 'drawn by a peer', 'cut by a stranger', 'cut by a 
 
 
 class Garbler:
-    """Makes datagrams of real ones. Those of a peer have a changed byte only if its message or frame has no such byte there: a monitor believes
-    its peers, and takes a message of another content as theirs."""
+    """Makes datagrams from real ones. A datagram of a peer gets a changed byte only if no message or frame has that byte there: a monitor believes its peers,
+    and would take a message with other contents as theirs."""
 
     def __init__(self, seed: int, monitors: int, more=()):
         self.chance, self.monitors = random.Random(seed), monitors
         self.shown = collections.defaultdict(lambda: collections.deque(maxlen=SHOWN))
-        # What strangers cut too: by itself none of it changes anything.
+        # Strangers also send prefixes of these, which change nothing.
         self.asked = [request_message(monitors, 1, b'\1\1k' + text_field('v')), *more]
 
     def show(self, i, j, datagram):
@@ -37,7 +37,7 @@ class Garbler:
         return self.chance.choice(shown) if shown else framed(b'', bytes(8))
 
     def drawn(self, i, j, is_peer):
-        """Drawn bytes. Half of them begin as a frame, a message or a piece does; those of a peer have its quorum's frame or none at all."""
+        """Random bytes. Half of them begin as a frame, a message or a piece does. Those of a peer have its quorum's frame or no frame."""
         chance = self.chance
         length = chance.choice([chance.randrange(4), chance.randrange(40), chance.randrange(600)])
         if chance.random() < 0.002:
@@ -46,7 +46,7 @@ class Garbler:
         if octets and chance.random() < 0.5:
             octets[0] = chance.choice([1, 2, FRAME])
         if is_peer and octets and chance.random() < 0.5:
-            # A drawn message may be a right one, but not of a monitor with this number.
+            # A random message might be well-formed, but no monitor has this number.
             octets[2:3] = bytes([self.monitors])
             return framed(bytes(octets), unframed(self.real(i, j))[0] or bytes(8))
         return bytes(octets)
@@ -58,7 +58,7 @@ class Garbler:
         return datagram[:self.chance.randrange(len(datagram))]
 
     def changed(self, i, j, is_peer):
-        """A real datagram with another byte: for a stranger any one."""
+        """A real datagram with a changed byte. For a stranger that is any byte."""
         octets = bytearray(self.real(i, j))
         at = self.chance.randrange(min(len(octets), FRAME_HEADER + 4) if is_peer else len(octets))
         other = (octets[at] + self.chance.randrange(1, 256)) % 256
@@ -75,8 +75,8 @@ class Garbler:
 
 
 class GarbledNetwork(Network):
-    """A network that also sends garbled datagrams to the monitors, half of them drawn: from addresses of strangers, and from those at which each
-    monitor has its peers."""
+    """A network that also sends noise to the monitors, half of it random bytes: from addresses of strangers, and from the addresses of each monitor's
+    peers."""
 
     def __init__(self, monitors: int, seed: int, count: int, pace: float, more=()):
         super().__init__(monitors, seed)

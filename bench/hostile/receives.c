@@ -1,6 +1,6 @@
-/* Receives that fail: of each group of calls of recvfrom the first ones do. It is loaded before the C library into a monitor.
+/* Makes receives fail: in each group of calls of recvfrom the first ones fail. It is loaded before the C library into a monitor.
  *
- * RECEIVES_FAIL=ERRNO,ROW,EVERY: of each EVERY calls ROW in a row return -1 with this errno, and receive nothing. */
+ * RECEIVES_FAIL=ERRNO,ROW,EVERY: in each group of EVERY calls ROW in a row return -1 with this errno, and receive nothing. */
 #define _GNU_SOURCE
 #include <dlfcn.h>
 #include <errno.h>

@@ -1,6 +1,6 @@
-/* What a monitor reads of its clocks, receives and sends, in order. It is loaded before the C library into a monitor.
+/* Records what a monitor reads from its clocks, receives and sends, in order. It is loaded before the C library into a monitor.
  *
- * RECORDS=FILE: there each has a byte for what it is, a number in eight bytes, the length of its datagram in four, and the datagram.
+ * RECORDS=FILE: a record in the file has a byte for its kind, a number in eight bytes, the length of its datagram in four, and the datagram.
  * M and B are readings of CLOCK_MONOTONIC and CLOCK_BOOTTIME in nanoseconds, R and S a datagram from and to a port, and N a receive of nothing. */
 #define _GNU_SOURCE
 #include <arpa/inet.h>
