@@ -85,8 +85,8 @@ def of_patch(path: str) -> Rule:
 def add_arguments(parser):
     """Adds the arguments that name a changed rule to a tool's parser."""
     changes = parser.add_mutually_exclusive_group()
-    changes.add_argument('--rule', metavar='NAME', help='the changed rule of this name of microscope/break')
-    changes.add_argument('--patch', metavar='FILE', help='the changed rule of a file')
+    changes.add_argument('--rule', metavar='NAME', help='the changed rule of microscope/break with this name')
+    changes.add_argument('--patch', metavar='FILE', help='the changed rule in this file')
 
 
 def asked_for(asked) -> Rule | None:
