@@ -1,6 +1,8 @@
+#!/usr/bin/env python3
 """Plays schedules through the definitions, and compares their traces with those of a program. README.md beside it says how.
 
 usage: run.py parse
+       run.py replay < SCHEDULE > TRACE
        run.py calm MONITORS..
        run.py PROGRAM file SCHEDULE
        run.py PROGRAM PROFILE FIRST_SEED COUNT EVENTS
@@ -439,6 +441,8 @@ def lines_of(line):
 SCENES = 'quorum_model.specs.Scenes'
 FILES = 'quorum_model.specs.Files'
 KINDS = collections.Counter()
+# How a replay ends, by the program's status: with the schedule, or for this reason.
+STATUSES = {0: None, 10: 'Spent', 13: 'Full'}
 
 
 class Play:
@@ -713,8 +717,7 @@ def compared(program, schedule, play, name):
     """Whether a played schedule's trace is the program's, and its last world is safe."""
     p = subprocess.run([program, 'replay'], input=schedule.encode(), stdout=subprocess.PIPE, stderr=subprocess.PIPE)
     got, want, stop = play.ended(), p.stdout.decode(), play.stop
-    statuses = {0: None, 10: 'Spent', 13: 'Full'}
-    if got == want and statuses.get(p.returncode, '') == (stop.n if stop else None):
+    if got == want and STATUSES.get(p.returncode, '') == (stop.n if stop else None):
         bad = unsafe(play.scene.d['world'], play.n, play.writes)
         antt.forget()
         if bad:
@@ -795,10 +798,19 @@ def compare(program, profile, words):
     return all_compared(program, profile, first, count, generated)
 
 
+def replay():
+    """Writes the trace of the schedule on standard input. The status is that of the program."""
+    play = played(sys.stdin.read())
+    sys.stdout.write(play.ended())
+    return next(status for status, name in STATUSES.items() if name == (play.stop.n if play.stop else None))
+
+
 def main(words):
     if words[:1] == ['parse']:
         parse()
         return 0
+    if words == ['replay']:
+        return replay()
     if words[:1] == ['calm']:
         return 0 if all([calm(n, orders) for n in map(int, words[1:]) for orders in ([], calm_orders(n))]) else 1
     if len(words) != (3 if words[1:2] == ['file'] else 5):
