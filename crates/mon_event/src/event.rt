@@ -18,7 +18,7 @@ use mon_bytes::{Items, OutOfMemory};
 use mon_kv::Kv;
 use mon_msg::plan::Sent;
 use mon_msg::{Arming, Next, Phase, Plan, Reply, Session};
-use mon_plan::Stored;
+use mon_plan::epoch_after;
 use mon_tx::Transaction;
 use mon_types::{Epoch, Rank, RankSet};
 use std::alloc::Global;
@@ -51,8 +51,7 @@ impl Event {
     pub fn epoch(&self, alloc: Global, kv: &Kv) -> Result<Epoch, OutOfMemory>
         ensures { IfOk result (λ e. e ≡ epoch_of (readings_of (apply self.now.tx kv.now))) }
     {
-        let stored = Stored::after(alloc, kv, &self.tx)?;
-        Ok(stored.epoch())
+        epoch_after(alloc, kv, &self.tx)
     }
 
     /// Writes a transaction after what is written so far. After an `Err` a prefix of it may be there.

@@ -1,3 +1,4 @@
+pub mod EpochLaws
 pub mod Fitting
 pub mod Kept
 pub mod Learning

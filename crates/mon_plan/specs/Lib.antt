@@ -1,3 +1,4 @@
+pub mod Epochs
 pub mod Inputs
 pub mod Joining
 pub mod Learned

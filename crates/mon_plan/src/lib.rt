@@ -1,6 +1,7 @@
 //! What the roles of a monitor share: what they read of its store, what they write, and the parts of their plans.
 #![tactic(auto)]
 
+mod epochs;
 mod here;
 mod join;
 mod plans;
@@ -9,6 +10,7 @@ mod sends;
 mod stored;
 mod writers;
 
+pub use epochs::epoch_after;
 pub use here::Here;
 pub use join::joined;
 pub use plans::{armed, disarmed, message, planned, stay};

@@ -36,7 +36,7 @@ use mon_msg::plan::Sent;
 use mon_msg::{
     Body, Leader, LeaderStage, Me, Message, Next, Origin, Phase, Plan, Reply, RoleStop, Timer, View,
 };
-use mon_plan::{Here, Stored, answer, learn, planned, stay};
+use mon_plan::{Here, Stored, answer, epoch_after, learn, planned, stay};
 use mon_tx::Transaction;
 use mon_types::{Epoch, Moment, Pn, RankSet, Version, Which};
 use std::alloc::Global;
@@ -258,7 +258,7 @@ fn answers(
         sent ≡ answers_to here.now.me.now (epoch_of (readings_of (apply tx.now here.now.kv.now))) (Some origin)
         (Reply.Done version)) }
 {
-    let epoch = Stored::after(here.alloc, here.kv, tx)?.epoch();
+    let epoch = epoch_after(here.alloc, here.kv, tx)?;
     let mut out = Items::new(here.alloc);
     out.push(answer(here.me, epoch, origin, Reply::Done { version }))?;
     Ok(out)

@@ -1,7 +1,6 @@
 pub mod ChunkLaws
 pub mod CookieLaws
 pub mod EnterLaws
-pub mod EpochLaws
 pub mod HearLaws
 pub mod Planned
 pub mod ReplayLaws

@@ -1,4 +1,3 @@
 pub mod Copied
-pub mod Epochs
 pub mod Inputs
 pub mod Rows

@@ -14,11 +14,12 @@ ghost use Rattle.sync_requester.specs.Copied.{copied, Copies, Takes};
 ghost use Rattle.sync_requester.specs.Rows.{ByHeard};
 
 use crate::cookies::{ask_chunk, is_own_cookie};
-use crate::epochs::epoch_after;
 use crate::places::{is_same_place, next_key_place};
 use mon_bytes::{Entry, Items, OutOfMemory};
 use mon_msg::{Cookie, Next, Place, Plan, Requester, RoleStop, SyncStage, Timer};
-use mon_plan::{Here, armed, disarmed, learn, planned, put_copies, put_records, stay};
+use mon_plan::{
+    Here, armed, disarmed, epoch_after, learn, planned, put_copies, put_records, stay,
+};
 use mon_tx::Transaction;
 use mon_types::{Version, Which};
 use std::alloc::Global;

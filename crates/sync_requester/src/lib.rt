@@ -5,7 +5,6 @@
 mod chunks;
 mod cookies;
 mod entering;
-mod epochs;
 mod inputs;
 mod places;
 mod replay;

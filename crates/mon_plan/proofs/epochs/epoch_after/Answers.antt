@@ -2,9 +2,9 @@ use Rattle.std.proofs.Common.{sym, ap, ◌∙◌}
 use Rattle.std.specs.List.{list_any}
 use Rattle.mon_msg.specs.Protocol.Readings.{epoch_of, readings_of}
 use Rattle.mon_tx.specs.Map.{Store}
-use Rattle.sync_requester.specs.Epochs.{speaks_of_monitor}
-use Rattle.sync_requester.proofs.EpochLaws.{epoch-kept}
-use Rattle.sync_requester.proofs.epochs.epoch_after.Goals as goal
+use Rattle.mon_plan.specs.Epochs.{speaks_of_monitor}
+use Rattle.mon_plan.proofs.EpochLaws.{epoch-kept}
+use Rattle.mon_plan.proofs.epochs.epoch_after.Goals as goal
 
 pub returns : goal.returns
 returns c =

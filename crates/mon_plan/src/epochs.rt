@@ -4,11 +4,11 @@ ghost use Rattle.std.specs.Prelude.{◌≡◌, IfOk};
 ghost use Rattle.std.specs.List.{list_any};
 ghost use Rattle.mon_tx.specs.Map.{apply};
 ghost use Rattle.mon_msg.specs.Protocol.Readings.{readings_of, epoch_of};
-ghost use Rattle.sync_requester.specs.Epochs.{speaks_of_monitor};
+ghost use Rattle.mon_plan.specs.Epochs.{speaks_of_monitor};
 
+use crate::stored::Stored;
 use mon_bytes::OutOfMemory;
 use mon_kv::Kv;
-use mon_plan::Stored;
 use mon_tx::{Area, Op, Transaction};
 use mon_types::Epoch;
 use std::alloc::Global;
@@ -33,7 +33,7 @@ fn speak_of_monitor(ops: &[Op]) -> bool
 }
 
 /// The epoch that a store has after changes. It takes memory only if one of the changes is of the epoch's area.
-pub(crate) fn epoch_after(alloc: Global, kv: &Kv, tx: &Transaction) -> Result<Epoch, OutOfMemory>
+pub fn epoch_after(alloc: Global, kv: &Kv, tx: &Transaction) -> Result<Epoch, OutOfMemory>
     ensures { IfOk result (λ epoch. epoch ≡ epoch_of (readings_of (apply tx.now kv.now))) }
 {
     if speak_of_monitor(tx.ops()) {

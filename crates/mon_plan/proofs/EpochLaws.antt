@@ -15,7 +15,7 @@ use Rattle.mon_tx.specs.declared.key.Area.TheVariants as area
 use Rattle.mon_tx.specs.declared.key.Key.TheVariants as key
 use Rattle.mon_tx.specs.declared.op.Op.TheVariants.{Put, Erase, ErasePrefix, EraseRange}
 use Rattle.mon_tx.specs.declared.op.Op.{Op}
-use Rattle.sync_requester.specs.Epochs.{speaks_of_monitor}
+use Rattle.mon_plan.specs.Epochs.{speaks_of_monitor}
 
 abbrev own : List ℕ
 own = area_text area.Monitor
