@@ -1,5 +1,5 @@
 -- Plans that write nothing.
-use Rattle.std.proofs.Common.{◌≡◌, ℕ, List, [], ◌∷◌, Result, Ok, ap}
+use Rattle.std.proofs.Common.{◌≡◌, ℕ, List, [], ◌∷◌, Result, Ok, refl}
 use Rattle.mon_msg.specs.Protocol.Course.{Course, ◌▸◌, say, clients_are}
 use Rattle.mon_msg.specs.declared.clients.Clients.{Clients}
 use Rattle.mon_msg.specs.declared.plan.Arming.{Arming}
@@ -10,7 +10,7 @@ use Rattle.mon_msg.specs.declared.plan.Sent.{Sent}
 use Rattle.mon_msg.specs.declared.view.Me.{Me}
 use Rattle.mon_types.specs.declared.names.Which.{Which}
 use Rattle.mon_plan.specs.Plans.{done, act, PlansRow}
-use Rattle.mon_plan.proofs.Planning.{does}
+use Rattle.mon_plan.proofs.Planning.{does_as}
 
 abbrev pub plan_of : List Sent → List Arming → Clients → Next → Plan Clients
 plan_of out timers s n = record { tx = []; out = out; timers = timers; state = s; next = n }
@@ -20,9 +20,7 @@ module _ (me : Me) (now : ℕ) (B : Course → Type 0) (wanted : Course → Resu
       → ((x : Course) → B x → wanted x ≡ act me now n (done clients_are [] (plan_of out timers s n) x))
       → (p : Plan Clients) → p ≡ plan_of out timers s n → PlansRow me now clients_are B wanted (Ok p)
   plans out timers s n row p e =
-      does me now clients_are B (λ x. x) wanted [] tt out timers s n row p
-      (ap (λ (q : Plan Clients). q.tx) e) (ap (λ (q : Plan Clients). q.out) e) (ap (λ (q : Plan Clients). q.timers) e)
-      (ap (λ (q : Plan Clients). q.state) e) (ap (λ (q : Plan Clients). q.next) e)
+      does_as me now clients_are B (λ x. x) wanted [] tt (plan_of out timers s n) refl row p e
 
   -- someone is answered
   pub answers : (m : Sent) (s : Clients) → ((x : Course) → B x → wanted x ≡ Ok (x ▸ clients_are s ▸ say (m ∷ [])))

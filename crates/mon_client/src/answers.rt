@@ -6,10 +6,10 @@ ghost use Rattle.mon_msg.specs.declared.plan.Next.TheVariants as next;
 
 use map_kv::MOST_KV_VALUE;
 use map_log::MOST_TEXT;
-use mon_bytes::{Command, Items, OutOfMemory};
+use mon_bytes::{Command, OutOfMemory};
 use mon_msg::plan::Sent;
-use mon_msg::{Clients, Next, Plan, Reply};
-use mon_tx::Transaction;
+use mon_msg::{Clients, Plan, Reply};
+use mon_plan::{one, sending};
 use std::alloc::Global;
 
 /// The plan that sends one message or reply, and does nothing else.
@@ -21,15 +21,8 @@ pub(crate) fn answered(
     ensures { IfOk result
         (λ plan. plan ≡ record { tx = []; out = sent ∷ []; timers = []; state = clients; next = next.Stay }) }
 {
-    let mut out = Items::new(alloc);
-    out.push(sent)?;
-    Ok(Plan {
-        tx: Transaction::new(alloc),
-        out,
-        timers: Items::new(alloc),
-        state: clients,
-        next: Next::Stay,
-    })
+    let out = one(alloc, sent)?;
+    Ok(sending(alloc, out, clients))
 }
 
 /// How many bytes a command's value or text may have.

@@ -13,9 +13,8 @@ use crate::commands::at_leader;
 use crate::here::Here;
 use mon_bytes::{Command, Items, OutOfMemory};
 use mon_msg::plan::Sent;
-use mon_msg::{Asked, Clients, Next, Origin, Plan, Reply, RoleStop};
-use mon_plan::stay;
-use mon_tx::Transaction;
+use mon_msg::{Asked, Clients, Origin, Plan, Reply, RoleStop};
+use mon_plan::{sending, stay};
 use mon_types::{Epoch, Rank};
 use std::alloc::Global;
 
@@ -132,11 +131,5 @@ pub(crate) fn route(
     let out = replies(here.alloc, sessions, seq, reply)?;
     let kept = others(here.alloc, sessions, seq)?;
     clients.sessions = kept;
-    Ok(Plan {
-        tx: Transaction::new(here.alloc),
-        out,
-        timers: Items::new(here.alloc),
-        state: clients,
-        next: Next::Stay,
-    })
+    Ok(sending(here.alloc, out, clients))
 }

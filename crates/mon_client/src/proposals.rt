@@ -13,9 +13,9 @@ ghost use Rattle.mon_plan.specs.Leaves.{Leaves};
 ghost use Rattle.mon_client.specs.Rows.{ByRowOnce};
 
 use crate::here::Here;
-use mon_bytes::{Command, CommandRefused, Items, OutOfMemory};
+use mon_bytes::{Command, CommandRefused, OutOfMemory};
 use mon_msg::{Clients, Me, Next, Origin, Plan, Reply, RoleStop, Timer};
-use mon_plan::{armed, planned};
+use mon_plan::{armed, one, planned};
 use mon_tx::Transaction;
 use mon_types::{GREATEST, Rank, Which};
 use svc_core::{last_version, service_of, value};
@@ -59,10 +59,8 @@ fn refuse(
       next = next.Stay;
     }) }
 {
-    let mut timers = Items::new(here.alloc);
-    timers.push(armed(here.time, Timer::Propose))?;
-    let mut out = Items::new(here.alloc);
-    out.push(here.answer(origin, reply))?;
+    let timers = one(here.alloc, armed(here.time, Timer::Propose))?;
+    let out = one(here.alloc, here.answer(origin, reply))?;
     Ok(Plan {
         tx: Transaction::new(here.alloc),
         out,

@@ -1,5 +1,5 @@
 -- What is known of an event under way, by what an elector sees and remembers.
-use Rattle.std.proofs.Common.{◌≡◌, ℕ, Bool, List, [], Result, Ok, refl, sym, ap, subst}
+use Rattle.std.proofs.Common.{◌≡◌, ℕ, Bool, List, [], Result, Ok, refl, sym, subst}
 use Rattle.std.specs.List.{AllByRecursion}
 use Rattle.mon_msg.specs.Protocol.Changes.{Change, spelled}
 use Rattle.mon_msg.specs.Protocol.Course.{Course, elector_is}
@@ -15,7 +15,7 @@ use Rattle.mon_msg.specs.declared.plan.Sent.{Sent}
 use Rattle.mon_plan.specs.Plans.{act, done}
 use Rattle.mon_plan.specs.Seen.{IsMet}
 use Rattle.mon_plan.proofs.Kept.{kept-elector}
-use Rattle.mon_plan.proofs.Planning.{does, only_acts}
+use Rattle.mon_plan.proofs.Planning.{does_as, only_acts}
 use Rattle.mon_types.specs.declared.names.Which.{Which}
 use Rattle.mon_wire.specs.declared.phase.Phase.{Phase}
 use Rattle.mon_elector.specs.Rows.{ByRow}
@@ -65,5 +65,4 @@ module _ (here : Here) (row : Course → Result Course Which) (p : Plan Elector)
   pub plans : (cs : List Change) → AllByRecursion Fits cs → (ms : List Sent) (ts : List Arming) (t : Elector) (n : Next)
       → p ≡ plan_of cs ms ts t n → ((x : Course) → Met here x → row x ≡ act here.me.now here.time n (planned cs ms ts t n x)) → ByRow here row (Ok p)
   plans cs fit ms ts t n e is =
-      does here.me.now here.time elector_is (Met here) (λ x. x) row cs fit ms ts t n is p
-      (ap (λ (p : Plan Elector). p.tx) e) (ap (λ (p : Plan Elector). p.out) e) (ap (λ (p : Plan Elector). p.timers) e) (ap (λ (p : Plan Elector). p.state) e) (ap (λ (p : Plan Elector). p.next) e)
+      does_as here.me.now here.time elector_is (Met here) (λ x. x) row cs fit (plan_of cs ms ts t n) refl is p e

@@ -10,9 +10,9 @@ use crate::here::Here;
 use crate::seen::table_told;
 use crate::steps::{tell_others, tell_until};
 use election_rules::Scores;
-use mon_bytes::{Items, OutOfMemory};
-use mon_msg::{Body, Elector, Next, Plan, RoleStop, ScoreTable, Timer};
-use mon_plan::{armed, message, others, stay};
+use mon_bytes::OutOfMemory;
+use mon_msg::{Body, Elector, Plan, RoleStop, ScoreTable, Timer};
+use mon_plan::{armed, message, one, others, sending, stay};
 use mon_tx::Transaction;
 use mon_types::{Rank, RankSet};
 
@@ -43,16 +43,10 @@ pub(crate) fn hear_ping(
     };
     let heard = with_heard(here.state, from, table.scores());
     let table = table_told(here.alloc, &here.me.rule, &heard.scores)?;
-    let mut out = Items::new(here.alloc);
     let body = Body::PingReply { table };
-    out.push(message(here.me, here.stored.epoch(), body, from))?;
-    Ok(Plan {
-        tx: Transaction::new(here.alloc),
-        out,
-        timers: Items::new(here.alloc),
-        state: heard,
-        next: Next::Stay,
-    })
+    let sent = message(here.me, here.stored.epoch(), body, from);
+    let out = one(here.alloc, sent)?;
+    Ok(sending(here.alloc, out, heard))
 }
 
 /// Another monitor answers a ping. A reply without a table is dropped.

@@ -17,7 +17,7 @@ ghost use Rattle.mon_elector.specs.Rows.{Wins};
 use mon_bytes::{Items, OutOfMemory};
 use mon_msg::plan::Sent;
 use mon_msg::{Arming, Body, Elector, Me, Next, Plan, RoleStop, ScoreTable};
-use mon_plan::{Stored, message, others, put_epoch, send_each};
+use mon_plan::{Stored, message, one, others, put_epoch, send_each, sending, writing};
 use mon_tx::Transaction;
 use mon_types::{Epoch, Rank, RankSet, Which};
 use std::alloc::Global;
@@ -78,13 +78,8 @@ pub(crate) fn enter_epoch(
         (λ p. p ≡ record { tx = spelled (ToEpoch epoch ∷ []); out = []; timers = []; state = state; next = next }) }
     ensures fit { Fits (ToEpoch epoch) }
 {
-    Ok(Plan {
-        tx: to_epoch(alloc, epoch)?,
-        out: Items::new(alloc),
-        timers: Items::new(alloc),
-        state,
-        next,
-    })
+    let tx = to_epoch(alloc, epoch)?;
+    Ok(writing(alloc, tx, state, next))
 }
 
 /// The plan that puts an epoch, sets a timer, and then names an act.
@@ -106,8 +101,7 @@ pub(crate) fn enter_epoch_until(
     ensures fit { Fits (ToEpoch epoch) }
 {
     let tx = to_epoch(alloc, epoch)?;
-    let mut timers = Items::new(alloc);
-    timers.push(arming)?;
+    let timers = one(alloc, arming)?;
     Ok(Plan {
         tx,
         out: Items::new(alloc),
@@ -162,8 +156,7 @@ pub(crate) fn tell_until(
       next = next.Stay;
     }) }
 {
-    let mut timers = Items::new(alloc);
-    timers.push(arming)?;
+    let timers = one(alloc, arming)?;
     Ok(Plan {
         tx,
         out,
@@ -189,15 +182,8 @@ pub(crate) fn defer(
       next = next.Stay;
     }) }
 {
-    let mut out = Items::new(alloc);
-    out.push(message(me, epoch, Body::Ack, from))?;
-    Ok(Plan {
-        tx: Transaction::new(alloc),
-        out,
-        timers: Items::new(alloc),
-        state: deferring(state, from),
-        next: Next::Stay,
-    })
+    let out = one(alloc, message(me, epoch, Body::Ack, from))?;
+    Ok(sending(alloc, out, deferring(state, from)))
 }
 
 /// The monitor joins the election of a later epoch, and defers to the candidate whose message it heard.
@@ -219,10 +205,8 @@ pub(crate) fn join_and_defer(
     ensures fit { Fits (ToEpoch epoch) }
 {
     let tx = to_epoch(alloc, epoch)?;
-    let mut out = Items::new(alloc);
-    out.push(message(me, epoch, Body::Ack, from))?;
-    let mut timers = Items::new(alloc);
-    timers.push(arming)?;
+    let out = one(alloc, message(me, epoch, Body::Ack, from))?;
+    let timers = one(alloc, arming)?;
     Ok(Plan {
         tx,
         out,

@@ -30,6 +30,17 @@ module _ {S : Type 0} (me : Me) (now : ℕ) (is : S → Course → Course) (Befo
     row = λ x b. row x b ∙ sym (λ i. act me now (next i) (done is cs (record { tx = p.tx; out = out i; timers = timers i; state = state i; next = next i }) (start x)));
   }
 
+  -- a plan that is this one
+  pub does_as : (cs : List Change) → AllByRecursion Fits cs → (q : Plan S) → q.tx ≡ spelled cs
+      → ((x : Course) → Before x → wanted x ≡ act me now q.next (done is cs q (start x)))
+      → (p : Plan S) → p ≡ q → Does me now is Before start wanted p
+  does_as cs fit q tx row p e = record {
+    changes = cs;
+    fit = fit;
+    spelled = ap (λ (p : Plan S). p.tx) e ∙ tx;
+    row = λ x b. row x b ∙ sym (ap (λ (p : Plan S). act me now p.next (done is cs p (start x))) e);
+  }
+
   -- a plan that only changes the store and names an act, if what is remembered stays
   pub only_acts : (cs : List Change) → AllByRecursion Fits cs → (s : S) → ((x : Course) → Before x → is s (changed cs (start x)) ≡ changed cs (start x)) → (n : Next) → ((x : Course) → stands n x ≡ x)
       → ((x : Course) → Before x → wanted x ≡ act me now n (changed cs (start x)))

@@ -13,7 +13,7 @@ mod writers;
 pub use epochs::epoch_after;
 pub use here::Here;
 pub use join::joined;
-pub use plans::{armed, disarmed, message, planned, stay};
+pub use plans::{armed, disarmed, message, one, planned, sending, stay, writing};
 pub use records::{MOST_PROPOSED, Run};
 pub use sends::{answer, members, others, send_each};
 pub use stored::Stored;

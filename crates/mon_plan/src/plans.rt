@@ -1,10 +1,11 @@
 //! Plans, part by part.
 
-ghost use Rattle.std.specs.Prelude.{◌≡◌, ◌+◌, ◌≤◌, ◌^◌, [], min};
+ghost use Rattle.std.specs.Prelude.{◌≡◌, ◌+◌, ◌≤◌, ◌^◌, [], ◌∷◌, min, IfOk};
 ghost use Rattle.mon_msg.specs.Protocol.Sending.{message_to};
 ghost use Rattle.mon_msg.specs.Protocol.Timers.{length_of};
 ghost use Rattle.mon_msg.specs.declared.plan.Next.TheVariants as next;
 
+use mon_bytes::OutOfMemory;
 use mon_msg::plan::Sent;
 use mon_msg::{Arming, Body, Items, Me, Message, Next, Plan, Timer};
 use mon_tx::Transaction;
@@ -29,6 +30,41 @@ pub fn stay<S: Drop>(alloc: Global, state: S) -> Plan<S>
     ensures { result ≡ record { tx = []; out = []; timers = []; state = state; next = next.Stay } }
 {
     planned(alloc, state, Next::Stay)
+}
+
+/// A plan that only sends, and names no act. It takes no memory.
+pub fn sending<S: Drop>(alloc: Global, out: Items<Sent>, state: S) -> Plan<S>
+    ensures { result ≡ record { tx = []; out = out; timers = []; state = state; next = next.Stay } }
+{
+    Plan {
+        tx: Transaction::new(alloc),
+        out,
+        timers: Items::new(alloc),
+        state,
+        next: Next::Stay,
+    }
+}
+
+/// A plan that only writes, and then names an act. It takes no memory.
+pub fn writing<S: Drop>(alloc: Global, tx: Transaction, state: S, next: Next) -> Plan<S>
+    ensures { result ≡ record { tx = tx; out = []; timers = []; state = state; next = next } }
+{
+    Plan {
+        tx,
+        out: Items::new(alloc),
+        timers: Items::new(alloc),
+        state,
+        next,
+    }
+}
+
+/// The list of one item, as a part of a plan.
+pub fn one<T: Drop>(alloc: Global, item: T) -> Result<Items<T>, OutOfMemory>
+    ensures { IfOk result (λ items. items ≡ item ∷ []) }
+{
+    let mut items = Items::new(alloc);
+    items.push(item)?;
+    Ok(items)
 }
 
 /// A message of this monitor in an epoch.

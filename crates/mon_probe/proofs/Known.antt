@@ -1,5 +1,5 @@
 -- What is known of an event under way, by what a prober sees and remembers.
-use Rattle.std.proofs.Common.{◌≡◌, ℕ, Bool, List, [], Result, Ok, sym, ap, subst}
+use Rattle.std.proofs.Common.{◌≡◌, ℕ, Bool, List, [], Result, Ok, refl, sym, subst}
 use Rattle.std.specs.List.{AllByRecursion}
 use Rattle.mon_msg.specs.Protocol.Changes.{Change, spelled}
 use Rattle.mon_msg.specs.Protocol.Course.{Course, prober_is}
@@ -15,7 +15,7 @@ use Rattle.mon_msg.specs.declared.view.View.{View}
 use Rattle.mon_plan.specs.Plans.{act, done, stands}
 use Rattle.mon_plan.specs.Seen.{IsMet}
 use Rattle.mon_plan.proofs.Kept.{kept-prober}
-use Rattle.mon_plan.proofs.Planning.{does, only_acts}
+use Rattle.mon_plan.proofs.Planning.{does_as, only_acts}
 use Rattle.mon_types.specs.declared.names.Which.{Which}
 use Rattle.mon_wire.specs.declared.phase.Phase.{Phase}
 use Rattle.mon_probe.specs.Rows.{PlansProbe}
@@ -55,5 +55,4 @@ module _ (me : Me) (now : ℕ) (w : Readings) (v : View) (s : Prober) (row : Cou
   pub plans : (cs : List Change) → AllByRecursion Fits cs → (ms : List Sent) (ts : List Arming) (t : Prober) (n : Next)
       → p ≡ plan_of cs ms ts t n → ((x : Course) → Met me now w v s x → row x ≡ act me now n (planned cs ms ts t n x)) → PlansProbe me now w v s row (Ok p)
   plans cs fit ms ts t n e is =
-      does me now prober_is (Met me now w v s) (λ x. x) row cs fit ms ts t n is p
-      (ap (λ (p : Plan Prober). p.tx) e) (ap (λ (p : Plan Prober). p.out) e) (ap (λ (p : Plan Prober). p.timers) e) (ap (λ (p : Plan Prober). p.state) e) (ap (λ (p : Plan Prober). p.next) e)
+      does_as me now prober_is (Met me now w v s) (λ x. x) row cs fit (plan_of cs ms ts t n) refl is p e

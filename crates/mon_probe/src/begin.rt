@@ -20,7 +20,7 @@ use mon_bytes::{Items, OutOfMemory};
 use mon_kv::Kv;
 use mon_msg::plan::Sent;
 use mon_msg::{Body, Me, Next, Plan, Prober, RoleStop, Timer};
-use mon_plan::{armed, others, put_epoch, send_each, stay};
+use mon_plan::{armed, one, others, put_epoch, send_each, stay, writing};
 use mon_tx::Transaction;
 use mon_types::{Epoch, Moment, RankSet, Which};
 use std::alloc::Global;
@@ -55,8 +55,7 @@ fn ask(alloc: Global, me: &Me, epoch: Epoch, now: Moment) -> Result<Plan<Prober>
     }) }
 {
     let out = probes(alloc, me, epoch)?;
-    let mut timers = Items::new(alloc);
-    timers.push(armed(now, Timer::Probe))?;
+    let timers = one(alloc, armed(now, Timer::Probe))?;
     Ok(Plan {
         tx: Transaction::new(alloc),
         out,
@@ -79,15 +78,8 @@ fn lead(alloc: Global, me: &Me, epoch: Epoch) -> Result<Plan<Prober>, OutOfMemor
 {
     let mut tx = Transaction::new(alloc);
     put_epoch(&mut tx, epoch)?;
-    Ok(Plan {
-        tx,
-        out: Items::new(alloc),
-        timers: Items::new(alloc),
-        state: alone(me),
-        next: Next::Win {
-            quorum: RankSet::empty().with(me.member.rank),
-        },
-    })
+    let quorum = RankSet::empty().with(me.member.rank);
+    Ok(writing(alloc, tx, alone(me), Next::Win { quorum }))
 }
 
 /// What a prober does if its monitor bootstraps. `epoch` is the epoch after the earlier acts of the event, and `kv` is

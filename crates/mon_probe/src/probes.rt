@@ -7,10 +7,8 @@ ghost use Rattle.mon_probe.specs.Rows.{ByRow};
 
 use crate::here::Here;
 use crate::seen::{is_behind, is_cut_off, is_probing, is_quorum, reaches_floor};
-use mon_bytes::Items;
 use mon_msg::{Body, Next, Plan, Prober, RoleStop};
-use mon_plan::{message, planned, stay};
-use mon_tx::Transaction;
+use mon_plan::{message, one, planned, sending, stay};
 use mon_types::{Rank, RankSet, Version};
 
 /// Another monitor asks which versions this one keeps, and in which quorum it is. A marked monitor doesn't answer.
@@ -26,15 +24,9 @@ pub(crate) fn hear_probe(here: &Here<'_>, from: Rank) -> Result<Plan<Prober>, Ro
         first: here.stored.first(),
         last: here.stored.last(),
     };
-    let mut out = Items::new(here.alloc);
-    out.push(message(here.me, here.stored.epoch(), body, from))?;
-    Ok(Plan {
-        tx: Transaction::new(here.alloc),
-        out,
-        timers: Items::new(here.alloc),
-        state: *here.state,
-        next: Next::Stay,
-    })
+    let sent = message(here.me, here.stored.epoch(), body, from);
+    let out = one(here.alloc, sent)?;
+    Ok(sending(here.alloc, out, *here.state))
 }
 
 /// Another monitor reports which versions it keeps, and in which quorum it is. A monitor that probes then copies its

@@ -15,12 +15,11 @@ use crate::catch_up::send_missed;
 use crate::draft::{Draft, tell};
 use crate::seen::Act;
 use crate::sets::{is_alone, only};
-use crate::timers::one_timer;
 use mon_bytes::{Items, OutOfMemory};
 use mon_lease::Lease;
 use mon_msg::plan::Sent;
 use mon_msg::{Body, Found, Leader, LeaderStage, Me, Next, Plan, RoleStop, Timer};
-use mon_plan::{Stored, armed, put_numbers};
+use mon_plan::{Stored, armed, one, put_numbers};
 use mon_tx::Transaction;
 use mon_types::{Moment, Pn, RankSet, Version, Which, next_pn};
 use std::alloc::Global;
@@ -188,7 +187,7 @@ fn await_answers(alloc: Global, draft: Draft, now: Moment) -> Result<Plan<Leader
       next = Next.Stay;
     }) }
 {
-    let timers = one_timer(alloc, armed(now, Timer::Collect))?;
+    let timers = one(alloc, armed(now, Timer::Collect))?;
     let Draft { tx, out, state } = draft;
     Ok(Plan {
         tx,

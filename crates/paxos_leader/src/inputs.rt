@@ -36,7 +36,7 @@ use mon_msg::plan::Sent;
 use mon_msg::{
     Body, Leader, LeaderStage, Me, Message, Next, Origin, Phase, Plan, Reply, RoleStop, Timer, View,
 };
-use mon_plan::{Here, Stored, answer, epoch_after, learn, planned, stay};
+use mon_plan::{Here, Stored, answer, epoch_after, learn, one, planned, stay};
 use mon_tx::Transaction;
 use mon_types::{Epoch, Moment, Pn, RankSet, Version, Which};
 use std::alloc::Global;
@@ -259,9 +259,8 @@ fn answers(
         (Reply.Done version)) }
 {
     let epoch = epoch_after(here.alloc, here.kv, tx)?;
-    let mut out = Items::new(here.alloc);
-    out.push(answer(here.me, epoch, origin, Reply::Done { version }))?;
-    Ok(out)
+    let done = answer(here.me, epoch, origin, Reply::Done { version });
+    one(here.alloc, done)
 }
 
 /// A leader that is alone in its quorum commits a value at once, and answers its origin.

@@ -1,6 +1,6 @@
 //! Timers of a leader.
 
-ghost use Rattle.std.specs.Prelude.{◌≡◌, [], ◌∷◌, IfOk};
+ghost use Rattle.std.specs.Prelude.{◌≡◌, IfOk};
 ghost use Rattle.paxos_leader.specs.Drafts.{lease_timers as timers_of_leases, value_timers as timers_of_values};
 
 use mon_bytes::{Items, OutOfMemory};
@@ -8,15 +8,6 @@ use mon_msg::{Arming, Timer};
 use mon_plan::{armed, disarmed};
 use mon_types::Moment;
 use std::alloc::Global;
-
-/// The list that arms or disarms one timer.
-pub(crate) fn one_timer(alloc: Global, timer: Arming) -> Result<Items<Arming>, OutOfMemory>
-    ensures { IfOk result (λ timers. timers ≡ timer ∷ []) }
-{
-    let mut timers = Items::new(alloc);
-    timers.push(timer)?;
-    Ok(timers)
-}
 
 /// The timers of a leader that has given a lease. If it is alone in its quorum, it awaits no acknowledgements. When the
 /// plan is carried out, `Propose` is armed only if a command waits, and a `LeaseAck` that is armed keeps its end.

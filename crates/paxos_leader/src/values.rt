@@ -21,11 +21,10 @@ use crate::acts::be_active;
 use crate::draft::{Draft, tell};
 use crate::seen::Act;
 use crate::sets::are_within;
-use crate::timers::one_timer;
 use mon_bytes::{Items, OutOfMemory};
 use mon_msg::plan::Sent;
 use mon_msg::{Body, Leader, Me, Next, Origin, Plan, Reply, RoleStop, Timer};
-use mon_plan::{Here, Stored, answer, disarmed, learn, stay};
+use mon_plan::{Here, Stored, answer, disarmed, learn, one, stay};
 use mon_tx::Transaction;
 use mon_types::{Epoch, Pn, Rank, RankSet, Version, Which};
 use std::alloc::Global;
@@ -127,15 +126,6 @@ fn standing(here: &Here<'_>, tx: &Transaction) -> Result<(Epoch, Version), OutOf
     Ok((stored.epoch(), stored.last()))
 }
 
-/// The list of one value.
-fn one_value(alloc: Global, value: Transaction) -> Result<Items<Transaction>, OutOfMemory>
-    ensures { IfOk result (λ values. values ≡ value ∷ []) }
-{
-    let mut values = Items::new(alloc);
-    values.push(value)?;
-    Ok(values)
-}
-
 /// Commits a value that all of the quorum accepted. The leader then has no value. `accepted` stays as it is until the
 /// next value is begun.
 fn commit(here: &Here<'_>, state: Leader, value: Transaction) -> Result<Plan<Leader>, RoleStop>
@@ -152,7 +142,7 @@ fn commit(here: &Here<'_>, state: Leader, value: Transaction) -> Result<Plan<Lea
             which: Which::Version,
         });
     };
-    let values = one_value(here.alloc, value)?;
+    let values = one(here.alloc, value)?;
     let mut tx = Transaction::new(here.alloc);
     match learn(&mut tx, version.get(), values.as_slice()) {
         Ok(()) => {}
@@ -252,7 +242,7 @@ fn all_acked(alloc: Global, state: Leader) -> Result<Plan<Leader>, OutOfMemory>
       next = Next.Stay;
     }) }
 {
-    let timers = one_timer(alloc, disarmed(Timer::LeaseAck))?;
+    let timers = one(alloc, disarmed(Timer::LeaseAck))?;
     Ok(Plan {
         tx: Transaction::new(alloc),
         out: Items::new(alloc),

@@ -14,7 +14,7 @@ use crate::here::Here;
 use mon_bytes::{Items, OutOfMemory};
 use mon_lease::Lease;
 use mon_msg::{Next, Peon, Plan, RoleStop};
-use mon_plan::{message, planned, put_promise};
+use mon_plan::{message, one, planned, put_promise};
 use mon_tx::Transaction;
 use mon_types::{Pn, Version, Which};
 
@@ -64,8 +64,8 @@ pub(crate) fn collect(
     let mut tx = Transaction::new(here.alloc);
     let promise = promised(&mut tx, here.stored.promise(), pn)?;
     let answer = answer(here.alloc, here.stored, promise, next)?;
-    let mut out = Items::new(here.alloc);
-    out.push(message(here.me, here.stored.epoch(), answer, here.state.leader))?;
+    let sent = message(here.me, here.stored.epoch(), answer, here.state.leader);
+    let out = one(here.alloc, sent)?;
     Ok(Plan {
         tx,
         out,

@@ -10,10 +10,9 @@ ghost use Rattle.mon_wire.specs.declared.phase.Phase.{Phase};
 ghost use Rattle.paxos_peon.specs.Rows.{ByRow};
 
 use crate::here::Here;
-use mon_bytes::Items;
 use mon_lease::Lease;
 use mon_msg::{Body, Next, Peon, Plan, RoleStop, Timer};
-use mon_plan::{Stored, armed, message, stay};
+use mon_plan::{Stored, armed, message, one, stay};
 use mon_tx::Transaction;
 use mon_types::{Moment, Version};
 
@@ -42,13 +41,12 @@ pub(crate) fn lease(here: &Here<'_>, version: Version) -> Result<Plan<Peon>, Rol
     if is_refused(here.stored, version) {
         return Ok(stay(here.alloc, *here.state));
     }
-    let mut timers = Items::new(here.alloc);
-    timers.push(armed(here.time, Timer::Lease))?;
-    let mut out = Items::new(here.alloc);
+    let timers = one(here.alloc, armed(here.time, Timer::Lease))?;
     let taken = Body::LeaseAck {
         last: here.stored.last(),
     };
-    out.push(message(here.me, here.stored.epoch(), taken, here.state.leader))?;
+    let sent = message(here.me, here.stored.epoch(), taken, here.state.leader);
+    let out = one(here.alloc, sent)?;
     Ok(Plan {
         tx: Transaction::new(here.alloc),
         out,

@@ -14,7 +14,7 @@ use crate::collecting::without_lease;
 use crate::here::Here;
 use mon_bytes::Items;
 use mon_msg::{Body, Next, Peon, Plan, RoleStop};
-use mon_plan::{Stored, learn, message, put_vote, stay};
+use mon_plan::{Stored, learn, message, one, put_vote, stay, writing};
 use mon_tx::Transaction;
 use mon_types::{Pn, Version};
 
@@ -42,9 +42,9 @@ pub(crate) fn begin(
     }
     let mut tx = Transaction::new(here.alloc);
     put_vote(&mut tx, version, pn, value)?;
-    let mut out = Items::new(here.alloc);
     let accepted = Body::Accept { pn, version };
-    out.push(message(here.me, here.stored.epoch(), accepted, here.state.leader))?;
+    let sent = message(here.me, here.stored.epoch(), accepted, here.state.leader);
+    let out = one(here.alloc, sent)?;
     Ok(Plan {
         tx,
         out,
@@ -79,11 +79,5 @@ pub(crate) fn commit(
     let known = (next - from.get()).min(values.len() as u64) as usize;
     let mut tx = Transaction::new(here.alloc);
     learn(&mut tx, next, &values[known..])?;
-    Ok(Plan {
-        tx,
-        out: Items::new(here.alloc),
-        timers: Items::new(here.alloc),
-        state: *here.state,
-        next: Next::Stay,
-    })
+    Ok(writing(here.alloc, tx, *here.state, Next::Stay))
 }

@@ -24,9 +24,13 @@ use Rattle.mon_wire.specs.declared.parts.Cookie.{Cookie}
 use Rattle.mon_wire.specs.declared.parts.Place.{Place}
 use Rattle.sync_provider.specs.Rows.{is_asked, Holds}
 
--- a plan that sends one message
+-- a plan that only sends
+abbrev pub plan_of : List Sent → Provider → Plan Provider
+plan_of ms s = record { tx = []; out = ms; timers = []; state = s; next = next.Stay }
+
+-- one that sends one message
 abbrev pub says : Sent → Provider → Plan Provider
-says m s = record { tx = []; out = m ∷ []; timers = []; state = s; next = next.Stay }
+says m s = plan_of (m ∷ []) s
 
 abbrev pub cookie_of : Readings → Provider → Cookie
 cookie_of w s = record { boot = w.boot; seq = s.next_cookie }

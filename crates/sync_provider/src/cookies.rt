@@ -9,10 +9,8 @@ ghost use Rattle.mon_wire.specs.declared.body.Body.TheVariants as body;
 ghost use Rattle.sync_provider.specs.Rows.{ByRow};
 
 use crate::here::Here;
-use mon_bytes::Items;
-use mon_msg::{Body, Cookie, Next, Plan, Provider, RoleStop};
-use mon_plan::{Stored, message};
-use mon_tx::Transaction;
+use mon_msg::{Body, Cookie, Plan, Provider, RoleStop};
+use mon_plan::{Stored, message, one, sending};
 use mon_types::{GREATEST, Rank, Version, Which};
 
 /// One message is sent, and nothing else is done.
@@ -21,15 +19,8 @@ pub(crate) fn answer(here: &Here<'_>, to: Rank, body: Body) -> Result<Plan<Provi
     ensures stays { IfOk result (λ plan. plan.next ≡ next.Stay) }
 {
     let stored = Stored::of(here.alloc, here.kv);
-    let mut out = Items::new(here.alloc);
-    out.push(message(here.me, stored.epoch(), body, to))?;
-    Ok(Plan {
-        tx: Transaction::new(here.alloc),
-        out,
-        timers: Items::new(here.alloc),
-        state: *here.state,
-        next: Next::Stay,
-    })
+    let out = one(here.alloc, message(here.me, stored.epoch(), body, to))?;
+    Ok(sending(here.alloc, out, *here.state))
 }
 
 /// The provider's state once it granted a monitor this cookie, in place of an earlier one.
@@ -67,15 +58,8 @@ pub(crate) fn grant(here: &Here<'_>, to: Rank, full: bool) -> Result<Plan<Provid
         cookie,
         last: stored.last(),
     };
-    let mut out = Items::new(here.alloc);
-    out.push(message(here.me, stored.epoch(), granted, to))?;
-    Ok(Plan {
-        tx: Transaction::new(here.alloc),
-        out,
-        timers: Items::new(here.alloc),
-        state: with_cookie(here.state, to, cookie),
-        next: Next::Stay,
-    })
+    let out = one(here.alloc, message(here.me, stored.epoch(), granted, to))?;
+    Ok(sending(here.alloc, out, with_cookie(here.state, to, cookie)))
 }
 
 /// Whether some of the versions after `last` aren't kept any more.

@@ -1,9 +1,6 @@
 -- Plans as a whole, and what holds of the readings of an event under way.
-use Rattle.std.proofs.Common.{◌≡◌, ℕ, ◌+◌, ◌^◌, List, [], ◌∷◌, Result, min, sym, ap, subst, ◌∙◌}
-use Rattle.std.specs.List.{AllByRecursion}
-use Rattle.mon_msg.specs.Protocol.Changes.{Change, spelled}
+use Rattle.std.proofs.Common.{◌≡◌, ℕ, ◌+◌, ◌^◌, List, [], ◌∷◌, Result, min, ap, subst, ◌∙◌}
 use Rattle.mon_msg.specs.Protocol.Course.{Course, requester_is}
-use Rattle.mon_msg.specs.Protocol.Played.{Fits}
 use Rattle.mon_msg.specs.Protocol.Readings.{Readings}
 use Rattle.mon_msg.specs.Protocol.Sending.{message_to}
 use Rattle.mon_msg.specs.Protocol.Timers.{length_of}
@@ -15,7 +12,7 @@ use Rattle.mon_msg.specs.declared.synchronisation.Requester.{Requester}
 use Rattle.mon_msg.specs.declared.view.Me.{Me}
 use Rattle.mon_plan.proofs.Kept.{kept-requester}
 use Rattle.mon_plan.proofs.Planning.{only_acts}
-use Rattle.mon_plan.specs.Plans.{act, done, stands, Does}
+use Rattle.mon_plan.specs.Plans.{act, stands, Does}
 use Rattle.mon_tx.specs.declared.op.Op.{Op}
 use Rattle.mon_types.specs.declared.names.Which.{Which}
 use Rattle.mon_wire.specs.declared.body.Body.TheVariants as body
@@ -26,17 +23,6 @@ use Rattle.mon_wire.specs.declared.phase.Timer.TheVariants as timer
 -- a plan of changes after which an act is done
 abbrev pub then_acts : List Op → Requester → Next → Plan Requester
 then_acts tx s n = record { tx = tx; out = []; timers = []; state = s; next = n }
-
--- a plan that is this one
-pub does_as : {S : Type 0} (me : Me) (now : ℕ) (is : S → Course → Course) (Before : Course → Type 0) (start : Course → Course) (wanted : Course → Result Course Which)
-    → (cs : List Change) → AllByRecursion Fits cs → (q : Plan S) → q.tx ≡ spelled cs → ((x : Course) → Before x → wanted x ≡ act me now q.next (done is cs q (start x)))
-    → (p : Plan S) → p ≡ q → Does me now is Before start wanted p
-does_as {S} me now is Before start wanted cs fit q tx row p e = record {
-  changes = cs;
-  fit = fit;
-  spelled = ap (λ (p : Plan S). p.tx) e ∙ tx;
-  row = λ x b. row x b ∙ sym (ap (λ (p : Plan S). act me now p.next (done is cs p (start x))) e);
-}
 
 -- a plan that only names an act, if what is remembered is copied
 pub remains : (me : Me) (now : ℕ) (Before : Course → Type 0) (wanted : Course → Result Course Which) (s : Requester) → ((x : Course) → Before x → x.state.requester ≡ s)

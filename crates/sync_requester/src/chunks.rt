@@ -18,7 +18,7 @@ use crate::places::{is_same_place, next_key_place};
 use mon_bytes::{Entry, Items, OutOfMemory};
 use mon_msg::{Cookie, Next, Place, Plan, Requester, RoleStop, SyncStage, Timer};
 use mon_plan::{
-    Here, armed, disarmed, epoch_after, learn, planned, put_copies, put_records, stay,
+    Here, armed, disarmed, epoch_after, learn, planned, put_copies, put_records, stay, writing,
 };
 use mon_tx::Transaction;
 use mon_types::{Version, Which};
@@ -196,13 +196,7 @@ fn end_recent(
     ensures leaves { IfOk result (λ plan. Leaves phase.Synchronizing plan.next plan.tx) }
 {
     let Taken { tx, place } = take(here.alloc, state, chunk, true)?;
-    Ok(Plan {
-        tx,
-        out: Items::new(here.alloc),
-        timers: Items::new(here.alloc),
-        state: at_place(state, place),
-        next: Next::Bootstrap,
-    })
+    Ok(writing(here.alloc, tx, at_place(state, place), Next::Bootstrap))
 }
 
 /// The provider gives the last chunk, with its last version.

@@ -14,9 +14,9 @@ ghost use Rattle.mon_plan.specs.Leaves.{Leaves};
 ghost use Rattle.sync_requester.specs.Rows.{ByHeard};
 
 use crate::places::first_place;
-use mon_bytes::{Items, OutOfMemory};
+use mon_bytes::OutOfMemory;
 use mon_msg::{Body, Cookie, Next, Place, Plan, Requester, RoleStop, SyncStage, Timer};
-use mon_plan::{Here, Stored, armed, message, planned, stay};
+use mon_plan::{Here, Stored, armed, message, one, planned, stay};
 use mon_tx::Transaction;
 use mon_types::{Epoch, Version};
 
@@ -80,10 +80,8 @@ pub(crate) fn ask(
       next = next.Stay;
     }) }
 {
-    let mut out = Items::new(here.alloc);
-    out.push(message(here.me, epoch, body, state.provider))?;
-    let mut timers = Items::new(here.alloc);
-    timers.push(armed(here.time, Timer::Sync))?;
+    let out = one(here.alloc, message(here.me, epoch, body, state.provider))?;
+    let timers = one(here.alloc, armed(here.time, Timer::Sync))?;
     Ok(Plan {
         tx,
         out,

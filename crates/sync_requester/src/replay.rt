@@ -21,7 +21,7 @@ use mon_bytes::{Items, OutOfMemory};
 use mon_msg::{
     MOST_REPLAYED, MOST_REPLAYED_BYTES, Next, Plan, Requester, RoleStop, SyncStage, Timer,
 };
-use mon_plan::{Here, Stored, armed, planned, put_last, put_learned, put_unmark};
+use mon_plan::{Here, Stored, armed, one, planned, put_last, put_learned, put_unmark, writing};
 use mon_tx::Transaction;
 use mon_types::Version;
 use std::alloc::Global;
@@ -112,13 +112,7 @@ fn end_with(
 {
     put_last(&mut tx, end)?;
     put_unmark(&mut tx)?;
-    Ok(Plan {
-        tx,
-        out: Items::new(alloc),
-        timers: Items::new(alloc),
-        state: kept,
-        next: Next::Bootstrap,
-    })
+    Ok(writing(alloc, tx, kept, Next::Bootstrap))
 }
 
 /// The plan of a step that isn't the last one: it makes these changes, and arms `Step`.
@@ -131,8 +125,7 @@ fn go_on(here: &Here<'_>, kept: Requester, tx: Transaction) -> Result<Plan<Reque
       next = Next.Stay;
     }) }
 {
-    let mut timers = Items::new(here.alloc);
-    timers.push(armed(here.time, Timer::Step))?;
+    let timers = one(here.alloc, armed(here.time, Timer::Step))?;
     Ok(Plan {
         tx,
         out: Items::new(here.alloc),

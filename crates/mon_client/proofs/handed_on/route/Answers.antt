@@ -41,5 +41,4 @@ returns-clause-plans c =
     route-replies me now w v s x b c.args.from c.args.epoch c.args.seq c.args.reply.now (sym c.is_of_leader.ensures ∙ c.if-not-is_of_leader.false)
     after (λ i. record s { sessions = kept i }) c.in_ok-out.out told
     ∙ ap (λ (y : Course). Ok y) (sym (sending-is c.in_ok-out.out (clients_are after x))))
-    (record { tx = c.new.result; out = c.in_ok-out.out; timers = c.new-2.result; state = after; next = next.Stay })
-    (λ i. record { tx = c.new.ensures i; out = c.in_ok-out.out; timers = c.new-2.ensures i; state = after; next = next.Stay })
+    c.sending.result c.sending.ensures

@@ -1,15 +1,13 @@
-use Rattle.std.proofs.Common.{◌≡◌, List, [], ◌∷◌, ◌++◌, Option, None, Some, refl, ap, ◌∙◌}
+use Rattle.std.proofs.Common.{◌≡◌, [], ◌∷◌, Option, None, Some, refl, ap, ◌∙◌}
 use Rattle.election_rules.specs.declared.scores.Scores.{Scores}
-use Rattle.mon_msg.specs.Protocol.Course.{elector_is}
 use Rattle.mon_msg.specs.Protocol.Pings.{hear_ping, with_heard}
 use Rattle.mon_msg.specs.Protocol.Sending.{message_to}
 use Rattle.mon_msg.specs.declared.election.Elector.{Elector}
 use Rattle.mon_msg.specs.declared.plan.Next.TheVariants as next
 use Rattle.mon_msg.specs.declared.plan.Sent.{Sent}
-use Rattle.mon_plan.proofs.Planning.{does}
 use Rattle.mon_wire.specs.declared.body.Body.TheVariants as body
 use Rattle.mon_elector.specs.Rows.{table_told}
-use Rattle.mon_elector.proofs.Known.{epoch_in, Met, stays}
+use Rattle.mon_elector.proofs.Known.{epoch_in, plan_of, plans, stays}
 use Rattle.mon_elector.proofs.PingLaws as laws
 use Rattle.mon_elector.proofs.pings.hear_ping.Goals as goal
 
@@ -32,11 +30,9 @@ returns-clause-plans c =
     let table = c.in-Some.table in
     let heard : c.with_heard-heard.result ≡ with_heard f table s = c.with_heard-heard.ensures ∙ ap (λ (t : Scores). with_heard f t s) c.scores.ensures in
     let told : c.in_ok-table.table ≡ table_told me.rule (with_heard f table s).scores = c.in_ok-table.ensures ∙ ap (λ (t : Elector). table_told me.rule t.scores) heard in
-    does me here.time elector_is (Met here) (λ x. x) (hear_ping me f c.args.table.now)
+    let sent = c.message-sent.ensures ∙ (λ i. message_to me (c.epoch.ensures i) (body.PingReply (told i)) f) in
+    let out = c.in_ok-out.ensures ∙ ap (λ (m : Sent). m ∷ []) sent in
+    plans here (hear_ping me f c.args.table.now) c.sending.result
     [] tt (message_to me (epoch_in here) (body.PingReply (table_told me.rule (with_heard f table s).scores)) f ∷ []) [] (with_heard f table s) next.Stay
+    (c.sending.ensures ∙ (λ i. plan_of [] (out i) [] (heard i) next.Stay))
     (λ x b. ap (λ (t : Option Scores). hear_ping me f t x) c.in-Some.is ∙ laws.ping-answered here x b f table)
-    (record { tx = c.new.result; out = c.push.new.self; timers = c.new-2.result; state = c.with_heard-heard.result; next = next.Stay })
-    c.new.ensures
-    (c.in_ok-push.ensures.ok ∙ ap (λ (l : List Sent). l ++ c.message.result ∷ []) c.new-out.ensures
-    ∙ ap (λ (m : Sent). m ∷ []) (c.message.ensures ∙ (λ i. message_to me (c.epoch.ensures i) (body.PingReply (told i)) f)))
-    c.new-2.ensures heard refl

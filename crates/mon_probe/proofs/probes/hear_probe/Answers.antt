@@ -1,13 +1,11 @@
-use Rattle.std.proofs.Common.{List, [], ◌∷◌, ◌++◌, refl, sym, ap, ◌∙◌}
-use Rattle.mon_msg.specs.Protocol.Course.{prober_is}
+use Rattle.std.proofs.Common.{[], ◌∷◌, refl, sym, ap, ◌∙◌}
 use Rattle.mon_msg.specs.Protocol.Probing.{hear_probe}
 use Rattle.mon_msg.specs.Protocol.Readings.{readings_of, epoch_of}
 use Rattle.mon_msg.specs.Protocol.Sending.{message_to}
 use Rattle.mon_msg.specs.declared.plan.Next.TheVariants as next
 use Rattle.mon_msg.specs.declared.plan.Sent.{Sent}
-use Rattle.mon_plan.proofs.Planning.{does}
 use Rattle.mon_wire.specs.declared.body.Body.TheVariants as body
-use Rattle.mon_probe.proofs.Known.{Met, acts}
+use Rattle.mon_probe.proofs.Known.{acts, plan_of, plans}
 use Rattle.mon_probe.proofs.ProbeLaws as laws
 use Rattle.mon_probe.proofs.probes.hear_probe.Goals as goal
 
@@ -31,11 +29,9 @@ returns-clause-plans c =
     let s = here.state.now in
     let w = readings_of here.stored.now in
     let f = c.args.from in
-    does me now prober_is (Met me now w v s) (λ x. x) (hear_probe me f)
+    let sent = c.message-sent.ensures ∙ (λ i. message_to me (c.epoch.ensures i) (body.ProbeReply v.quorum (c.first.ensures i) (c.last.ensures.value i)) f) in
+    let out = c.in_ok-out.ensures ∙ ap (λ (m : Sent). m ∷ []) sent in
+    plans me now w v s (hear_probe me f) c.sending.result
     [] tt (message_to me (epoch_of w) (body.ProbeReply v.quorum w.first w.last) f ∷ []) [] s next.Stay
+    (c.sending.ensures ∙ (λ i. plan_of [] (out i) [] s next.Stay))
     (λ x b. laws.probe-answered me now w v s x b f (sym c.is_marked.ensures ∙ c.if-is_marked.false))
-    (record { tx = c.new.result; out = c.push.new.self; timers = c.new-2.result; state = s; next = next.Stay })
-    c.new.ensures
-    (c.in_ok-push.ensures.ok ∙ ap (λ (l : List Sent). l ++ c.message.result ∷ []) c.new-out.ensures
-    ∙ ap (λ (m : Sent). m ∷ []) (c.message.ensures ∙ (λ i. message_to me (c.epoch.ensures i) (body.ProbeReply v.quorum (c.first.ensures i) (c.last.ensures.value i)) f)))
-    c.new-2.ensures refl refl

@@ -59,11 +59,11 @@ returns-clause-plans c =
     collect-told w s s.leader e x b me here.time c.args.pn c.args.leader_first c.args.leader_last
     (omega (arith, c.if-get.false, c.get.ensures.value, c.get-2.ensures.value, c.last.ensures.value))
     (let short = c.in-Some.ensures.valid.0 refl in omega (arith, short)))
-    (record { tx = c.promised.new.tx; out = c.push.new.self; timers = c.new.result; state = c.without_lease.result; next = next.Stay })
+    (record { tx = c.promised.new.tx; out = c.in_ok-out.out; timers = c.new.result; state = c.without_lease.result; next = next.Stay })
     (c.in_ok-promise.ensures.changes ∙ ap (λ (t : List Op). t ++ spelled (promised c.promise.result c.args.pn)) c.new-tx.ensures ∙ ap (λ (k : ℕ). spelled (promised k c.args.pn)) c.promise.ensures)
-    (c.in_ok-push.ensures.ok ∙ ap (λ (l : List Sent). l ++ c.message.result ∷ []) c.new-out.ensures
+    (c.in_ok-out.ensures
     ∙ ap (λ (m : Sent). m ∷ [])
-    (c.message.ensures ∙ ap (λ (k : ℕ). message_to me k c.in_ok-answer.answer s.leader) c.epoch.ensures
+    (c.message-sent.ensures ∙ ap (λ (k : ℕ). message_to me k c.in_ok-answer.answer s.leader) c.epoch.ensures
     ∙ ap (λ (b : Body). message_to me (epoch_of w) b s.leader)
     (c.in_ok-answer.ensures me.member.monitors ∙ (λ i. answer_of me.member.monitors (new i) w.first w.last w.record_of (pending w) (from i)))))
     c.new.ensures c.without_lease.ensures refl

@@ -1,4 +1,4 @@
-use Rattle.std.proofs.Common.{◌+◌, ◌^◌, min, ◌++◌, List, [], ◌∷◌, refl, ap, sym, ◌∙◌}
+use Rattle.std.proofs.Common.{◌+◌, ◌^◌, min, [], ◌∷◌, refl, ap, sym, ◌∙◌}
 use Rattle.mon_lease.specs.Lease.{extended}
 use Rattle.mon_msg.specs.Protocol.Course.{peon_is}
 use Rattle.mon_msg.specs.Protocol.Peon.{hear_lease}
@@ -40,9 +40,9 @@ returns-clause-plans c =
     [] tt (message_to me (epoch_of w) (body.LeaseAck w.last) s.leader ∷ []) (arming.Arm timer.Lease (min (here.time + length_of timer.Lease) (2 ^ 62)) ∷ [])
     (record s { lease = extended here.time }) next.Stay
     (λ x b. lease-taken w s s.leader e x b me here.time c.args.version (sym c.is_refused.ensures ∙ c.if-is_refused.false))
-    (record { tx = c.new.result; out = c.push-2.new.self; timers = c.push.new.self; state = c.with_lease.result; next = next.Stay })
+    (record { tx = c.new.result; out = c.in_ok-out.out; timers = c.in_ok-timers.timers; state = c.with_lease.result; next = next.Stay })
     c.new.ensures
-    (c.in_ok-push-2.ensures.ok ∙ ap (λ (l : List Sent). l ++ c.message.result ∷ []) c.new-out.ensures
-    ∙ ap (λ (m : Sent). m ∷ []) (c.message.ensures ∙ (λ i. message_to me (c.epoch.ensures i) (body.LeaseAck (c.last.ensures.value i)) s.leader)))
-    (c.in_ok-push.ensures.ok ∙ ap (λ (l : List Arming). l ++ c.armed.result ∷ []) c.new-timers.ensures ∙ ap (λ (a : Arming). a ∷ []) c.armed.ensures)
+    (c.in_ok-out.ensures
+    ∙ ap (λ (m : Sent). m ∷ []) (c.message-sent.ensures ∙ (λ i. message_to me (c.epoch.ensures i) (body.LeaseAck (c.last.ensures.value i)) s.leader)))
+    (c.in_ok-timers.ensures ∙ ap (λ (a : Arming). a ∷ []) c.armed.ensures)
     c.with_lease.ensures refl

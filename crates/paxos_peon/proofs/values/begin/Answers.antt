@@ -38,8 +38,8 @@ returns-clause-plans c =
     (vote ∷ []) (c.put_vote.ensures.fit, tt) (message_to me (epoch_of w) (body.Accept c.args.pn c.args.version) s.leader ∷ []) [] (record s { lease = None }) next.Stay
     (λ x b.
     begin-accepts w s s.leader e x b me c.args.pn c.args.version c.args.value.now (sym c.is_accepted.ensures ∙ c.if-not-is_accepted.false))
-    (record { tx = c.put_vote.new.tx; out = c.push.new.self; timers = c.new.result; state = c.without_lease.result; next = next.Stay })
+    (record { tx = c.put_vote.new.tx; out = c.in_ok-out.out; timers = c.new.result; state = c.without_lease.result; next = next.Stay })
     (c.in_ok-put_vote.ensures.changes ∙ ap (λ (t : List Op). t ++ ops_of vote) c.new-tx.ensures)
-    (c.in_ok-push.ensures.ok ∙ ap (λ (l : List Sent). l ++ c.message.result ∷ []) c.new-out.ensures
-    ∙ ap (λ (m : Sent). m ∷ []) (c.message.ensures ∙ ap (λ (k : ℕ). message_to me k (body.Accept c.args.pn c.args.version) s.leader) c.epoch.ensures))
+    (c.in_ok-out.ensures
+    ∙ ap (λ (m : Sent). m ∷ []) (c.message-sent.ensures ∙ ap (λ (k : ℕ). message_to me k (body.Accept c.args.pn c.args.version) s.leader) c.epoch.ensures))
     c.new.ensures c.without_lease.ensures refl

@@ -16,11 +16,15 @@ use Rattle.mon_tx.specs.declared.op.Op.{Op}
 use Rattle.mon_plan.specs.Learned.{learned}
 use Rattle.mon_plan.specs.Plans.{changed}
 use Rattle.mon_plan.proofs.Kept.{kept-peon}
-use Rattle.mon_plan.proofs.Planning.{does, only_acts, changed-state, learn-fails}
+use Rattle.mon_plan.proofs.Planning.{does_as, only_acts, changed-state, learn-fails}
 use Rattle.mon_plan.proofs.Values.{all_drop, rest_is}
 use Rattle.paxos_peon.specs.Rows.{ByRow, IsOurs}
 use Rattle.paxos_peon.proofs.ValueLaws.{commit-ahead, commit-learns}
 use Rattle.paxos_peon.proofs.values.commit.Goals as goal
+
+-- a plan that only writes
+abbrev writes : List Op → Peon → Plan Peon
+writes tx s = record { tx = tx; out = []; timers = []; state = s; next = next.Stay }
 
 pub learn-requires : goal.learn-requires
 learn-requires c = record {
@@ -72,11 +76,11 @@ returns-clause-plans c =
     let k = c.min-known.result in
     let low : c.args.from ≤ v = (let le = ltb-false (suc w.last) c.args.from (sym c.is_ahead.ensures ∙ c.if-is_ahead.false) in omega (arith, le, c.get-next.ensures.value, c.last.ensures.value)) in
     let news = take (length c.args.values.now - k) (drop k c.args.values.now) in
-    does me here.time peon_is (IsOurs w s s.leader e) (λ x. x) (hear_commit s.leader e c.args.from c.args.values.now)
-    (learned v news) c.in_ok-learn.ensures.fit [] [] s next.Stay
+    does_as me here.time peon_is (IsOurs w s s.leader e) (λ x. x) (hear_commit s.leader e c.args.from c.args.values.now)
+    (learned v news) c.in_ok-learn.ensures.fit (writes (spelled (learned v news)) s) refl
     (λ x b.
     commit-learns w s s.leader e x b c.args.from c.args.values.now v k (omega (arith, c.get-next.ensures.value, c.last.ensures.value))
     low (c.min-known.ensures ∙ ap (λ (n : ℕ). min (v - n) (length c.args.values.now)) c.get.ensures.value)
     ∙ c.in_ok-learn.ensures.act x ∙ sym (ap Ok (kept-peon s (changed (learned v news) x) (ap (λ (st : State). st.peon) (changed-state (learned v news) x) ∙ b.role))))
-    (record { tx = c.learn.new.tx; out = c.new.result; timers = c.new-2.result; state = s; next = next.Stay })
-    (c.in_ok-learn.ensures.changes ∙ ap (λ (t : List Op). t ++ spelled (learned v news)) c.new-tx.ensures) c.new.ensures c.new-2.ensures refl refl
+    c.writing.result
+    (c.writing.ensures ∙ ap (λ (t : List Op). writes t s) (c.in_ok-learn.ensures.changes ∙ ap (λ (t : List Op). t ++ spelled (learned v news)) c.new-tx.ensures))

@@ -8,12 +8,13 @@ use Rattle.mon_msg.specs.declared.plan.Next.TheVariants as next
 use Rattle.mon_msg.specs.declared.plan.Plan.{Plan}
 use Rattle.mon_msg.specs.declared.plan.RoleStop.{RoleStop}
 use Rattle.mon_msg.specs.declared.synchronisation.Requester.{Requester}
+use Rattle.mon_plan.proofs.Planning.{does_as}
 use Rattle.mon_plan.specs.Plans.{PlansRow}
 use Rattle.mon_types.specs.declared.names.Which.{Which}
 use Rattle.sync_requester.specs.Copied.{copied}
 use Rattle.sync_requester.specs.Rows.{IsHeard}
 use Rattle.sync_requester.proofs.ChunkLaws.{recent-ends, take-stops}
-use Rattle.sync_requester.proofs.Planned.{does_as, then_acts}
+use Rattle.sync_requester.proofs.Planned.{then_acts}
 use Rattle.sync_requester.proofs.chunks.end_recent.Goals as goal
 
 pub returns-clause-plans : goal.returns-clause-plans
@@ -32,14 +33,7 @@ returns-clause-plans c =
     does_as me now requester_is (IsHeard w s f) (λ x. x) (take_last me now p values entries last)
     cs h.fit (then_acts (spelled cs) (record s { place = taken.place }) next.Bootstrap) refl
     (λ x b. recent-ends w s f x b me now p values entries taken h last c.requires.recent)
-    (record { tx = taken.tx; out = c.new.result; timers = c.new-2.result; state = c.at_place.result; next = next.Bootstrap })
-    (λ i. record {
-      tx = h.spelled i;
-      out = c.new.ensures i;
-      timers = c.new-2.ensures i;
-      state = c.at_place.ensures i;
-      next = next.Bootstrap;
-    })
+    c.writing.result (c.writing.ensures ∙ (λ i. then_acts (h.spelled i) (c.at_place.ensures i) next.Bootstrap))
 
 pub returns-in_err-tx-clause-plans : goal.returns-in_err-tx-clause-plans
 returns-in_err-tx-clause-plans c =

@@ -11,6 +11,7 @@ use Rattle.mon_msg.specs.declared.plan.Plan.{Plan}
 use Rattle.mon_msg.specs.declared.plan.RoleStop.{RoleStop}
 use Rattle.mon_msg.specs.declared.synchronisation.Requester.{Requester}
 use Rattle.mon_plan.proofs.Standing.{readings-after}
+use Rattle.mon_plan.proofs.Planning.{does_as}
 use Rattle.mon_plan.specs.Plans.{PlansRow}
 use Rattle.mon_tx.specs.Map.{apply}
 use Rattle.mon_tx.specs.declared.op.Op.{Op}
@@ -18,7 +19,7 @@ use Rattle.mon_types.specs.declared.names.Which.{Which}
 use Rattle.sync_requester.specs.Copied.{copied}
 use Rattle.sync_requester.specs.Rows.{IsHeard}
 use Rattle.sync_requester.proofs.ChunkLaws.{chunk-asks, chunk-is, take-stops}
-use Rattle.sync_requester.proofs.Planned.{asks_chunk, does_as, remains}
+use Rattle.sync_requester.proofs.Planned.{asks_chunk, remains}
 use Rattle.sync_requester.proofs.chunks.hear_chunk.Goals as goal
 
 pub returns-then-not-is_awaited-clause-plans : goal.returns-then-not-is_awaited-clause-plans

@@ -3,12 +3,13 @@ use Rattle.mon_msg.specs.Protocol.Copying.{first_place, hear_cookie}
 use Rattle.mon_msg.specs.Protocol.Course.{requester_is}
 use Rattle.mon_msg.specs.Protocol.Readings.{epoch_of, readings_of}
 use Rattle.mon_msg.specs.declared.plan.Next.TheVariants as next
+use Rattle.mon_plan.proofs.Planning.{does_as}
 use Rattle.mon_plan.specs.Plans.{PlansRow}
 use Rattle.mon_tx.specs.Map.{Store}
 use Rattle.mon_wire.specs.declared.parts.Place.{Place}
 use Rattle.sync_requester.specs.Rows.{IsHeard}
 use Rattle.sync_requester.proofs.CookieLaws.{cookie-refused, cookie-taken, started}
-use Rattle.sync_requester.proofs.Planned.{asks_chunk, does_as, remains}
+use Rattle.sync_requester.proofs.Planned.{asks_chunk, remains}
 use Rattle.sync_requester.proofs.cookies.hear_cookie.Goals as goal
 
 pub returns-then-is_refused-clause-plans : goal.returns-then-is_refused-clause-plans

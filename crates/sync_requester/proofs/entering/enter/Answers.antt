@@ -5,12 +5,13 @@ use Rattle.mon_msg.specs.Protocol.Played.{Fits}
 use Rattle.mon_msg.specs.Protocol.Readings.{readings_of}
 use Rattle.mon_msg.specs.Protocol.State.{start_requester}
 use Rattle.mon_msg.specs.declared.plan.Next.TheVariants as next
+use Rattle.mon_plan.proofs.Planning.{does_as}
 use Rattle.mon_plan.specs.Plans.{PlansAct, act, entered}
 use Rattle.mon_tx.specs.Map.{Store}
 use Rattle.mon_wire.specs.declared.body.Body.TheVariants as body
 use Rattle.sync_requester.specs.Rows.{IsEntering}
 use Rattle.sync_requester.proofs.EnterLaws.{full-begins, mark, recent-begins}
-use Rattle.sync_requester.proofs.Planned.{asks, does_as}
+use Rattle.sync_requester.proofs.Planned.{asks}
 use Rattle.sync_requester.proofs.entering.enter.Goals as goal
 
 pub returns-then-not-full-clause-plans : goal.returns-then-not-full-clause-plans

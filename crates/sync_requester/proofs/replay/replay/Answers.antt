@@ -8,12 +8,13 @@ use Rattle.mon_msg.specs.Protocol.Replay.{step_in}
 use Rattle.mon_msg.specs.declared.plan.Next.TheVariants as next
 use Rattle.mon_msg.specs.declared.synchronisation.SyncStage.TheVariants as sync
 use Rattle.mon_plan.proofs.Learning.{learned-fit}
+use Rattle.mon_plan.proofs.Planning.{does_as}
 use Rattle.mon_plan.specs.Plans.{PlansRow}
 use Rattle.mon_tx.specs.Map.{Store}
 use Rattle.mon_tx.specs.Text.{most, text}
 use Rattle.mon_tx.specs.declared.op.Op.{Op}
 use Rattle.sync_requester.specs.Rows.{Holds}
-use Rattle.sync_requester.proofs.Planned.{does_as, remains, then_acts}
+use Rattle.sync_requester.proofs.Planned.{remains, then_acts}
 use Rattle.sync_requester.proofs.ReplayLaws.{end-fits, end-spelled, end_changes, few-of, replay-ends, replay-lost, replay-steps, steps_on}
 use Rattle.sync_requester.proofs.replay.replay.Goals as goal
 
