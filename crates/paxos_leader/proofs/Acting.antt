@@ -1,5 +1,5 @@
 -- The acts of an active leader, as plans do them.
-use Rattle.std.proofs.Common.{◌≡◌, ◌≢◌, ℕ, suc, ◌+◌, ◌≤◌, ◌<◌, ◌^◌, true, false, List, [], ◌∷◌, map, Option, Some, None, Ok, Err, refl, sym, ap, ◌∙◌, append-nil, inl, inr, ◌⊎◌, arith}
+use Rattle.std.proofs.Common.{◌≡◌, ◌≢◌, ℕ, suc, ◌+◌, ◌≤◌, ◌<◌, ◌^◌, true, false, List, [], ◌∷◌, map, Option, Some, None, Result, Ok, Err, refl, sym, ap, ◌∙◌, append-nil, inl, inr, ◌⊎◌, arith}
 use Rattle.std.proofs.lemmas.Bool.{cases_Bool, cases_lt, le-leb, lt-leb}
 use Rattle.mon_lease.specs.Lease.{extended}
 use Rattle.mon_msg.specs.Protocol.Changes.{Vote}
@@ -16,6 +16,7 @@ use Rattle.mon_msg.specs.declared.paxos.Leader.{Leader}
 use Rattle.mon_msg.specs.declared.paxos.LeaderStage.TheVariants as stage
 use Rattle.mon_msg.specs.declared.paxos.LeaderStage.{LeaderStage}
 use Rattle.mon_msg.specs.declared.plan.Origin.{Origin}
+use Rattle.mon_msg.specs.declared.plan.Plan.{Plan}
 use Rattle.mon_msg.specs.declared.view.Me.{Me}
 use Rattle.mon_tx.specs.declared.op.Op.{Op}
 use Rattle.mon_types.specs.declared.names.Which.TheVariants as which
@@ -24,12 +25,12 @@ use Rattle.mon_wire.specs.declared.reply.Reply.TheVariants as reply
 use Rattle.mon_wire.specs.declared.phase.Timer.{Timer}
 use Rattle.mon_msg.specs.declared.plan.RoleStop.TheVariants as stop
 use Rattle.mon_msg.specs.declared.plan.RoleStop.{RoleStop}
-use Rattle.mon_plan.specs.Learned.{Learns, learned}
+use Rattle.mon_plan.specs.Learned.{learned}
 use Rattle.mon_plan.specs.Plans.{changed, phase_as}
 use Rattle.mon_plan.proofs.Learning.{learn-done}
-use Rattle.paxos_leader.specs.Drafts.{under_way, GoesOn, IsHere, lease_timers, value_timers}
+use Rattle.paxos_leader.specs.Drafts.{under_way, CommitsAlone, GoesOn, IsHere, lease_timers, value_timers}
 use Rattle.paxos_leader.specs.declared.draft.Draft.{Draft}
-use Rattle.paxos_leader.proofs.Going.{finish, finish-unarmed}
+use Rattle.paxos_leader.proofs.Going.{finish, finish-unarmed, goes}
 
 abbrev pub leasing : Me → ℕ → Leader → Leader
 leasing me now l = record l { stage = stage.Active; lease = extended now; acks = only me.member.rank }
@@ -118,12 +119,17 @@ module _ (me : Me) (now epoch last : ℕ) (l : Leader) (y : Course) (b : IsHere 
           begin-others me now y s value o (omega (arith, next_is, short)) (ap (λ k. is_empty (members me k.quorum)) e ∙ others)
           ∙ ap (λ n. Ok (begin_with me now s n value o y)) next_is
 
--- a value that can't be learned can't be begun
-pub alone-fails : (me : Me) (now epoch last : ℕ) (d : Draft) (v : ℕ) (value : List Op) (e : RoleStop) → Learns v (value ∷ []) (Err e)
-    → GoesOn me now (IsHere epoch last) d (begin_alone me v value None) (Err e)
+-- one that commits a value at once for which nobody waits
+pub alone-goes : (me : Me) (now epoch last : ℕ) (d : Draft) (v : ℕ) (value : List Op) (r : Result (Plan Leader) RoleStop) → CommitsAlone d v value r
+    → GoesOn me now (IsHere epoch last) d (begin_alone me v value None) r
 unfolding begin_alone
-alone-fails me now epoch last d v value stop.OutOfMemory h cs fit is = tt
-alone-fails me now epoch last d v value (stop.Spent which) h cs fit is = λ x b. ap (λ r. r >>= (λ z. Ok (z ▸ leads_in stage.Active ▸ say []))) (h (under_way cs d.out d.state x))
+alone-goes me now epoch last d v value (Ok p) h =
+    goes me now (IsHere epoch last) d (begin_alone me v value None) (learned v (value ∷ [])) h.fit [] [] (record d.state { stage = stage.Active })
+    (λ y b e. alone-here me now epoch last d.state y b e v value (h.learns y))
+    p (ap (λ (p : Plan Leader). p.tx) h.plan) (ap (λ (p : Plan Leader). p.out) h.plan ∙ sym (append-nil d.out)) (ap (λ (p : Plan Leader). p.timers) h.plan)
+    (ap (λ (p : Plan Leader). p.state) h.plan) (ap (λ (p : Plan Leader). p.next) h.plan)
+alone-goes me now epoch last d v value (Err stop.OutOfMemory) h = λ cs fit is. tt
+alone-goes me now epoch last d v value (Err (stop.Spent which)) h = λ cs fit is x b. ap (λ r. r >>= (λ z. Ok (z ▸ leads_in stage.Active ▸ say []))) (h (under_way cs d.out d.state x))
 
 -- ---- a timer of a phase that is left
 

@@ -1,9 +1,10 @@
 -- What an event at a leader has done so far, and calls that go on with it.
 use Rattle.std.specs.List.{AllByRecursion}
-use Rattle.std.specs.Prelude.{◌≡◌, ℕ, ◌+◌, ◌^◌, min, Bool, true, List, Some, Result, if◌then◌else◌, [], ◌∷◌}
+use Rattle.std.specs.Prelude.{◌≡◌, ℕ, ◌+◌, ◌^◌, min, Bool, true, List, Some, Result, Ok, Err, if◌then◌else◌, [], ◌∷◌, ◌++◌}
 use Rattle.mon_msg.specs.Protocol.Changes.{Change, spelled}
 use Rattle.mon_msg.specs.Protocol.Course.{Course, ◌▸◌, leader_is}
 use Rattle.mon_msg.specs.Protocol.Leader.{is_one_of}
+use Rattle.mon_msg.specs.Protocol.Learning.{learn}
 use Rattle.mon_msg.specs.Protocol.Phases.{is_leading, phase_of}
 use Rattle.mon_msg.specs.Protocol.Played.{Fits}
 use Rattle.mon_msg.specs.Protocol.Readings.{Readings, epoch_of}
@@ -12,14 +13,17 @@ use Rattle.mon_msg.specs.declared.paxos.Leader.{Leader}
 use Rattle.mon_msg.specs.declared.paxos.LeaderStage.TheVariants as stage
 use Rattle.mon_msg.specs.declared.plan.Arming.TheVariants as arming
 use Rattle.mon_msg.specs.declared.plan.Arming.{Arming}
+use Rattle.mon_msg.specs.declared.plan.Next.TheVariants as next
 use Rattle.mon_msg.specs.declared.plan.Plan.{Plan}
 use Rattle.mon_msg.specs.declared.plan.RoleStop.{RoleStop}
 use Rattle.mon_msg.specs.declared.plan.Sent.{Sent}
 use Rattle.mon_msg.specs.declared.view.Me.{Me}
+use Rattle.mon_tx.specs.declared.op.Op.{Op}
 use Rattle.mon_types.specs.declared.names.Which.{Which}
 use Rattle.mon_wire.specs.declared.phase.Phase.TheVariants as phase
 use Rattle.mon_wire.specs.declared.phase.Timer.TheVariants as timer
 use Rattle.mon_wire.specs.declared.phase.Timer.{Timer}
+use Rattle.mon_plan.specs.Learned.{Learns, learned}
 use Rattle.mon_plan.specs.Plans.{Plans, changed, leads, sending}
 use Rattle.paxos_leader.specs.declared.draft.Draft.{Draft}
 use Rattle.paxos_leader.specs.declared.seen.Act.{Act}
@@ -41,6 +45,24 @@ GoesOn me now At d wanted result =
 abbrev pub ActsOn : Act → (At : Course → Type 0) → Draft → (wanted : Me → (now : ℕ) → Course → Result Course Which)
     → Result (Plan Leader) RoleStop → Type 0
 ActsOn act At d wanted result = GoesOn act.me.now act.time At d (wanted act.me.now act.time) result
+
+-- The plan of a leader that is alone in its quorum and commits a value for a version at once, after a draft. It answers nobody.
+pub record IsCommitted (d : Draft) (v : ℕ) (value : List Op) (p : Plan Leader) : Type 0 where
+  pub fit : AllByRecursion Fits (learned v (value ∷ []))
+  pub learns : (x : Course) → learn v (value ∷ []) x ≡ Ok (changed (learned v (value ∷ [])) x)
+  pub plan : p
+      ≡ record {
+        tx = d.tx ++ spelled (learned v (value ∷ []));
+        out = d.out;
+        timers = [];
+        state = record d.state { stage = stage.Active };
+        next = next.Stay;
+      }
+
+-- The call returned such a plan, or what ends the learning of the value.
+abbrev pub CommitsAlone : Draft → (v : ℕ) → (value : List Op) → Result (Plan Leader) RoleStop → Type 0
+CommitsAlone d v value (Ok p) = IsCommitted d v value p
+CommitsAlone d v value (Err e) = Learns v (value ∷ []) (Err e)
 
 -- An event under way at a leader whose store has this epoch and this last version.
 pub record IsHere (e v : ℕ) (y : Course) : Type 0 where

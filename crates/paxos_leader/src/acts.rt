@@ -3,14 +3,13 @@
 ghost use Rattle.std.specs.Prelude.{◌≡◌, ℕ, ◌≤◌, ◌++◌, length, map, None, Some, IfOk};
 ghost use Rattle.mon_lease.specs.Lease.{extended};
 ghost use Rattle.mon_msg.specs.Protocol.Changes.{Vote, ops_of};
-ghost use Rattle.mon_msg.specs.Protocol.Leading.{be_active as active, begin_with as begun_with, begin_alone as begun_alone, begin as begun};
+ghost use Rattle.mon_msg.specs.Protocol.Leading.{be_active as active, begin_with as begun_with, begin as begun};
 ghost use Rattle.mon_msg.specs.Protocol.Played.{Fits};
 ghost use Rattle.mon_msg.specs.Protocol.Sending.{members as members_of, message_to};
 ghost use Rattle.mon_msg.specs.Protocol.Sets.{only as only_one};
 ghost use Rattle.mon_msg.specs.declared.paxos.LeaderStage.TheVariants as stage;
-ghost use Rattle.mon_msg.specs.declared.view.Me.{Me};
 ghost use Rattle.mon_tx.specs.Text.{text, most};
-ghost use Rattle.paxos_leader.specs.Drafts.{ActsOn, GoesOn, IsHere};
+ghost use Rattle.paxos_leader.specs.Drafts.{ActsOn, CommitsAlone, IsHere};
 
 use crate::draft::{Draft, tell};
 use crate::seen::Act;
@@ -165,15 +164,15 @@ pub(crate) fn begin_with(
 }
 
 /// The leader's state with the stage `Active`. Nothing else in it changes.
-pub(crate) fn at_rest(mut state: Leader) -> Leader
+fn at_rest(mut state: Leader) -> Leader
     ensures { result ≡ record state { stage = stage.Active } }
 {
     state.stage = LeaderStage::Active;
     state
 }
 
-/// A leader that is alone in its quorum commits a value at once. No client is answered.
-pub(crate) fn begin_alone(
+/// A leader that is alone in its quorum commits a value at once. The caller answers a client that waits for it.
+pub(crate) fn commit_alone(
     alloc: Global,
     draft: Draft,
     version: Version,
@@ -181,8 +180,7 @@ pub(crate) fn begin_alone(
 ) -> Result<Plan<Leader>, RoleStop>
     requires short { length (text value) ≤ most }
     requires above { 1 ≤ version }
-    ensures goes { (me : Me) (now epoch last : ℕ) →
-        GoesOn me now (IsHere epoch last) draft (begun_alone me version value None) result }
+    ensures alone { CommitsAlone draft version value result }
     ensures stays { IfOk result (λ p. p.next ≡ Next.Stay) }
 {
     let Draft { mut tx, out, state } = draft;
@@ -222,7 +220,7 @@ pub(crate) fn begin_value(
         });
     };
     if leads_alone(act.me, &draft.state) {
-        return begin_alone(act.alloc, draft, version, value);
+        return commit_alone(act.alloc, draft, version, value);
     }
     begin_with(act, draft, stage, version, value, None)
 }

@@ -22,7 +22,7 @@ ghost use Rattle.paxos_leader.specs.Drafts.{IsLed, IsWon};
 ghost use Rattle.paxos_leader.specs.Inputs.{is_input, is_own, is_told, may_begin_all, phases_for};
 ghost use Rattle.paxos_leader.specs.Rows.{ByRow, Meets};
 
-use crate::acts::{at_rest, be_active, begin_with};
+use crate::acts::{be_active, begin_with, commit_alone};
 use crate::answers::{Answer, hear_last};
 use crate::collecting::collect;
 use crate::draft::{Draft, tell};
@@ -36,7 +36,7 @@ use mon_msg::plan::Sent;
 use mon_msg::{
     Body, Leader, LeaderStage, Me, Message, Next, Origin, Phase, Plan, Reply, RoleStop, Timer, View,
 };
-use mon_plan::{Here, Stored, answer, epoch_after, learn, one, planned, stay};
+use mon_plan::{Here, Stored, answer, epoch_after, one, planned, stay};
 use mon_tx::Transaction;
 use mon_types::{Epoch, Moment, Pn, RankSet, Version, Which};
 use std::alloc::Global;
@@ -278,22 +278,11 @@ fn begin_answered(
         (begun_alone here.now.me.now version value (Some origin)) result }
     ensures stays { IfOk result (λ p. p.next ≡ Next.Stay) }
 {
-    let mut tx = Transaction::new(here.alloc);
-    match learn(&mut tx, version.get(), &[value]) {
-        Ok(()) => {}
-        Err(stop) => {
-            drop(state);
-            return Err(stop);
-        }
-    }
-    let out = answers(here, &tx, version, origin)?;
-    Ok(Plan {
-        tx,
-        out,
-        timers: Items::new(here.alloc),
-        state: at_rest(state),
-        next: Next::Stay,
-    })
+    let draft = Draft::new(here.alloc, state);
+    let mut plan = commit_alone(here.alloc, draft, version, value)?;
+    let out = answers(here, &plan.tx, version, origin)?;
+    plan.out = out;
+    Ok(plan)
 }
 
 /// Begins the value of a command for the version after the last one. A leader that is alone in its quorum commits it at

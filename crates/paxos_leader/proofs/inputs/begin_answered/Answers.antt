@@ -1,23 +1,30 @@
-use Rattle.std.proofs.Common.{◌≡◌, ℕ, List, [], ◌∷◌, ◌++◌, Some, Ok, Err, refl, ap, subst, ◌∙◌}
-use Rattle.std.specs.List.{AllByRecursion}
+use Rattle.std.proofs.Common.{◌≡◌, List, [], ◌∷◌, ◌++◌, Some, Result, Err, refl, sym, ap, subst, ◌∙◌}
+use Rattle.std.proofs.lemmas.Result.{err_from_is_err_and}
 use Rattle.mon_msg.specs.Protocol.Changes.{Change, spelled}
-use Rattle.mon_msg.specs.Protocol.Course.{Course}
-use Rattle.mon_msg.specs.Protocol.Learning.{learn}
-use Rattle.mon_msg.specs.Protocol.Played.{Fits}
+use Rattle.mon_msg.specs.Protocol.Leading.{begin_alone}
 use Rattle.mon_msg.specs.Protocol.Readings.{readings_of}
-use Rattle.mon_msg.specs.declared.plan.Next.TheVariants as next
-use Rattle.mon_tx.specs.declared.op.Op.{Op}
-use Rattle.mon_plan.specs.Learned.{Learns, learned}
-use Rattle.mon_plan.specs.Plans.{changed}
+use Rattle.mon_msg.specs.declared.paxos.Leader.{Leader}
+use Rattle.mon_msg.specs.declared.paxos.LeaderStage.TheVariants as stage
+use Rattle.mon_msg.specs.declared.plan.Plan.{Plan}
+use Rattle.mon_msg.specs.declared.plan.RoleStop.{RoleStop}
+use Rattle.mon_plan.specs.Learned.{learned}
+use Rattle.mon_plan.specs.Plans.{Plans, leads}
 use Rattle.paxos_leader.specs.Drafts.{IsLed}
+use Rattle.paxos_leader.specs.declared.draft.Draft.{Draft}
 use Rattle.paxos_leader.proofs.Beginning.{alone-spent, alone-answers}
 use Rattle.paxos_leader.proofs.inputs.begin_answered.Goals as goal
 
-pub returns-in-Err-clause-plans : goal.returns-in-Err-clause-plans
-returns-in-Err-clause-plans c =
+pub returns-in_err-plan-clause-plans : goal.returns-in_err-plan-clause-plans
+returns-in_err-plan-clause-plans c =
     λ now.
-    alone-spent c.args.here.now.me.now now (IsLed (readings_of c.args.here.now.kv.now) c.args.state) c.args.version c.args.value (Some c.args.origin) c.in-Err.stop
-    (subst (λ v. Learns v (c.args.value ∷ []) (Err c.in-Err.stop)) c.get.ensures.value c.in-Err.ensures.act)
+    let me = c.args.here.now.me.now in
+    let led = IsLed (readings_of c.args.here.now.kv.now) c.args.state in
+    let v = c.args.version in
+    let value = c.args.value in
+    let o = c.args.origin in
+    let failed = err_from_is_err_and c.from_residual.result c.from_residual.ensures.1 in
+    subst (λ (r : Result (Plan Leader) RoleStop). Plans me now leads led (λ x. x) (begin_alone me v value (Some o)) r) (sym (failed.1 ∙ ap Err failed.2))
+    (alone-spent me now led v value (Some o) c.in_err-plan.field-0.0 c.in_err-plan.ensures.alone)
 
 pub returns-clause-plans : goal.returns-clause-plans
 returns-clause-plans c =
@@ -25,11 +32,10 @@ returns-clause-plans c =
     let v = c.args.version in
     let value = c.args.value in
     let cs : List Change = learned v (value ∷ []) in
-    let fit : AllByRecursion Fits cs = subst (λ (n : ℕ). AllByRecursion Fits (learned n (value ∷ []))) c.get.ensures.value c.in-Ok.ensures.fit in
-    let spells : c.learn.new.tx ≡ spelled cs =
-    c.in-Ok.ensures.changes ∙ ap (λ (t : List Op). t ++ spelled (learned c.get.result (value ∷ []))) c.new-tx.ensures ∙ ap (λ (n : ℕ). spelled (learned n (value ∷ []))) c.get.ensures.value in
-    let learns : (y : Course) → learn v (value ∷ []) y ≡ Ok (changed cs y) =
-    λ (y : Course). subst (λ (n : ℕ). learn n (value ∷ []) y ≡ Ok (changed (learned n (value ∷ [])) y)) c.get.ensures.value (c.in-Ok.ensures.act y) in
-    alone-answers c.args.here.now.me.now now c.args.here.now.kv.now c.args.state v value c.args.origin fit c.learn.new.tx spells learns
-    (record { tx = c.learn.new.tx; out = c.in_ok-out.out; timers = c.new.result; state = c.at_rest.result; next = next.Stay })
-    refl c.in_ok-out.ensures c.new.ensures c.at_rest.ensures refl
+    let plan : Plan Leader = c.in_ok-plan.plan in
+    let h = c.in_ok-plan.ensures.alone in
+    let new = c.new-draft.ensures in
+    alone-answers c.args.here.now.me.now now c.args.here.now.kv.now c.args.state v value c.args.origin h.fit plan.tx
+    (ap (λ (p : Plan Leader). p.tx) h.plan ∙ ap (λ (d : Draft). d.tx ++ spelled cs) new) h.learns
+    (record plan { out = c.in_ok-out.out }) refl c.in_ok-out.ensures (ap (λ (p : Plan Leader). p.timers) h.plan)
+    (ap (λ (p : Plan Leader). p.state) h.plan ∙ ap (λ (d : Draft). record d.state { stage = stage.Active }) new) (ap (λ (p : Plan Leader). p.next) h.plan)
