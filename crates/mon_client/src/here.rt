@@ -7,7 +7,8 @@ ghost use Rattle.mon_msg.specs.Protocol.Sending.{answer_to};
 use mon_kv::Kv;
 use mon_msg::plan::Sent;
 use mon_msg::{Me, Origin, Reply, View};
-use mon_plan::{Stored, answer};
+use mon_plan::answer;
+use mon_stored::Stored;
 use mon_types::{Epoch, Moment};
 use std::alloc::Global;
 

@@ -95,7 +95,7 @@ pub fn step(
         (row me.now shared now input.now) result }
     ensures leaves { IfOk result (λ plan. Leaves view.now.phase plan.next plan.tx) }
 {
-    let here = mon_plan::Here {
+    let here = mon_stored::Here {
         alloc,
         kv,
         me,
@@ -106,7 +106,7 @@ pub fn step(
 
 /// The same as `step`, by value: what is remembered moves into the plan, and the commands that wait aren't copied.
 pub fn step_owned(
-    here: &mon_plan::Here<'_>,
+    here: &mon_stored::Here<'_>,
     view: &View,
     clients: Clients,
     input: &Input,

@@ -12,7 +12,7 @@ use mon_bytes::OutOfMemory;
 use mon_kv::Kv;
 use mon_msg::plan::Sent;
 use mon_msg::{Clients, Plan, Reply, RoleStop, Service, Session, View};
-use mon_plan::Stored;
+use mon_stored::Stored;
 use mon_types::Version;
 use std::alloc::Global;
 

@@ -18,7 +18,7 @@ use Rattle.mon_types.specs.declared.names.Which.{Which}
 use Rattle.mon_plan.specs.Inputs.{row}
 use Rattle.mon_plan.specs.Plans.{act, done, entered, Does, Plans, PlansAct, PlansRow}
 use Rattle.mon_plan.specs.Seen.{IsMet, IsSeen}
-use Rattle.mon_plan.proofs.Standing.{readings-after}
+use Rattle.mon_stored.proofs.Standing.{readings-after}
 use Rattle.mon_core.specs.Acts.{Acts, Carried, KeepsAll}
 use Rattle.mon_core.specs.Rows.{AnswersRow, IsReady}
 use Rattle.mon_event.specs.Events.{Goes, IsCarried, IsUnderWay, Reaches, remembering}

@@ -22,7 +22,7 @@ use Rattle.mon_wire.specs.declared.phase.Phase.{Phase}
 use Rattle.mon_plan.specs.Leaves.{Ends, Leaves, TellsEpoch}
 use Rattle.mon_plan.specs.Plans.{done, stands, changed, arm_all, sending}
 use Rattle.mon_plan.proofs.Planning.{changed-state}
-use Rattle.mon_plan.proofs.Standing.{readings-after}
+use Rattle.mon_stored.proofs.Standing.{readings-after}
 use Rattle.mon_core.specs.Acts.{IsLast, KeepsAll, Leads, LeadsOn, MayAct}
 use Rattle.mon_core.specs.Rows.{IsReady}
 use Rattle.mon_core.proofs.Acting.{rests}

@@ -6,7 +6,7 @@ ghost use Rattle.mon_core.specs.Acts.{Acts, IsLast, MayAct};
 
 use mon_event::Event;
 use mon_msg::{Next, Origin, Phase, RoleStop};
-use mon_plan::Here;
+use mon_stored::Here;
 use mon_tx::Transaction;
 use mon_types::{Rank, RankSet};
 

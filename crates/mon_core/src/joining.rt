@@ -63,7 +63,7 @@ pub(crate) fn joined(alloc: Global, tx: Transaction) -> Result<Transaction, OutO
     ensures { IfOk result (λ joined_tx. joined_tx ≡ joined tx) }
 {
     if tx.ops().len() > SHORT || !are_put_once(tx.ops()) {
-        return mon_plan::joined(alloc, &tx);
+        return mon_stored::joined(alloc, &tx);
     }
     Ok(tx)
 }

@@ -25,7 +25,7 @@ use mon_event::{Event, State};
 use mon_kv::Kv;
 use mon_msg::input::Input;
 use mon_msg::{Me, Phase, Request, Service, ShownMap, Timer};
-use mon_plan::Here;
+use mon_stored::Here;
 use mon_tx::Transaction;
 use mon_types::{Member, Moment};
 use std::alloc::Global;

@@ -7,7 +7,7 @@ use crate::acts::act;
 use mon_event::{Event, Role, RoleState, view};
 use mon_msg::input::Input;
 use mon_msg::{Plan, RoleStop};
-use mon_plan::Here;
+use mon_stored::Here;
 
 /// A role's plan is carried out, and then the act that it names is done.
 fn carry<S: RoleState>(here: &Here<'_>, event: &mut Event, plan: Plan<S>) -> Result<(), RoleStop>

@@ -18,7 +18,7 @@ use mon_client::unreadable;
 use mon_event::{Event, view};
 use mon_kv::Kv;
 use mon_msg::{Reply, Service, Session, View};
-use mon_plan::{Here, Stored};
+use mon_stored::{Here, Stored};
 use mon_types::Version;
 use std::alloc::Global;
 use svc_core::{Cache, last_version};

@@ -1,7 +1,7 @@
 //! What an elector reads at an input.
 
 use mon_msg::{Elector, Me, View};
-use mon_plan::Stored;
+use mon_stored::Stored;
 use mon_types::Moment;
 use std::alloc::Global;
 

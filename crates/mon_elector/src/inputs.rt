@@ -17,7 +17,7 @@ use crate::victories::hear_victory;
 use mon_kv::Kv;
 use mon_msg::input::Input;
 use mon_msg::{Body, Elector, Me, Message, Plan, RoleStop, Timer, View};
-use mon_plan::Stored;
+use mon_stored::Stored;
 use mon_types::Moment;
 use std::alloc::Global;
 

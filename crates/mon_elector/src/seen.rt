@@ -13,7 +13,7 @@ ghost use Rattle.mon_elector.specs.Rows.{table_told};
 use election_rules::{Rule, Scores, outranks};
 use mon_bytes::OutOfMemory;
 use mon_msg::{Elector, Me, Phase, ScoreTable, View};
-use mon_plan::Stored;
+use mon_stored::Stored;
 use mon_types::{Epoch, Rank, RankSet};
 use std::alloc::Global;
 

@@ -18,7 +18,7 @@ use mon_bytes::{Items, OutOfMemory};
 use mon_kv::Kv;
 use mon_msg::plan::Sent;
 use mon_msg::{Arming, Next, Phase, Plan, Reply, Session};
-use mon_plan::epoch_after;
+use mon_stored::epoch_after;
 use mon_tx::Transaction;
 use mon_types::{Epoch, Rank, RankSet};
 use std::alloc::Global;

@@ -15,7 +15,7 @@ use election_rules::Rule;
 use mon_kv::Kv;
 use mon_lease::{Lease, readable};
 use mon_msg::{Body, Me, Message, ScoreTable, View};
-use mon_plan::Stored;
+use mon_stored::Stored;
 use mon_types::{Moment, Rank, RankSet};
 use std::alloc::Global;
 

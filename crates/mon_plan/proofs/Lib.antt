@@ -1,11 +1,5 @@
-pub mod EpochLaws
-pub mod Fitting
 pub mod Kept
 pub mod Learning
 pub mod Loops
-pub mod Picking
 pub mod Planning
-pub mod Reading
-pub mod Running
-pub mod Standing
 pub mod Values

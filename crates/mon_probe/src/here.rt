@@ -1,7 +1,7 @@
 //! What the rows of a prober read.
 
 use mon_msg::{Me, Prober, View};
-use mon_plan::Stored;
+use mon_stored::Stored;
 use std::alloc::Global;
 
 /// What a row reads besides its message.

@@ -13,7 +13,8 @@ use crate::probes::{hear_probe, hear_probe_reply};
 use mon_kv::Kv;
 use mon_msg::input::Input;
 use mon_msg::{Body, Me, Message, Next, Plan, Prober, RoleStop, View};
-use mon_plan::{Stored, planned};
+use mon_plan::planned;
+use mon_stored::Stored;
 use mon_types::Moment;
 use std::alloc::Global;
 

@@ -10,7 +10,7 @@ ghost use Rattle.mon_wire.specs.declared.phase.Phase.TheVariants as phase_is;
 
 use mon_kv::Kv;
 use mon_msg::{Me, Phase};
-use mon_plan::Stored;
+use mon_stored::Stored;
 use mon_types::{Epoch, RankSet, Version};
 use std::alloc::Global;
 

@@ -31,7 +31,7 @@ use Rattle.mon_wire.specs.declared.phase.Phase.TheVariants as phase
 use Rattle.mon_wire.specs.declared.phase.Phase.{Phase}
 use Rattle.mon_plan.specs.Plans.{changed}
 use Rattle.mon_plan.proofs.Planning.{changed-readings, changed-state}
-use Rattle.mon_plan.proofs.Standing.{readings-after}
+use Rattle.mon_stored.proofs.Standing.{readings-after}
 use Rattle.paxos_leader.specs.Drafts.{GoesOn, IsAsking, under_way}
 use Rattle.paxos_leader.specs.Parts.{with_answer}
 use Rattle.paxos_leader.specs.Rows.{IsHeard, Notes, NotesFound, goes_on}

@@ -32,7 +32,7 @@ use Rattle.mon_wire.specs.declared.reply.Reply.TheVariants as reply
 use Rattle.mon_plan.specs.Learned.{Learns, learned}
 use Rattle.mon_plan.specs.Plans.{Does, Plans, changed, leads, done, act}
 use Rattle.mon_plan.proofs.Planning.{sending-is}
-use Rattle.mon_plan.proofs.Standing.{readings-after}
+use Rattle.mon_stored.proofs.Standing.{readings-after}
 use Rattle.paxos_leader.specs.Drafts.{IsAsking, IsHere, IsLed, IsWon, under_way}
 use Rattle.paxos_leader.proofs.Acting.{begin_alone-is}
 use Rattle.paxos_leader.proofs.Going.{finish, done-is, so_far, under_way-is}

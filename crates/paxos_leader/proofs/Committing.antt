@@ -31,7 +31,7 @@ use Rattle.mon_plan.specs.Learned.{Learns, learned}
 use Rattle.mon_plan.specs.Plans.{changed, phase_as}
 use Rattle.mon_plan.proofs.Learning.{learn-spent}
 use Rattle.mon_plan.proofs.Planning.{sending-is, weaken}
-use Rattle.mon_plan.proofs.Standing.{readings-after}
+use Rattle.mon_stored.proofs.Standing.{readings-after}
 use Rattle.paxos_leader.specs.Drafts.{GoesOn, IsHere, IsVoted, under_way}
 use Rattle.paxos_leader.specs.Parts.{announced, without_value}
 use Rattle.paxos_leader.specs.declared.draft.Draft.{Draft}

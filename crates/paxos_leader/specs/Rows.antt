@@ -18,7 +18,7 @@ use Rattle.mon_wire.specs.declared.parts.Told.{Told}
 use Rattle.mon_wire.specs.declared.phase.Phase.{Phase}
 use Rattle.mon_plan.specs.Plans.{PlansRow, leads}
 use Rattle.mon_plan.specs.Seen.{IsMet}
-use Rattle.mon_plan.specs.declared.here.Here.{Here}
+use Rattle.mon_stored.specs.declared.here.Here.{Here}
 
 -- a leader that reads this plans a row of the table
 abbrev pub ByRow : Here → (At : Course → Type 0) → (row : Me → (now : ℕ) → Course → Result Course Which)

@@ -27,7 +27,8 @@ use crate::seen::Act;
 use crate::sets::are_within;
 use mon_bytes::OutOfMemory;
 use mon_msg::{Found, Leader, Next, Plan, RoleStop, Told};
-use mon_plan::{Here, MOST_PROPOSED, Stored, learn, planned, stay};
+use mon_plan::{learn, planned, stay};
+use mon_stored::{Here, MOST_PROPOSED, Stored};
 use mon_tx::Transaction;
 use mon_types::{Pn, Rank, Version, Which};
 

@@ -10,7 +10,8 @@ use crate::seen::Act;
 use mon_bytes::{Items, OutOfMemory};
 use mon_msg::plan::Sent;
 use mon_msg::{Body, Leader};
-use mon_plan::{Run, Stored, members, message};
+use mon_plan::{members, message};
+use mon_stored::{Run, Stored};
 use mon_types::{Rank, Version};
 
 /// How many bytes a COMMIT takes besides its values.

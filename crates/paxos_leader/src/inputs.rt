@@ -36,7 +36,8 @@ use mon_msg::plan::Sent;
 use mon_msg::{
     Body, Leader, LeaderStage, Me, Message, Next, Origin, Phase, Plan, Reply, RoleStop, Timer, View,
 };
-use mon_plan::{Here, Stored, answer, epoch_after, one, planned, stay};
+use mon_plan::{answer, one, planned, stay};
+use mon_stored::{Here, Stored, epoch_after};
 use mon_tx::Transaction;
 use mon_types::{Epoch, Moment, Pn, RankSet, Version, Which};
 use std::alloc::Global;

@@ -3,7 +3,7 @@
 ghost use Rattle.std.specs.Prelude.{◌≡◌};
 
 use mon_msg::Me;
-use mon_plan::Here;
+use mon_stored::Here;
 use mon_types::{Epoch, Moment};
 use std::alloc::Global;
 

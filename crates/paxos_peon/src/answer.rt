@@ -12,7 +12,7 @@ ghost use Rattle.paxos_peon.specs.declared.answer.TheConstants.{BESIDES};
 
 use mon_bytes::{Items, OutOfMemory};
 use mon_msg::{Body, Found, MOST_MESSAGE, Told};
-use mon_plan::{Run, Stored};
+use mon_stored::{Run, Stored};
 use mon_tx::Transaction;
 use mon_types::{Pn, Version};
 use std::alloc::Global;

@@ -1,7 +1,7 @@
 //! What the rows of a peon read.
 
 use mon_msg::{Me, Peon};
-use mon_plan::Stored;
+use mon_stored::Stored;
 use mon_types::Moment;
 use std::alloc::Global;
 

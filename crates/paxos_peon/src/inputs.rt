@@ -20,7 +20,8 @@ use crate::values::{begin, commit};
 use mon_kv::Kv;
 use mon_msg::input::Input;
 use mon_msg::{Body, Me, Message, Next, Peon, Plan, RoleStop, View};
-use mon_plan::{Stored, planned, stay};
+use mon_plan::{planned, stay};
+use mon_stored::Stored;
 use mon_types::Moment;
 use std::alloc::Global;
 

@@ -12,7 +12,8 @@ ghost use Rattle.paxos_peon.specs.Rows.{ByRow};
 use crate::here::Here;
 use mon_lease::Lease;
 use mon_msg::{Body, Next, Peon, Plan, RoleStop, Timer};
-use mon_plan::{Stored, armed, message, one, stay};
+use mon_plan::{armed, message, one, stay};
+use mon_stored::Stored;
 use mon_tx::Transaction;
 use mon_types::{Moment, Version};
 

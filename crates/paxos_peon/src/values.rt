@@ -14,7 +14,8 @@ use crate::collecting::without_lease;
 use crate::here::Here;
 use mon_bytes::Items;
 use mon_msg::{Body, Next, Peon, Plan, RoleStop};
-use mon_plan::{Stored, learn, message, one, put_vote, stay, writing};
+use mon_plan::{learn, message, one, put_vote, stay, writing};
+use mon_stored::Stored;
 use mon_tx::Transaction;
 use mon_types::{Pn, Version};
 

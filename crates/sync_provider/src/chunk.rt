@@ -17,7 +17,7 @@ use crate::here::Here;
 use mon_bytes::{Items, OutOfMemory};
 use mon_kv::{KeyRun, Kv};
 use mon_msg::{Body, Cookie, Place, Plan, Provider, RoleStop};
-use mon_plan::{Run, Stored};
+use mon_stored::{Run, Stored};
 use mon_types::{Rank, Version};
 use std::alloc::Global;
 

@@ -10,7 +10,8 @@ ghost use Rattle.sync_provider.specs.Rows.{ByRow};
 
 use crate::here::Here;
 use mon_msg::{Body, Cookie, Plan, Provider, RoleStop};
-use mon_plan::{Stored, message, one, sending};
+use mon_plan::{message, one, sending};
+use mon_stored::Stored;
 use mon_types::{GREATEST, Rank, Version, Which};
 
 /// One message is sent, and nothing else is done.

@@ -17,7 +17,8 @@ use crate::here::Here;
 use mon_kv::Kv;
 use mon_msg::input::Input;
 use mon_msg::{Body, Me, Message, Plan, Provider, RoleStop, View};
-use mon_plan::{Stored, stay};
+use mon_plan::stay;
+use mon_stored::Stored;
 use mon_types::Moment;
 use std::alloc::Global;
 

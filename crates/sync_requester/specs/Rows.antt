@@ -10,7 +10,7 @@ use Rattle.mon_msg.specs.declared.view.View.{View}
 use Rattle.mon_plan.specs.Plans.{PlansRow}
 use Rattle.mon_plan.specs.Seen.{IsMet}
 use Rattle.mon_types.specs.declared.names.Which.{Which}
-use Rattle.mon_plan.specs.declared.here.Here.{Here}
+use Rattle.mon_stored.specs.declared.here.Here.{Here}
 
 -- An event under way at a requester: the store's readers return this, and the role remembers that.
 pub record Holds (w : Readings) (state : Requester) (x : Course) : Type 0 where

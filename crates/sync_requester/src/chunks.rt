@@ -17,9 +17,8 @@ use crate::cookies::{ask_chunk, is_own_cookie};
 use crate::places::{is_same_place, next_key_place};
 use mon_bytes::{Entry, Items, OutOfMemory};
 use mon_msg::{Cookie, Next, Place, Plan, Requester, RoleStop, SyncStage, Timer};
-use mon_plan::{
-    Here, armed, disarmed, epoch_after, learn, planned, put_copies, put_records, stay, writing,
-};
+use mon_plan::{armed, disarmed, learn, planned, put_copies, put_records, stay, writing};
+use mon_stored::{Here, epoch_after};
 use mon_tx::Transaction;
 use mon_types::{Version, Which};
 use std::alloc::Global;

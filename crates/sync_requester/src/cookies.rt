@@ -16,7 +16,8 @@ ghost use Rattle.sync_requester.specs.Rows.{ByHeard};
 use crate::places::first_place;
 use mon_bytes::OutOfMemory;
 use mon_msg::{Body, Cookie, Next, Place, Plan, Requester, RoleStop, SyncStage, Timer};
-use mon_plan::{Here, Stored, armed, message, one, planned, stay};
+use mon_plan::{armed, message, one, planned, stay};
+use mon_stored::{Here, Stored};
 use mon_tx::Transaction;
 use mon_types::{Epoch, Version};
 

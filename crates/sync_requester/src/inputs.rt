@@ -22,7 +22,8 @@ use crate::replay::replay;
 use mon_kv::Kv;
 use mon_msg::input::Input;
 use mon_msg::{Body, Me, Message, Next, Phase, Plan, Requester, RoleStop, SyncStage, Timer, View};
-use mon_plan::{Here, planned, stay};
+use mon_plan::{planned, stay};
+use mon_stored::Here;
 use mon_types::{Moment, Rank};
 use std::alloc::Global;
 

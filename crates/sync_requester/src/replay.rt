@@ -21,7 +21,8 @@ use mon_bytes::{Items, OutOfMemory};
 use mon_msg::{
     MOST_REPLAYED, MOST_REPLAYED_BYTES, Next, Plan, Requester, RoleStop, SyncStage, Timer,
 };
-use mon_plan::{Here, Stored, armed, one, planned, put_last, put_learned, put_unmark, writing};
+use mon_plan::{armed, one, planned, put_last, put_learned, put_unmark, writing};
+use mon_stored::{Here, Stored};
 use mon_tx::Transaction;
 use mon_types::Version;
 use std::alloc::Global;

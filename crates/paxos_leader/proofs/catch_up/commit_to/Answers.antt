@@ -2,8 +2,8 @@ use Rattle.std.proofs.Common.{◌≡◌, ℕ, suc, ◌++◌, [], ◌∷◌, get_
 use Rattle.std.proofs.lemmas.List.{get_or_read}
 use Rattle.mon_msg.specs.Protocol.Readings.{Readings, readings_of}
 use Rattle.mon_msg.specs.Protocol.Sending.{message_to}
-use Rattle.mon_plan.proofs.Fitting.{missed-run}
-use Rattle.mon_plan.specs.Runs.{run_within}
+use Rattle.mon_stored.proofs.Fitting.{missed-run}
+use Rattle.mon_stored.specs.Runs.{run_within}
 use Rattle.mon_wire.specs.declared.body.Body.TheVariants as body
 use Rattle.paxos_leader.proofs.Settling.{commits-none, commits-some}
 use Rattle.paxos_leader.proofs.catch_up.commit_to.Goals as goal

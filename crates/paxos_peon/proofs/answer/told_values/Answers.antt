@@ -1,8 +1,8 @@
 use Rattle.std.proofs.Common.{◌≡◌, List, IfOk, sym, ap, subst, ◌∙◌}
 use Rattle.mon_msg.specs.Protocol.Answers.{told_values}
 use Rattle.mon_msg.specs.Protocol.Readings.{readings_of}
-use Rattle.mon_plan.specs.Runs.{run_within}
-use Rattle.mon_plan.proofs.Fitting.{told_values-run}
+use Rattle.mon_stored.specs.Runs.{run_within}
+use Rattle.mon_stored.proofs.Fitting.{told_values-run}
 use Rattle.mon_tx.specs.declared.op.Op.{Op}
 use Rattle.paxos_peon.proofs.answer.told_values.Goals as goal
 

@@ -2,9 +2,9 @@ use Rattle.std.proofs.Common.{◌≡◌, ℕ, suc, ◌+◌, cond, [], sym, ap, �
 use Rattle.mon_msg.specs.Protocol.Parts.{place_length}
 use Rattle.mon_msg.specs.Protocol.Providing.{given_values, is_finished}
 use Rattle.mon_msg.specs.Protocol.Readings.{readings_of}
-use Rattle.mon_plan.specs.Runs.{run_within}
-use Rattle.mon_plan.proofs.Fitting.{given_values-run}
-use Rattle.mon_plan.specs.declared.records.Run.{Run}
+use Rattle.mon_stored.specs.Runs.{run_within}
+use Rattle.mon_stored.proofs.Fitting.{given_values-run}
+use Rattle.mon_stored.specs.declared.records.Run.{Run}
 use Rattle.mon_wire.specs.declared.parts.Cookie.{Cookie}
 use Rattle.sync_provider.specs.Rows.{left_after}
 use Rattle.sync_provider.proofs.Fallible.{if_ok}

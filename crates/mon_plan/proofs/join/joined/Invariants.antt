@@ -1,6 +1,0 @@
-use Rattle.std.proofs.Common.{◌≡◌, take}
-use Rattle.mon_plan.specs.Joining.{picked}
-use Rattle.mon_plan.proofs.join.joined.Given as goal
-
-abbrev pub invariant-loop-i : goal.invariant-loop-i
-invariant-loop-i l = l.joined ≡ picked l.ops (take l.i-index l.i-items)

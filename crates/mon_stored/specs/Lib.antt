@@ -1,0 +1,4 @@
+pub mod Epochs
+pub mod Joining
+pub mod Runs
+pub mod Taking
