@@ -3,19 +3,21 @@ use Rattle.calm_sizes.specs.Sizes.{AllShort, longest}
 use Rattle.log_model.proofs.Logs.{Fronts, fronts_itself}
 use Rattle.mon_bytes.specs.declared.command.Command.{Command}
 use Rattle.mon_types.specs.Ranks.{has}
+use Rattle.mon_wire.specs.declared.message.Message.{Message}
 use Rattle.mon_wire.specs.declared.request.Session.{Session}
-use Rattle.quorum_elects.specs.Ways.{IsStep, OthersRest}
+use Rattle.quorum_elects.specs.Ways.{AreSteps, IsStep, OthersRest}
 use Rattle.quorum_model.proofs.Continuing.{at, ran_on}
 use Rattle.quorum_model.specs.Events.{AllFit}
+use Rattle.quorum_model.specs.Happens.{Stop, happens}
 use Rattle.quorum_model.specs.Monitors.{Monitors}
-use Rattle.quorum_model.specs.Runs.{Ran, ran, ran_from}
-use Rattle.quorum_model.specs.World.{Envelope, Event, World}
+use Rattle.quorum_model.specs.Runs.{Ran, goes_on, ran, ran_from, run_from}
+use Rattle.quorum_model.specs.World.{Comes, Deliver, Envelope, Event, World}
 use Rattle.quorum_near.proofs.Whole.{Holds, held}
-use Rattle.quorum_walk.proofs.Lists.{Among, all_append}
-use Rattle.std.proofs.Common.{Bool, List, Option, Some, [], ap, arith, inl, inr, length, refl, subst, suc, sym, true, zero, ℕ, ◌*◌, ◌++◌, ◌+◌, ◌<◌, ◌∙◌, ◌∷◌, ◌≡◌, ◌≤◌}
+use Rattle.quorum_walk.proofs.Lists.{Among}
+use Rattle.std.proofs.Common.{Bool, Err, IsSomeAnd, List, None, Ok, Option, Result, Some, [], ap, arith, inl, inr, length, refl, subst, suc, sym, true, zero, ℕ, ◌*◌, ◌++◌, ◌+◌, ◌<◌, ◌∙◌, ◌∷◌, ◌≡◌, ◌≤◌}
 use Rattle.std.proofs.Math.Nat.{mul-suc}
 use Rattle.std.proofs.lemmas.List.{length-append}
-use Rattle.std.specs.List.{AllByRecursion, slice_get}
+use Rattle.std.specs.List.{slice_get}
 
 -- ---- messages that were sent since
 
@@ -46,6 +48,33 @@ pub new_added : (sent : ℕ) (w next : World) (more : List Envelope) (e : Envelo
 new_added sent w next more e is le a =
     let r = get_right w.messages more e a in
     record { index = r.index; since = (let s = r.since in omega arith); there = subst (λ (l : List Envelope). slice_get l r.index ≡ Some e) (sym is) r.there }
+
+-- that one of q gets it is a step
+pub new_step : {sent : ℕ} {w : World} {i : ℕ} {m : Message} (q : List Bool) (asks : Option (Session × Command)) (N : New sent w (record { to = i; message = m })) → has q i ≡ true → IsStep q sent asks w (Comes (Deliver (suc N.index) 0))
+new_step q asks N inside = ((let z = N.since in omega arith), subst (λ (o : Option Envelope). IsSomeAnd o (λ e. has q e.to ≡ true)) (sym N.there) inside)
+
+-- ---- runs of some events and then others
+
+-- if a run over xs and then ys ends in v, so does the run over ys from the world after xs
+pub run_splits : (ms : Monitors) (w v : World) (xs ys : List Event) → ran_from ms w (xs ++ ys) ≡ at v → ran_from ms (run_from ms w xs) ys ≡ at v
+unfolding ran_from
+run_splits ms w v [] ys e = e
+run_splits ms w v (x ∷ xs) ys e = by (happens ms w x) (λ next. run_splits ms next v xs ys) e
+  where
+    by : (r : Result World Stop) → ((next : World) → ran_from ms next (xs ++ ys) ≡ at v → ran_from ms (run_from ms next xs) ys ≡ at v)
+        → goes_on w (λ next. ran_from ms next (xs ++ ys)) r ≡ at v → ran_from ms ((goes_on w (λ next. ran_from ms next xs) r).world) ys ≡ at v
+    by (Ok next) h e = h next e
+    by (Err stop) h e = absurd (let z : ◌≡◌ {A = Option Stop} (Some stop) None = ap (λ (r : Ran). r.stop) e in cc)
+
+-- a run over no events ends where it began
+pub run_stays : (ms : Monitors) (w v : World) → ran_from ms w [] ≡ at v → w ≡ v
+unfolding ran_from
+run_stays ms w v e = ap (λ (r : Ran). r.world) e
+
+-- steps and then further steps
+pub steps_append : (ms : Monitors) (q : List Bool) (sent : ℕ) (asks : Option (Session × Command)) (w v : World) (xs ys : List Event) → AreSteps ms q sent asks w xs → ran_from ms w xs ≡ at v → AreSteps ms q sent asks v ys → AreSteps ms q sent asks w (xs ++ ys)
+steps_append ms q sent asks w v [] ys a e b = subst (λ (u : World). AreSteps ms q sent asks u ys) (sym (run_stays ms w v e)) b
+steps_append ms q sent asks w v (x ∷ xs) ys a e b = (a.0, steps_append ms q sent asks (run_from ms w (x ∷ [])) v xs ys a.1 (run_splits ms w v (x ∷ []) xs e) b)
 
 -- ---- worlds that a run reaches
 
@@ -117,7 +146,7 @@ module _ (S : Scope) where
   pub record Can (most : ℕ) (P : World → Type 0) (w : World) : Type 0 where
     pub events : List Event
     pub few : length events ≤ most
-    pub steps : AllByRecursion (IsStep S.q S.sent S.asks) events
+    pub steps : AreSteps S.ms S.q S.sent S.asks w events
     pub next : World
     pub goes : ran_from S.ms w events ≡ at next
     pub onward : Onward w next
@@ -140,7 +169,7 @@ module _ (S : Scope) where
       record {
         events = C.events ++ D.events;
         few = (let a = C.few in let b = D.few in let s = length-append C.events D.events in omega arith);
-        steps = all_append (IsStep S.q S.sent S.asks) C.events D.events C.steps D.steps;
+        steps = steps_append S.ms S.q S.sent S.asks w C.next C.events D.events C.steps C.goes D.steps;
         next = D.next;
         goes = ran_on S.ms w C.next C.events D.events C.goes ∙ D.goes;
         onward = onward_on w C.next D.next C.onward D.onward;

@@ -154,7 +154,7 @@ module _ (ms : Monitors) (events : List Event) (there : ran ms events ≡ at (ru
     more = C.events;
     few = C.few;
     steps = C.steps;
-    fits = steps_fit ms.count q (length (run ms events).messages) below asks fits C.events C.steps;
+    fits = steps_fit ms q (length (run ms events).messages) below asks fits (run ms events) C.events C.steps;
     goes_on = ap (λ (r : Ran). r.stop) further;
     rest = subst (λ (r : Ran). OthersRest q (run ms events) r.world) (sym further) (let o = C.onward in o.rest);
     leads = subst (λ (r : Ran). P (run ms events) r.world) (sym further) C.there;

@@ -1,17 +1,16 @@
 -- Events that follow a plan, one after the other.
-use Rattle.quorum_elects.proofs.Can.{Can, Onward, Scope, onward_not, then, weaker}
+use Rattle.quorum_elects.proofs.Can.{Can, Onward, Scope, onward_not, run_splits, run_stays, then, weaker}
 use Rattle.quorum_elects.specs.Plans.{ArePlanned, Follow, PlanStep, Planned}
 use Rattle.quorum_model.proofs.Continuing.{at}
-use Rattle.quorum_model.specs.Happens.{Stop, happens}
 use Rattle.quorum_model.specs.Monitors.{Monitors}
-use Rattle.quorum_model.specs.Runs.{Ran, goes_on, ran_from, run_from}
+use Rattle.quorum_model.specs.Runs.{ran_from, run_from}
 use Rattle.quorum_model.specs.World.{Event, World}
 use Rattle.quorum_walk.proofs.Lists.{all_of}
-use Rattle.std.proofs.Common.{Err, List, None, Ok, Option, Result, Some, [], ap, arith, map, refl, subst, suc, sym, zero, ℕ, ◌*◌, ◌++◌, ◌+◌, ◌<◌, ◌∙◌, ◌∷◌, ◌≡◌, ◌≤◌}
+use Rattle.std.proofs.Common.{List, [], ap, arith, map, refl, subst, suc, sym, zero, ℕ, ◌*◌, ◌++◌, ◌+◌, ◌<◌, ◌∙◌, ◌∷◌, ◌≡◌, ◌≤◌}
 use Rattle.std.proofs.Math.Nat.{mul-suc}
 use Rattle.std.specs.List.{AllByRecursion, flat_map, range_with_len}
 
--- ---- lists and runs
+-- ---- lists and plans
 
 append_nil : {A : Type 0} (xs : List A) → xs ≡ xs ++ []
 append_nil [] = refl
@@ -20,22 +19,6 @@ append_nil (x ∷ xs) = ap (λ (l : List _). x ∷ l) (append_nil xs)
 append_assoc : {A : Type 0} (xs ys zs : List A) → (xs ++ ys) ++ zs ≡ xs ++ (ys ++ zs)
 append_assoc [] ys zs = refl
 append_assoc (x ∷ xs) ys zs = ap (λ (l : List _). x ∷ l) (append_assoc xs ys zs)
-
--- if a run over xs and then ys ends in v, so does the run over ys from the world after xs
-run_splits : (ms : Monitors) (w v : World) (xs ys : List Event) → ran_from ms w (xs ++ ys) ≡ at v → ran_from ms (run_from ms w xs) ys ≡ at v
-unfolding ran_from
-run_splits ms w v [] ys e = e
-run_splits ms w v (x ∷ xs) ys e = by (happens ms w x) (λ next. run_splits ms next v xs ys) e
-  where
-    by : (r : Result World Stop) → ((next : World) → ran_from ms next (xs ++ ys) ≡ at v → ran_from ms (run_from ms next xs) ys ≡ at v)
-        → goes_on w (λ next. ran_from ms next (xs ++ ys)) r ≡ at v → ran_from ms ((goes_on w (λ next. ran_from ms next xs) r).world) ys ≡ at v
-    by (Ok next) h e = h next e
-    by (Err stop) h e = absurd (let z : ◌≡◌ {A = Option Stop} (Some stop) None = ap (λ (r : Ran). r.stop) e in cc)
-
--- a run over no events ends where it began
-run_stays : (ms : Monitors) (w v : World) → ran_from ms w [] ≡ at v → w ≡ v
-unfolding ran_from
-run_stays ms w v e = ap (λ (r : Ran). r.world) e
 
 planned_append : (ms : Monitors) (w v : World) (ps rs : List Planned) (xs ys : List Event) → ArePlanned ms w ps xs → ran_from ms w xs ≡ at v → ArePlanned ms v rs ys → ArePlanned ms w (ps ++ rs) (xs ++ ys)
 planned_append ms w v [] rs xs ys a e b =

@@ -12,21 +12,22 @@ use Rattle.mon_wire.specs.declared.message.Message.{Message}
 use Rattle.mon_wire.specs.declared.phase.Timer.{Timer}
 use Rattle.mon_wire.specs.declared.request.Request.{Request}
 use Rattle.mon_wire.specs.declared.request.Session.{Session}
-use Rattle.quorum_elects.proofs.Can.{New, Sane, Scope}
+use Rattle.quorum_elects.proofs.Can.{New, Sane, Scope, new_step}
 use Rattle.quorum_elects.proofs.Moving.{Did, Moved, Sound, comes_by}
 use Rattle.quorum_elects.proofs.Planning.{Does}
 use Rattle.quorum_elects.proofs.Standing.{Is}
 use Rattle.quorum_elects.proofs.Walking.{Surely}
 use Rattle.quorum_elects.specs.Plans.{ArePlanned, Asks, Hears, IsPlanned, Planned, Rings, Starts}
-use Rattle.quorum_elects.specs.Ways.{IsAskedBy, IsStep}
+use Rattle.quorum_elects.specs.Ways.{AreSteps, IsAskedBy, IsStep}
 use Rattle.quorum_model.proofs.Members.{member_of}
 use Rattle.quorum_model.specs.CalmSchedule.{request_of}
 use Rattle.quorum_model.specs.Events.{AllFit, PlainFits, RequestFits}
 use Rattle.quorum_model.specs.Meets.{Arrival}
+use Rattle.quorum_model.specs.Monitors.{Monitors}
+use Rattle.quorum_model.specs.Runs.{run_from}
 use Rattle.quorum_model.specs.World.{Client, Comes, Crash, Deliver, Envelope, Event, Ring, Start, World, plain_of}
-use Rattle.std.proofs.Common.{Bool, IfSome, List, None, Option, Some, [], ap, arith, ltb, refl, subst, suc, sym, true, ℕ, ◌<◌, ◌∙◌, ◌∷◌, ◌≡◌}
+use Rattle.std.proofs.Common.{Bool, IfSome, List, None, Option, Some, [], ap, ltb, refl, subst, suc, sym, true, ℕ, ◌<◌, ◌∙◌, ◌∷◌, ◌≡◌}
 use Rattle.std.proofs.lemmas.Bool.{ltb-true}
-use Rattle.std.specs.List.{AllByRecursion}
 use Rattle.std.specs.Option.{option_map}
 
 -- ---- who remembers what
@@ -51,7 +52,7 @@ module _ (S : Scope) (w : World) (sane : Sane S w) (i : ℕ) (lt : ltb i S.ms.co
       → Surely (λ y. Sound (readings_of (w.store i)) y × R y) (react (member_of S.ms i lt) (shared_entries (w.store i)) 0 (readings_of (w.store i)) s (input.Deliver m))
       → Does S (Hears i m.from (kind_in m.body) ∷ []) 1 (Did S R w i) w
   deliver m N s up T =
-      let D = comes_by S w sane (Deliver (suc N.index) 0) i lt 0 (input.Deliver m) s (ap (option_map arrives) N.there) up (let z = N.since in omega arith) inside tt R T in
+      let D = comes_by S w sane (Deliver (suc N.index) 0) i lt 0 (input.Deliver m) s (ap (option_map arrives) N.there) up (new_step S.q S.asks N inside) inside tt R T in
       record {
         can = D.can;
         are = first (Hears i m.from (kind_in m.body)) D.can.events (Comes (Deliver (suc N.index) 0)) D.is (record { number = suc N.index; is = refl; envelope = record { to = i; message = m }; there = N.there; to = refl; sender = refl; kind_is = refl });
@@ -77,18 +78,18 @@ abbrev pub AsksFit : Option (Session × Command) → Type 0
 AsksFit asks = IfSome asks (λ a. RequestFits (request_of a.1))
 
 -- such events are those of a run
-module _ (n : ℕ) (q : List Bool) (sent : ℕ) (below : (m : ℕ) → has q m ≡ true → m < n) where
+module _ (ms : Monitors) (q : List Bool) (sent : ℕ) (below : (m : ℕ) → has q m ≡ true → m < ms.count) where
   asked_fits : (asks : Option (Session × Command)) → AsksFit asks → (s : Session) (r : Request) → IsAskedBy asks s r → RequestFits r
   asked_fits None F s r k = absurd k
   asked_fits (Some a) F s r k = subst RequestFits (sym k.1) F
 
-  step_fits : (asks : Option (Session × Command)) → AsksFit asks → (e : Event) → IsStep q sent asks e → PlainFits n (plain_of e)
-  step_fits asks F (Comes (Start rank at)) k = below rank k
-  step_fits asks F (Comes (Deliver message at)) k = tt
-  step_fits asks F (Comes (Ring rank timer at)) k = below rank k
-  step_fits asks F (Comes (Client rank at session r)) k = (below rank k.0, asked_fits asks F session r k.1)
-  step_fits asks F (Crash p kept) k = absurd k
+  step_fits : (asks : Option (Session × Command)) → AsksFit asks → (w : World) (e : Event) → IsStep q sent asks w e → PlainFits ms.count (plain_of e)
+  step_fits asks F w (Comes (Start rank at)) k = below rank k
+  step_fits asks F w (Comes (Deliver message at)) k = tt
+  step_fits asks F w (Comes (Ring rank timer at)) k = below rank k
+  step_fits asks F w (Comes (Client rank at session r)) k = (below rank k.0, asked_fits asks F session r k.1)
+  step_fits asks F w (Crash p kept) k = absurd k
 
-  pub steps_fit : (asks : Option (Session × Command)) → AsksFit asks → (es : List Event) → AllByRecursion (IsStep q sent asks) es → AllFit n es
-  steps_fit asks F [] s = tt
-  steps_fit asks F (e ∷ es) s = (step_fits asks F e s.0, steps_fit asks F es s.1)
+  pub steps_fit : (asks : Option (Session × Command)) → AsksFit asks → (w : World) (es : List Event) → AreSteps ms q sent asks w es → AllFit ms.count es
+  steps_fit asks F w [] s = tt
+  steps_fit asks F w (e ∷ es) s = (step_fits asks F w e s.0, steps_fit asks F (run_from ms w (e ∷ [])) es s.1)

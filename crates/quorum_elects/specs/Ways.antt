@@ -5,39 +5,46 @@ use Rattle.mon_wire.specs.declared.request.Request.{Request}
 use Rattle.mon_wire.specs.declared.request.Session.{Session}
 use Rattle.quorum_model.specs.CalmSchedule.{request_of}
 use Rattle.quorum_model.specs.Events.{AllFit}
+use Rattle.quorum_model.specs.Meets.{message_at}
 use Rattle.quorum_model.specs.Monitors.{Monitors}
-use Rattle.quorum_model.specs.Runs.{ran, run}
+use Rattle.quorum_model.specs.Runs.{ran, run, run_from}
 use Rattle.quorum_model.specs.World.{Client, Comes, Crash, Deliver, Event, Ring, Start, World}
-use Rattle.std.specs.List.{AllByRecursion}
-use Rattle.std.specs.Prelude.{Bool, List, None, Option, Some, false, length, true, ℕ, ◌++◌, ◌<◌, ◌≡◌, ◌≤◌}
+use Rattle.std.specs.Prelude.{Bool, IsSomeAnd, List, None, Option, Some, [], false, length, true, ℕ, ⊤, ◌++◌, ◌<◌, ◌∷◌, ◌≡◌, ◌≤◌}
 
 -- the request is this session's command, if there is one
 abbrev pub IsAskedBy : Option (Session × Command) → Session → Request → Type 0
 IsAskedBy None s r = ⊥
 IsAskedBy (Some (by, command)) s r = (s ≡ by) × (r ≡ request_of command)
 
--- A step of the monitors of q: one of them starts, a timer of one fires, one is asked the request, or a message is
--- delivered that wasn't among the first `sent`, to whomever it goes. Nothing crashes.
-abbrev pub IsStep : List Bool → (sent : ℕ) → Option (Session × Command) → Event → Type 0
-IsStep q sent asks (Comes (Start rank at)) = has q rank ≡ true
-IsStep q sent asks (Comes (Deliver message at)) = sent < message
-IsStep q sent asks (Comes (Ring rank timer at)) = has q rank ≡ true
-IsStep q sent asks (Comes (Client rank at session r)) = (has q rank ≡ true) × IsAskedBy asks session r
-IsStep q sent asks (Crash p kept) = ⊥
+-- A step of the monitors of q in a world: one of them starts, a timer of one fires, one is asked the request, or one gets
+-- a message that isn't among the first `sent`. Nothing crashes.
+abbrev pub IsStep : List Bool → (sent : ℕ) → Option (Session × Command) → World → Event → Type 0
+IsStep q sent asks w (Comes (Start rank at)) = has q rank ≡ true
+IsStep q sent asks w (Comes (Deliver message at)) =
+    (sent < message) × IsSomeAnd (message_at w.messages message) (λ e. has q e.to ≡ true)
+IsStep q sent asks w (Comes (Ring rank timer at)) = has q rank ≡ true
+IsStep q sent asks w (Comes (Client rank at session r)) = (has q rank ≡ true) × IsAskedBy asks session r
+IsStep q sent asks w (Crash p kept) = ⊥
+
+-- From world w on, each event is a step in the world that the events before it lead to.
+abbrev pub AreSteps : Monitors → List Bool → (sent : ℕ) → Option (Session × Command) → World → List Event → Type 0
+AreSteps ms q sent asks w [] = ⊤
+AreSteps ms q sent asks w (e ∷ es) =
+    IsStep q sent asks w e × AreSteps ms q sent asks (run_from ms w (e ∷ [])) es
 
 -- The monitors outside of q have the same states and stores in both worlds.
 abbrev pub OthersRest : List Bool → (before after : World) → Type 0
 OthersRest q before after =
     (i : ℕ) → has q i ≡ false → (after.state i ≡ before.state i) × (after.store i ≡ before.store i)
 
--- After the run there are at most `most` further events, each a step of the monitors of q, that deliver only messages
+-- After the run there are at most `most` further events, all of them at the monitors of q, that deliver only messages
 -- sent since. None of them stops the run. In the end all other monitors are as they were, and `Leads` holds of the
 -- world after the run and of the last one.
 pub record HasWay (ms : Monitors) (events : List Event) (q : List Bool) (asks : Option (Session × Command)) (most : ℕ)
     (Leads : World → World → Type 0) : Type 0 where
   pub more : List Event
   pub few : length more ≤ most
-  pub steps : AllByRecursion (IsStep q (length (run ms events).messages) asks) more
+  pub steps : AreSteps ms q (length (run ms events).messages) asks (run ms events) more
   pub fits : AllFit ms.count more
   pub goes_on : (ran ms (events ++ more)).stop ≡ None
   pub rest : OthersRest q (run ms events) (run ms (events ++ more))

@@ -12,7 +12,7 @@ ghost use Rattle.quorum_model.specs.World.{Event};
 
 /// A majority that is near the whole log and ready to serve can elect a leader, under any rule, whatever the run was
 /// before. Ready means that one of its members may lead and that there is room (`IsReady`). It takes at most
-/// 2n² + 4n + 2 further events, after which all other monitors are as they were. The leader is then collecting.
+/// 2n² + 4n + 2 further events, all of them at its monitors. The leader is then collecting.
 pub fn law_near_majority_elects()
     ensures { (ms : Monitors) → 1 < ms.count → (events : List Event) → AllFit ms.count events
         → (ran ms events).stop ≡ None → (q : List Bool) → IsMajorityOf ms.count q

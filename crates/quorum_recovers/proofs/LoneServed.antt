@@ -310,7 +310,7 @@ module _ (most : 1 ≤ 15) (rule : Rule) (events : List Event) (F : AllFit 1 eve
       more = C.events;
       few = (let z = C.few in omega arith);
       steps = C.steps;
-      fits = steps_fit 1 q (length w0.messages) M.below (Some (session, cmd)) (request_fits cmd form) C.events C.steps;
+      fits = steps_fit (lone most rule) q (length w0.messages) M.below (Some (session, cmd)) (request_fits cmd form) w0 C.events C.steps;
       goes_on = ap (λ (r : Ran). r.stop) further;
       rest = subst (λ (r : Ran). OthersRest q w0 r.world) (sym further) (let o = C.onward in o.rest);
       leads = subst (λ (r : Ran). IsServed 1 session cmd w0 r.world) (sym further) C.there;

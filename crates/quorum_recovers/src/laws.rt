@@ -15,8 +15,8 @@ ghost use Rattle.quorum_recovers.specs.Plan.{way_back};
 ghost use Rattle.quorum_recovers.specs.Serving.{IsServed, SomeWay};
 
 /// A majority that is near the whole log and ready to serve can serve, under any rule, whatever the run was before. At
-/// most 2n² + 14n + 5 further events lead to the reply to a command that a client asks of one of its monitors: the
-/// command is a new version of the log, or its service refuses it. All other monitors are then as they were.
+/// most 2n² + 14n + 5 further events, all of them at its monitors, lead to the reply to a command that a client asks of
+/// one of them: the command is a new version of the log, or its service refuses it.
 pub fn law_near_majority_serves()
     ensures { (ms : Monitors) → 1 ≤ ms.count → (events : List Event) → AllFit ms.count events
         → (ran ms events).stop ≡ None → (q : List Bool) → IsMajorityOf ms.count q
@@ -27,8 +27,8 @@ pub fn law_near_majority_serves()
 
 /// After every run that nothing stopped some majority can serve again by itself, if it has room and a member that may
 /// lead. This holds of 1 to 15 monitors under any rule, whatever they went through: crashes, losses, copies cut short
-/// and elections without end. None of the further events is a crash, and none delivers a message that was sent before.
-/// All other monitors are in the end as they were. The law doesn't say that these events happen.
+/// and elections without end. All of the further events are at monitors of that majority, none is a crash, and none
+/// delivers a message that was sent before. The law doesn't say that these events happen.
 pub fn law_recovers()
     ensures { (ms : Monitors) → 1 ≤ ms.count → (events : List Event) → AllFit ms.count events
         → (ran ms events).stop ≡ None → (s : Session) (c : Command) → IsCommand c → is_too_long c ≡ false

@@ -7,13 +7,13 @@ use Rattle.mon_msg.specs.declared.input.Input.TheVariants as input
 use Rattle.mon_types.specs.Ranks.{has}
 use Rattle.mon_wire.specs.declared.message.Message.{Message}
 use Rattle.mon_wire.specs.declared.phase.Timer.{Timer}
-use Rattle.quorum_elects.proofs.Can.{Can, New, Sane, Scope}
+use Rattle.quorum_elects.proofs.Can.{Can, New, Sane, Scope, new_step}
 use Rattle.quorum_elects.proofs.Moving.{Bears, Did, Sound, comes, copies}
 use Rattle.quorum_elects.proofs.Walking.{Surely}
 use Rattle.quorum_model.proofs.Members.{member_of}
 use Rattle.quorum_model.specs.Meets.{Arrival}
 use Rattle.quorum_model.specs.World.{Deliver, Envelope, Ring, Start, World}
-use Rattle.std.proofs.Common.{Some, ap, arith, ltb, refl, suc, true, ℕ, ◌≡◌}
+use Rattle.std.proofs.Common.{Some, ap, ltb, refl, suc, true, ℕ, ◌≡◌}
 use Rattle.std.proofs.lemmas.Bool.{ltb-true}
 use Rattle.std.specs.Option.{option_map}
 
@@ -26,14 +26,14 @@ module _ (S : Scope) (w : World) (sane : Sane S w) (i : ℕ) (lt : ltb i S.ms.co
 
   pub deliver : (m : Message) → New S.sent w (record { to = i; message = m }) → (s : State) → w.state i ≡ Some s
       → Surely (λ y. Sound (readings_of (w.store i)) y × R y) (react (member_of S.ms i lt) (shared_entries (w.store i)) 0 (readings_of (w.store i)) s (input.Deliver m)) → Can S 1 (Did S R w i) w
-  deliver m N s up T = comes S w sane (Deliver (suc N.index) 0) i lt 0 (input.Deliver m) s (ap (option_map arrives) N.there) up (let z = N.since in omega arith) inside tt R T
+  deliver m N s up T = comes S w sane (Deliver (suc N.index) 0) i lt 0 (input.Deliver m) s (ap (option_map arrives) N.there) up (new_step S.q S.asks N inside) inside tt R T
 
   pub start_copy : Surely (λ y. Bears (w.store i) y × R y) (react (member_of S.ms i lt) (shared_entries (w.store i)) 0 (readings_of (w.store i)) (booting i) input.Start) → Can S 1 (Did S R w i) w
   start_copy T = copies S w sane (Start i 0) i lt 0 input.Start (booting i) refl refl inside inside (ltb-true i S.ms.count lt) R T
 
   pub deliver_copy : (m : Message) → New S.sent w (record { to = i; message = m }) → (s : State) → w.state i ≡ Some s
       → Surely (λ y. Bears (w.store i) y × R y) (react (member_of S.ms i lt) (shared_entries (w.store i)) 0 (readings_of (w.store i)) s (input.Deliver m)) → Can S 1 (Did S R w i) w
-  deliver_copy m N s up T = copies S w sane (Deliver (suc N.index) 0) i lt 0 (input.Deliver m) s (ap (option_map arrives) N.there) up (let z = N.since in omega arith) inside tt R T
+  deliver_copy m N s up T = copies S w sane (Deliver (suc N.index) 0) i lt 0 (input.Deliver m) s (ap (option_map arrives) N.there) up (new_step S.q S.asks N inside) inside tt R T
 
   pub ring_copy : (t : Timer) → (s : State) → w.state i ≡ Some s
       → Surely (λ y. Bears (w.store i) y × R y) (react (member_of S.ms i lt) (shared_entries (w.store i)) 0 (readings_of (w.store i)) s (input.Timer t)) → Can S 1 (Did S R w i) w

@@ -1,21 +1,21 @@
 -- Any majority that has room catches up. It serves if it is ready and none of its members lacks from 2 to 11 versions.
-use Rattle.log_model.proofs.Lists.{all_append, all_map}
+use Rattle.log_model.proofs.Lists.{all_append}
 use Rattle.log_model.specs.LogOfValues.{IsCommand}
 use Rattle.mon_bytes.specs.declared.command.Command.{Command}
 use Rattle.mon_msg.specs.Protocol.Commands.{is_too_long}
 use Rattle.mon_msg.specs.Protocol.Readings.{or_zero}
 use Rattle.mon_types.specs.Ranks.{has}
 use Rattle.mon_wire.specs.declared.request.Session.{Session}
-use Rattle.quorum_elects.proofs.Can.{Can, Scope, weaker}
+use Rattle.quorum_elects.proofs.Can.{Can, Scope, steps_append, weaker}
 use Rattle.quorum_elects.proofs.Elected.{near_lacks, way_on}
 use Rattle.quorum_elects.proofs.Steps.{steps_fit}
 use Rattle.quorum_elects.specs.Ready.{AllNear, HasRoom, IsReady, LacksAtMost}
-use Rattle.quorum_elects.specs.Ways.{HasWay, IsStep, OthersRest}
+use Rattle.quorum_elects.specs.Ways.{AreSteps, HasWay, IsStep, OthersRest}
 use Rattle.quorum_laws.specs.Accepting.{IsMajorityOf}
 use Rattle.quorum_model.proofs.Continuing.{at, ran_on}
 use Rattle.quorum_model.specs.Events.{AllFit, PlainFits}
 use Rattle.quorum_model.specs.Monitors.{Monitors}
-use Rattle.quorum_model.specs.Runs.{Ran, ran, run}
+use Rattle.quorum_model.specs.Runs.{Ran, ran, run, run_from}
 use Rattle.quorum_model.specs.World.{Client, Comes, Crash, Deliver, Event, Ring, Start, World, first_world, plain_of}
 use Rattle.quorum_recovers.proofs.Asked.{request_fits}
 use Rattle.quorum_near.proofs.Whole.{every}
@@ -24,7 +24,7 @@ use Rattle.quorum_recovers.proofs.Served.{close_serve, serves_any}
 use Rattle.quorum_recovers.specs.Serving.{IsServed}
 use Rattle.quorum_rejoins.proofs.Rejoined.{AllCaught, all_catch_up}
 use Rattle.quorum_rejoins.specs.Lagging.{CaughtUp, HaveRoom, NoneBetween}
-use Rattle.std.proofs.Common.{Bool, List, None, Option, Some, [], ap, append_assoc, arith, false, inl, inr, length, refl, subst, sym, true, ℕ, ◌*◌, ◌++◌, ◌+◌, ◌<◌, ◌∙◌, ◌≡◌, ◌≤◌, ◌⊎◌}
+use Rattle.std.proofs.Common.{Bool, List, None, Option, Some, [], ap, append_assoc, arith, false, inl, inr, length, refl, subst, sym, true, ℕ, ◌*◌, ◌++◌, ◌+◌, ◌<◌, ◌∙◌, ◌∷◌, ◌≡◌, ◌≤◌, ◌⊎◌}
 use Rattle.std.proofs.lemmas.Bool.{cases_order}
 use Rattle.std.proofs.lemmas.List.{append-nil, length-append}
 
@@ -37,12 +37,16 @@ several_catch_up ms several events F on q M R =
     (weaker (record { ms = ms; q = q; sent = length (run ms events).messages; asks = None }) (omega arith) (λ w o A. A.caught) (all_catch_up ms several events F there q M R None))
 
 -- a step of later events is one of these
-later_step : (q : List Bool) (sent more : ℕ) (asks : Option (Session × Command)) → sent ≤ more → (e : Event) → IsStep q more asks e → IsStep q sent asks e
-later_step q sent more asks le (Comes (Start rank at)) h = h
-later_step q sent more asks le (Comes (Deliver message at)) h = omega arith
-later_step q sent more asks le (Comes (Ring rank timer at)) h = h
-later_step q sent more asks le (Comes (Client rank at session r)) h = h
-later_step q sent more asks le (Crash p kept) h = h
+later_step : (q : List Bool) (sent more : ℕ) (asks : Option (Session × Command)) → sent ≤ more → (w : World) (e : Event) → IsStep q more asks w e → IsStep q sent asks w e
+later_step q sent more asks le w (Comes (Start rank at)) h = h
+later_step q sent more asks le w (Comes (Deliver message at)) h = ((let z = h.0 in omega arith), h.1)
+later_step q sent more asks le w (Comes (Ring rank timer at)) h = h
+later_step q sent more asks le w (Comes (Client rank at session r)) h = h
+later_step q sent more asks le w (Crash p kept) h = h
+
+later_steps : (ms : Monitors) (q : List Bool) (sent more : ℕ) (asks : Option (Session × Command)) → sent ≤ more → (w : World) (es : List Event) → AreSteps ms q more asks w es → AreSteps ms q sent asks w es
+later_steps ms q sent more asks le w [] h = tt
+later_steps ms q sent more asks le w (e ∷ es) h = (later_step q sent more asks le w e h.0, later_steps ms q sent more asks le (run_from ms w (e ∷ [])) es h.1)
 
 -- an answer is one to what was asked before, if the log was the same
 served_before : (n : ℕ) (s : Session) (c : Command) (a b w : World) → b.log ≡ a.log → a.events ≤ b.events → IsServed n s c b w → IsServed n s c a w
@@ -89,7 +93,7 @@ module _ (ms : Monitors) (several : 1 < ms.count) (events : List Event) (F : All
     next_is = ap (λ (r : Ran). r.world) reached
 
     steps_of : AllFit ms.count C.events
-    steps_of = steps_fit ms.count q (length (run ms events).messages) M.below (Some (s, c)) (request_fits c form) C.events C.steps
+    steps_of = steps_fit ms q (length (run ms events).messages) M.below (Some (s, c)) (request_fits c form) (run ms events) C.events C.steps
 
     F2 : AllFit ms.count further
     F2 = all_append (λ e. PlainFits ms.count (plain_of e)) events C.events F steps_of
@@ -139,8 +143,8 @@ module _ (ms : Monitors) (several : 1 < ms.count) (events : List Event) (F : All
     both = record {
       more = C.events ++ serves.more;
       few = (let a = C.few in let b = serves.few in let l = length-append C.events serves.more in omega arith);
-      steps = all_append (IsStep q (length (run ms events).messages) (Some (s, c))) C.events serves.more C.steps
-          (all_map (IsStep q (length (run ms further).messages) (Some (s, c))) (IsStep q (length (run ms events).messages) (Some (s, c))) (λ e h. later_step q (length (run ms events).messages) (length (run ms further).messages) (Some (s, c)) grows e h) serves.more serves.steps);
+      steps = steps_append ms q (length (run ms events).messages) (Some (s, c)) (run ms events) C.next C.events serves.more C.steps C.goes
+          (later_steps ms q (length (run ms events).messages) (length (run ms further).messages) (Some (s, c)) grows C.next serves.more (subst (λ (w : World). AreSteps ms q (length (run ms further).messages) (Some (s, c)) w serves.more) next_is serves.steps));
       fits = all_append (λ e. PlainFits ms.count (plain_of e)) C.events serves.more steps_of serves.fits;
       goes_on = subst (λ (es : List Event). (ran ms es).stop ≡ None) (sym joined) serves.goes_on;
       rest = λ i out. (let a = (C.onward).rest i out in let b = subst (λ (es : List Event). OthersRest q (run ms further) (run ms es)) (sym joined) serves.rest i out in (b.0 ∙ ap (λ (w : World). w.state i) next_is ∙ a.0, b.1 ∙ ap (λ (w : World). w.store i) next_is ∙ a.1));

@@ -18,9 +18,9 @@ ghost use Rattle.quorum_rejoins.specs.Lagging.{CaughtUp, HaveRoom, NoneBetween};
 /// value of a monitor's own is longer than a transaction may be, and a store in a full synchronization has no longer
 /// value at all and can grow by 1,000 bytes.
 ///
-/// At most 1,850n + 1 further events lead there, after which all other monitors are as they were. Then none of the
-/// majority is in a full synchronization, and each lacks at most 11 versions. One that was in a full synchronization,
-/// or lacked more than 11, lacks at most one. No event is a crash, and no message that was sent before is delivered.
+/// At most 1,850n + 1 further events lead there, all of them at monitors of the majority. Then none of the majority is
+/// in a full synchronization, and each lacks at most 11 versions. One that was in a full synchronization, or lacked more
+/// than 11, lacks at most one. No event is a crash, and no message that was sent before is delivered.
 pub fn law_majority_catches_up()
     ensures { (ms : Monitors) → 1 ≤ ms.count → (events : List Event) → AllFit ms.count events
         → (ran ms events).stop ≡ None → (q : List Bool) → IsMajorityOf ms.count q → HaveRoom q (run ms events)
@@ -31,8 +31,8 @@ pub fn law_majority_catches_up()
 /// is room, as for `law_majority_catches_up`; one of its members may lead; and no member lacks from 2 to 11 versions,
 /// unless it is in a full synchronization.
 ///
-/// The command that a client asks is well-formed and not too long. At most 2n² + 1,864n + 6 further events lead to its
-/// reply: the command is a new version of the log, or its service refuses it. All other monitors are then as they were.
+/// The command that a client asks is well-formed and not too long. At most 2n² + 1,864n + 6 further events, all of them at
+/// monitors of the majority, lead to its reply: the command is a new version of the log, or its service refuses it.
 pub fn law_far_majority_serves()
     ensures { (ms : Monitors) → 1 ≤ ms.count → (events : List Event) → AllFit ms.count events
         → (ran ms events).stop ≡ None → (q : List Bool) → IsMajorityOf ms.count q → HaveRoom q (run ms events)
