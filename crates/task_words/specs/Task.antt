@@ -6,6 +6,8 @@ use Rattle.mon_types.specs.declared.member.Member.{Member}
 use Rattle.schedule_text.specs.Spelling.{RuleFits, rule_text}
 use Rattle.schedule_text.specs.Words.{service_text}
 use Rattle.task_words.specs.declared.asked.TheConstants.{LONGEST_WORD, MOST_MADE}
+use Rattle.task_words.specs.declared.task.StoreTask.{StoreTask}
+use Rattle.task_words.specs.declared.task.StoreTask.TheVariants as on_store
 use Rattle.task_words.specs.declared.task.Task.{Task}
 use Rattle.task_words.specs.declared.task.Task.TheVariants.{Replay, Made, Node, Follow, Scrub, ScrubCompare, DumpKeys, DumpPaxos, StoreExport, StoreImport}
 use Rattle.task_words.specs.declared.task.WordsStop.{WordsStop}
@@ -35,6 +37,13 @@ words_of (DumpKeys member disk_a disk_b) = store_words (codes "dump-keys") membe
 words_of (DumpPaxos member disk_a disk_b from to) = store_words (codes "dump-paxos") member disk_a disk_b (decimal from ∷ decimal to ∷ [])
 words_of (StoreExport member disk_a disk_b) = store_words (codes "store-export") member disk_a disk_b []
 words_of (StoreImport member disk_a disk_b) = store_words (codes "store-import") member disk_a disk_b []
+
+-- the task of a command on a member's store that takes no other arguments
+abbrev pub task_on : StoreTask → Member → (disk_a disk_b : List ℕ) → Task
+task_on on_store.Scrub member disk_a disk_b = Scrub member disk_a disk_b
+task_on on_store.DumpKeys member disk_a disk_b = DumpKeys member disk_a disk_b
+task_on on_store.Export member disk_a disk_b = StoreExport member disk_a disk_b
+task_on on_store.Import member disk_a disk_b = StoreImport member disk_a disk_b
 
 -- the most events of a schedule that is made
 abbrev pub most_made : ℕ

@@ -12,14 +12,14 @@ ghost use Rattle.schedule_text.specs.Words.{service_text};
 ghost use Rattle.task_words.specs.Addresses.{IsAddress, addresses_text};
 ghost use Rattle.task_words.specs.Commands.{command, follow_texts, made_texts, node_texts, store_texts, versions_texts};
 ghost use Rattle.task_words.specs.Matches.{AreTexts, IsFound, IsGiven, IsText};
-ghost use Rattle.task_words.specs.Task.{Asks, HasWords, words_of};
+ghost use Rattle.task_words.specs.Task.{Asks, HasWords, task_on, words_of};
 ghost use Rattle.task_words.specs.declared.task.Task.{Task as tasks};
 ghost use Rattle.task_words.specs.declared.task.Task.TheVariants as task;
 
 use crate::addresses::{addresses_of, count_of};
 use crate::asked::{MOST_FOLLOWED, MOST_MADE};
 use crate::numbers::{member_of, number_of, rule_in, service_in};
-use crate::task::{Task, WordsStop};
+use crate::task::{StoreTask, Task, WordsStop};
 use clap::ArgMatches;
 use election_rules::Rule;
 use mon_bytes::{Items, Text};
@@ -156,36 +156,20 @@ fn follow_in(alloc: Global, found: &ArgMatches<'_>) -> Result<Task, WordsStop>
     })
 }
 
-/// The task of the arguments after `scrub`.
-fn scrub_in(alloc: Global, found: &ArgMatches<'_>) -> Result<Task, WordsStop>
+/// The task on a store of the arguments after the name of its command.
+fn store_in(
+    alloc: Global,
+    found: &ArgMatches<'_>,
+    what: StoreTask,
+) -> Result<Task, WordsStop>
     ensures { (member : members) (disk_a disk_b : List ℕ)
         → AreTexts (rows_of (found_of found.now)) store_texts (decimal member.rank ∷ decimal member.monitors ∷ disk_a ∷ disk_b ∷ [])
-        → IsGiven (task.Scrub member disk_a disk_b) result }
+        → IsGiven (task_on what member disk_a disk_b) result }
 {
     let member = member_in(found)?;
     let disk_a = path_in(alloc, found, "DISK_A")?;
     let disk_b = path_in(alloc, found, "DISK_B")?;
-    Ok(Task::Scrub {
-        member,
-        disk_a,
-        disk_b,
-    })
-}
-
-/// The task of the arguments after `dump-keys`.
-fn dump_keys_in(alloc: Global, found: &ArgMatches<'_>) -> Result<Task, WordsStop>
-    ensures { (member : members) (disk_a disk_b : List ℕ)
-        → AreTexts (rows_of (found_of found.now)) store_texts (decimal member.rank ∷ decimal member.monitors ∷ disk_a ∷ disk_b ∷ [])
-        → IsGiven (task.DumpKeys member disk_a disk_b) result }
-{
-    let member = member_in(found)?;
-    let disk_a = path_in(alloc, found, "DISK_A")?;
-    let disk_b = path_in(alloc, found, "DISK_B")?;
-    Ok(Task::DumpKeys {
-        member,
-        disk_a,
-        disk_b,
-    })
+    Ok(what.on(member, disk_a, disk_b))
 }
 
 /// The task of the arguments after `dump-paxos`.
@@ -209,38 +193,6 @@ fn dump_paxos_in(alloc: Global, found: &ArgMatches<'_>) -> Result<Task, WordsSto
     })
 }
 
-/// The task of the arguments after `store-export`.
-fn export_in(alloc: Global, found: &ArgMatches<'_>) -> Result<Task, WordsStop>
-    ensures { (member : members) (disk_a disk_b : List ℕ)
-        → AreTexts (rows_of (found_of found.now)) store_texts (decimal member.rank ∷ decimal member.monitors ∷ disk_a ∷ disk_b ∷ [])
-        → IsGiven (task.StoreExport member disk_a disk_b) result }
-{
-    let member = member_in(found)?;
-    let disk_a = path_in(alloc, found, "DISK_A")?;
-    let disk_b = path_in(alloc, found, "DISK_B")?;
-    Ok(Task::StoreExport {
-        member,
-        disk_a,
-        disk_b,
-    })
-}
-
-/// The task of the arguments after `store-import`.
-fn import_in(alloc: Global, found: &ArgMatches<'_>) -> Result<Task, WordsStop>
-    ensures { (member : members) (disk_a disk_b : List ℕ)
-        → AreTexts (rows_of (found_of found.now)) store_texts (decimal member.rank ∷ decimal member.monitors ∷ disk_a ∷ disk_b ∷ [])
-        → IsGiven (task.StoreImport member disk_a disk_b) result }
-{
-    let member = member_in(found)?;
-    let disk_a = path_in(alloc, found, "DISK_A")?;
-    let disk_b = path_in(alloc, found, "DISK_B")?;
-    Ok(Task::StoreImport {
-        member,
-        disk_a,
-        disk_b,
-    })
-}
-
 /// The task of the subcommand that was met.
 pub(crate) fn task_in(alloc: Global, matches: &ArgMatches<'_>) -> Result<Task, WordsStop>
     ensures { (t : tasks) → Asks t (words_of t) → subcommand_rows_of matches.now ≡ subcommand_of command (words_of t) → IsGiven t result }
@@ -253,12 +205,12 @@ pub(crate) fn task_in(alloc: Global, matches: &ArgMatches<'_>) -> Result<Task, W
         "made" => made_in(found),
         "node" => node_in(alloc, found),
         "follow" => follow_in(alloc, found),
-        "scrub" => scrub_in(alloc, found),
+        "scrub" => store_in(alloc, found, StoreTask::Scrub),
         "scrub-compare" => Ok(Task::ScrubCompare),
-        "dump-keys" => dump_keys_in(alloc, found),
+        "dump-keys" => store_in(alloc, found, StoreTask::DumpKeys),
         "dump-paxos" => dump_paxos_in(alloc, found),
-        "store-export" => export_in(alloc, found),
-        "store-import" => import_in(alloc, found),
+        "store-export" => store_in(alloc, found, StoreTask::Export),
+        "store-import" => store_in(alloc, found, StoreTask::Import),
         _ => Err(WordsStop::Refused),
     }
 }

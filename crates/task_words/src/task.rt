@@ -69,6 +69,48 @@ pub enum Task {
     },
 }
 
+/// What is done with a member's store, by a command that takes no other arguments.
+#[derive(Clone, Copy)]
+pub(crate) enum StoreTask {
+    Scrub,
+    DumpKeys,
+    Export,
+    Import,
+}
+
+impl StoreTask {
+    ghost use Rattle.std.specs.Prelude.{◌≡◌};
+    ghost use Rattle.task_words.specs.Task.{task_on};
+
+    /// The task with the store on two files.
+    pub(crate) fn on(self, member: Member, disk_a: Text, disk_b: Text) -> Task
+        ensures { result ≡ task_on self member disk_a disk_b }
+    {
+        match self {
+            StoreTask::Scrub => Task::Scrub {
+                member,
+                disk_a,
+                disk_b,
+            },
+            StoreTask::DumpKeys => Task::DumpKeys {
+                member,
+                disk_a,
+                disk_b,
+            },
+            StoreTask::Export => Task::StoreExport {
+                member,
+                disk_a,
+                disk_b,
+            },
+            StoreTask::Import => Task::StoreImport {
+                member,
+                disk_a,
+                disk_b,
+            },
+        }
+    }
+}
+
 /// Why arguments gave no task.
 #[derive(Clone, Copy, Debug, PartialEq, Eq, Error)]
 pub enum WordsStop {

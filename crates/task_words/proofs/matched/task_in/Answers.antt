@@ -34,7 +34,7 @@ pub returns-in-scrub : goal.returns-in-scrub
 returns-in-scrub c = λ t asks same.
     let rows = rows_of (found_of c.in-Some.found.now) in
     let it = met_as t (codes "scrub") c.in-Some.name.now rows (is_met t c.args.matches.now c.in-Some.name.now rows asks same c.in-Some.ensures.name c.in-Some.ensures.rows) asks.has c.in-scrub.is in
-    given_as t _ c.scrub_in.result it.is (c.scrub_in.ensures it.fields.0 it.fields.1 it.fields.2 it.texts)
+    given_as t _ c.store_in.result it.is (c.store_in.ensures it.fields.0 it.fields.1 it.fields.2 it.texts)
 
 pub returns-in-text : goal.returns-in-text
 returns-in-text c = λ t asks same.
@@ -46,7 +46,7 @@ pub returns-in-text-2 : goal.returns-in-text-2
 returns-in-text-2 c = λ t asks same.
     let rows = rows_of (found_of c.in-Some.found.now) in
     let it = met_as t (codes "dump-keys") c.in-Some.name.now rows (is_met t c.args.matches.now c.in-Some.name.now rows asks same c.in-Some.ensures.name c.in-Some.ensures.rows) asks.has c.in-text-2.is in
-    given_as t _ c.dump_keys_in.result it.is (c.dump_keys_in.ensures it.fields.0 it.fields.1 it.fields.2 it.texts)
+    given_as t _ c.store_in-in-text-2.result it.is (c.store_in-in-text-2.ensures it.fields.0 it.fields.1 it.fields.2 it.texts)
 
 pub returns-in-text-3 : goal.returns-in-text-3
 returns-in-text-3 c = λ t asks same.
@@ -58,10 +58,10 @@ pub returns-in-text-4 : goal.returns-in-text-4
 returns-in-text-4 c = λ t asks same.
     let rows = rows_of (found_of c.in-Some.found.now) in
     let it = met_as t (codes "store-export") c.in-Some.name.now rows (is_met t c.args.matches.now c.in-Some.name.now rows asks same c.in-Some.ensures.name c.in-Some.ensures.rows) asks.has c.in-text-4.is in
-    given_as t _ c.export_in.result it.is (c.export_in.ensures it.fields.0 it.fields.1 it.fields.2 it.texts)
+    given_as t _ c.store_in-in-text-4.result it.is (c.store_in-in-text-4.ensures it.fields.0 it.fields.1 it.fields.2 it.texts)
 
 pub returns-in-text-5 : goal.returns-in-text-5
 returns-in-text-5 c = λ t asks same.
     let rows = rows_of (found_of c.in-Some.found.now) in
     let it = met_as t (codes "store-import") c.in-Some.name.now rows (is_met t c.args.matches.now c.in-Some.name.now rows asks same c.in-Some.ensures.name c.in-Some.ensures.rows) asks.has c.in-text-5.is in
-    given_as t _ c.import_in.result it.is (c.import_in.ensures it.fields.0 it.fields.1 it.fields.2 it.texts)
+    given_as t _ c.store_in-in-text-5.result it.is (c.store_in-in-text-5.ensures it.fields.0 it.fields.1 it.fields.2 it.texts)
