@@ -23,8 +23,8 @@ use Rattle.quorum_model.specs.Events.{AllFit}
 use Rattle.quorum_model.specs.Monitors.{Monitors}
 use Rattle.quorum_model.specs.Runs.{run}
 use Rattle.quorum_model.specs.Shown.{IsShown, Shown, ShowsLog}
-use Rattle.quorum_model.specs.World.{Acknowledged, Asked, Event, Replied, World}
-use Rattle.quorum_network.proofs.Adding.{IsBy, IsLater, IsRepliedBy, given}
+use Rattle.quorum_model.specs.World.{Acknowledged, Acknowledgement, Asked, Event, Replied, World, given}
+use Rattle.quorum_network.proofs.Adding.{IsBy, IsLater, IsRepliedBy}
 use Rattle.quorum_network.proofs.Assembled.{all_self, assembly}
 use Rattle.quorum_network.proofs.Going.{GoesOn, grown_log}
 use Rattle.quorum_network.proofs.Invariant.{IsSaid}
@@ -35,7 +35,7 @@ use Rattle.quorum_network.proofs.Whole.{Stands, given_more}
 use Rattle.quorum_network.specs.History.{Extends}
 use Rattle.quorum_network.specs.Network.{Network}
 use Rattle.quorum_network.specs.Promises.{AreAnswers, IsLogOf, IsNoOlder, IsOfLog, Requested}
-use Rattle.quorum_network.specs.Requests.{Acknowledgement, Leadership}
+use Rattle.quorum_network.specs.Requests.{Leadership}
 use Rattle.quorum_network.specs.Running.{answer_of}
 
 abbrev pub answer : Replied → Answer

@@ -38,11 +38,10 @@ use Rattle.mon_wire.specs.declared.request.Service.{Service}
 use Rattle.mon_wire.specs.declared.request.Session.{Session}
 use Rattle.network_answers.specs.Followers.{AreRising, Reaches, Writes}
 use Rattle.quorum_model.specs.Shown.{IsShown}
-use Rattle.quorum_model.specs.World.{Asked, Replied, World, first_world}
+use Rattle.quorum_model.specs.World.{Acknowledgement, Asked, Replied, World, first_world}
 use Rattle.quorum_network.proofs.Assembled.{contains_first, contains_later}
 use Rattle.quorum_network.specs.Network.{Posted}
 use Rattle.quorum_network.specs.Promises.{AreAnswers, IsJoined, IsOfLog, IsReply, Numbers, ReachesClient}
-use Rattle.quorum_network.specs.Requests.{Acknowledgement}
 use Rattle.quorum_network.specs.Running.{reply_message}
 
 -- ---- replies that are the log's, as replies of a run of the model

@@ -19,11 +19,11 @@ use Rattle.quorum_answers.specs.Refused.{Refuses}
 use Rattle.quorum_model.specs.Clients.{command_of}
 use Rattle.quorum_model.specs.Monitors.{Monitors}
 use Rattle.quorum_model.specs.Shown.{AreAfter}
-use Rattle.quorum_model.specs.World.{Asked}
+use Rattle.quorum_model.specs.World.{Acknowledgement, Asked}
 use Rattle.quorum_network.specs.History.{Extends}
 use Rattle.quorum_network.specs.Network.{AllMay, Posted, Step, network}
 use Rattle.quorum_network.specs.Promises.{AreAnswers, IsLogOf, IsNoOlder, IsOfLog, Requested}
-use Rattle.quorum_network.specs.Requests.{Acknowledgement, acknowledgements, requests}
+use Rattle.quorum_network.specs.Requests.{acknowledgements, requests}
 use Rattle.quorum_network.specs.Running.{reply_message}
 
 -- ---- answers

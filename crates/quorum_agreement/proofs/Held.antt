@@ -26,9 +26,9 @@ use Rattle.quorum_laws.specs.Accepting.{HasAccepted, IsMajorityOf, readings_at}
 use Rattle.quorum_laws.specs.Values.{AcceptedNothing, has_heard}
 use Rattle.quorum_model.specs.Growth.{last_of}
 use Rattle.quorum_model.specs.Happens.{is_active}
-use Rattle.quorum_model.specs.Kept.{IsKept, LeaderHas}
+use Rattle.quorum_model.specs.Kept.{IsKeptIn, LeaderHas}
 use Rattle.quorum_model.specs.Monitors.{Monitors}
-use Rattle.quorum_model.specs.World.{Acknowledged, Asked, World}
+use Rattle.quorum_model.specs.World.{Acknowledged, Asked, World, given}
 use Rattle.quorum_walk.proofs.Ranks.{majorities}
 use Rattle.quorum_walk.proofs.Sparing.{own_of}
 use Rattle.std.proofs.Common.{Bool, List, None, Option, Some, ap, arith, cond, eqb, false, inl, inr, length, ltb, refl, subst, sym, true, ℕ, ◌%◌, ◌<◌, ◌||◌, ◌∙◌, ◌≡◌, ◌≤◌, ◌⊎◌}
@@ -232,7 +232,7 @@ module _ (ms : Monitors) (w : World) (J : InvOf ms w) (a : Acknowledged) (H : Is
   active_votes phase.Previous t = no t
   active_votes phase.Peon t = no t
 
-  leader_has : (i : ℕ) → i < n → (o : Option State) → w.state i ≡ o → LeaderHas a o (w.store i)
+  leader_has : (i : ℕ) → i < n → (o : Option State) → w.state i ≡ o → LeaderHas (given a) o (w.store i)
   leader_has i lt None e = tt
   leader_has i lt (Some s) e = λ t le.
       let K = state_holds ms w J i s e in
@@ -240,5 +240,5 @@ module _ (ms : Monitors) (w : World) (J : InvOf ms w) (a : Acknowledged) (H : Is
       let l = last_is (w.store i) in
       (omega arith, λ marked. false≢true (sym (votes_unmarked n J.g i (core_of (own_of (readings_at w i)) s) s.phase (active_votes s.phase t) K) ∙ there_marked (w.store i) marked))
 
-  pub is_kept : IsKept n w a
+  pub is_kept : IsKeptIn n w a
   is_kept = record { some = H.some; within = H.within; put = H.put; leaders = λ i lt. leader_has i lt (w.state i) refl }

@@ -109,7 +109,7 @@ member_votes : (p : Phase) → is_member p ≡ true → votes p ≡ true
 member_votes p e = ap (λ (b : Bool). b || same_phase p phase.Electing) e
 
 -- a version that was not acknowledged before is acknowledged once
-once_push : (before : List Acknowledged) (a : Acknowledged) → AcknowledgedOnce before → AllByRecursion (λ (b : Acknowledged). ¬ (a.version ≡ b.version)) before → AcknowledgedOnce (before ++ a ∷ [])
+once_push : (before : List Acknowledged) (a : Acknowledged) → AcknowledgedOnce (λ (c : Acknowledged). c.version) before → AllByRecursion (λ (b : Acknowledged). ¬ (a.version ≡ b.version)) before → AcknowledgedOnce (λ (c : Acknowledged). c.version) (before ++ a ∷ [])
 once_push [] a h k = (tt, tt)
 once_push (b ∷ before) a h k = (all_append (λ (c : Acknowledged). ¬ (c.version ≡ b.version)) before (a ∷ []) h.0 (k.0, tt), once_push before a h.1 k.1)
 
@@ -300,7 +300,7 @@ module _ (ms : Monitors) (w next : World) (I : InvOf ms w) (K : InvOf ms next) (
   Founded x = IsFounded next K.g next.events rank m x
 
   quietly : acknowledgements_of next.events m d.y.state d.y.out ≡ [] → AllByRecursion NoShowSent d.y.out → AllByRecursion Founded d.y.out → IsSafe ms next K
-  quietly none k f = safe_more ms w next I K O S stills stems later [] (replies_of next.events rank m d.y.out) (messages_of d.y.out) (M.acks ∙ ap (λ (z : List Acknowledged). w.acknowledged ++ z) none) M.replied M.messages tt (subst AcknowledgedOnce (sym (append-nil w.acknowledged)) S.once)
+  quietly none k f = safe_more ms w next I K O S stills stems later [] (replies_of next.events rank m d.y.out) (messages_of d.y.out) (M.acks ∙ ap (λ (z : List Acknowledged). w.acknowledged ++ z) none) M.replied M.messages tt (subst (AcknowledgedOnce (λ (a : Acknowledged). a.version)) (sym (append-nil w.acknowledged)) S.once)
       (all_both _ _ _ (quiet_replies next rank m last_then d.y.out k) (replies_event next.events rank m d.y.out)) (founded_replies next K.g next.events rank m d.y.out f) (λ a h. quiet_fenced a next.events rank m d.y.out k)
       (founded_routes next K.g next.events rank m d.y.out f)
 
@@ -356,7 +356,7 @@ module _ (ms : Monitors) (w next : World) (I : InvOf ms w) (K : InvOf ms next) (
     fenced a h = fenced_by a answer R.reply (λ lt e. let v = shows_it ms w I a h rank below s there_before d.by.at R.readable still_before (e ∙ ap epoch_of same) R.member in let l = last_is m in let q = ap (λ (r : Readings). r.last) same in omega arith)
 
     shown_then : IsSafe ms next K
-    shown_then = safe_more ms w next I K O S stills stems later [] (answer ∷ []) [] (M.acks ∙ ap (λ (out : List Sent). w.acknowledged ++ acknowledgements_of next.events m d.y.state out) R.out ∙ ap (λ (z : List Acknowledged). w.acknowledged ++ z) none) (M.replied ∙ ap (λ (out : List Sent). w.replied ++ replies_of next.events rank m out) R.out) (M.messages ∙ ap (λ (out : List Sent). w.messages ++ messages_of out) R.out) tt (subst AcknowledgedOnce (sym (append-nil w.acknowledged)) S.once) ((is_shown, refl), tt) (no_answer next answer R.reply no_done, tt) (λ a h. (fenced a h, tt)) tt
+    shown_then = safe_more ms w next I K O S stills stems later [] (answer ∷ []) [] (M.acks ∙ ap (λ (out : List Sent). w.acknowledged ++ acknowledgements_of next.events m d.y.state out) R.out ∙ ap (λ (z : List Acknowledged). w.acknowledged ++ z) none) (M.replied ∙ ap (λ (out : List Sent). w.replied ++ replies_of next.events rank m out) R.out) (M.messages ∙ ap (λ (out : List Sent). w.messages ++ messages_of out) R.out) tt (subst (AcknowledgedOnce (λ (a : Acknowledged). a.version)) (sym (append-nil w.acknowledged)) S.once) ((is_shown, refl), tt) (no_answer next answer R.reply no_done, tt) (λ a h. (fenced a h, tt)) tt
       where
         no_done : done_in R.reply ≡ None
         no_done = by R.read

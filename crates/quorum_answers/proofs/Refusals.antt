@@ -52,7 +52,7 @@ use Rattle.quorum_model.specs.Clients.{messages_of, replies_of, with_asked}
 use Rattle.quorum_model.specs.Events.{AllFit, PlainFits}
 use Rattle.quorum_model.specs.Growth.{last_of}
 use Rattle.quorum_model.specs.Happens.{Stop, happens, kept_only, lost, moved, unmoved}
-use Rattle.quorum_model.specs.Kept.{IsKept}
+use Rattle.quorum_model.specs.Kept.{IsKeptIn}
 use Rattle.quorum_model.specs.Monitors.{Monitors}
 use Rattle.quorum_model.specs.Runs.{goes_on, ran_from, run, run_from}
 use Rattle.quorum_model.specs.World.{Acknowledged, Asked, Envelope, Event, Plain, Replied, World, first_world, plain_of}
@@ -166,7 +166,7 @@ module _ (ms : Monitors) (w : World) (R : Reached ms w) where
 
   -- no version was acknowledged that the log doesn't have
   in_log : AllByRecursion (λ (a : Acknowledged). a.version ≤ length w.log) w.acknowledged
-  in_log = all_map (IsKept ms.count w) _ (λ a k. k.within) w.acknowledged (subst (λ (v : World). AllByRecursion (IsKept ms.count v) v.acknowledged) (world_is ms w R) (let S = safe ms R.events R.fit in let K = S.kept in K.each))
+  in_log = all_map (IsKeptIn ms.count w) _ (λ a k. k.within) w.acknowledged (subst (λ (v : World). AllByRecursion (IsKeptIn ms.count v) v.acknowledged) (world_is ms w R) (let S = safe ms R.events R.fit in let K = S.kept in K.each))
 
   leads : (i : ℕ) (s : State) → i < ms.count → w.state i ≡ Some s → s.phase ≡ phase.Active → Covered w (epoch_of (readings_at w i)) (readings_at w i).last
   leads = whole.leader_covers ms w (subst (whole.Holds ms) (world_is ms w R) (whole.after_events ms R.events R.fit))

@@ -18,7 +18,7 @@ use Rattle.mon_wire.specs.declared.reply.Reply.TheVariants as reply
 use Rattle.mon_wire.specs.declared.request.Service.{Service}
 use Rattle.mon_wire.specs.declared.request.Service.TheVariants as service
 use Rattle.quorum_model.specs.Growth.{record_in}
-use Rattle.quorum_model.specs.World.{Acknowledged}
+use Rattle.quorum_model.specs.World.{Acknowledged, Acknowledgement}
 
 -- ---- the version that a send says is done
 
@@ -52,16 +52,28 @@ kv_or_log [] [] = (service.Kv, [])
 abbrev pub incremental_in : List Op → Service × List ℕ
 incremental_in ops = kv_or_log (put_in service.Kv ops) (put_in service.Log ops)
 
-abbrev pub acknowledgement : (event : ℕ) → Store → State → ℕ → Acknowledged
-acknowledgement event m s v =
+-- the acknowledgement of version v
+abbrev pub acknowledges : Store → State → ℕ → Acknowledgement
+acknowledges m s v =
     let made = incremental_in (record_kept m v) in
     record {
-      event = event;
       version = v;
       pn = s.leader.pn;
       epoch = epoch_of (readings_of m);
       service = made.0;
       incremental = made.1;
+    }
+
+abbrev pub acknowledgement : (event : ℕ) → Store → State → ℕ → Acknowledged
+acknowledgement event m s v =
+    let a = acknowledges m s v in
+    record {
+      event = event;
+      version = a.version;
+      pn = a.pn;
+      epoch = a.epoch;
+      service = a.service;
+      incremental = a.incremental;
     }
 
 -- What the sends of an event acknowledge. After the event the monitor keeps m and remembers s.

@@ -11,24 +11,30 @@ use Rattle.mon_wire.specs.declared.reply.Reply.TheVariants as reply
 use Rattle.quorum_model.specs.Clients.{made_by}
 use Rattle.quorum_model.specs.Growth.{last_of}
 use Rattle.quorum_model.specs.Happens.{is_active}
-use Rattle.quorum_model.specs.World.{World, Asked, Acknowledged, Replied}
+use Rattle.quorum_model.specs.World.{World, Asked, Acknowledged, Acknowledgement, Replied, given}
 
 -- an active leader with a number of at least that of the acknowledgement has the version, and is under no full synchronization
-abbrev pub LeaderHas : Acknowledged → Option State → Store → Type 0
+abbrev pub LeaderHas : Acknowledgement → Option State → Store → Type 0
 LeaderHas a None m = Unit {0}
 LeaderHas a (Some s) m = is_active s.phase ≡ true → a.pn ≤ s.leader.pn → (a.version ≤ last_of m) × ¬ (is_marked m ≡ true)
 
--- the version is in the log and puts what was acknowledged, and every later leader has it
-pub record IsKept (n : ℕ) (w : World) (a : Acknowledged) : Type 0 where
+-- The version is in the log and puts what was acknowledged, and every later leader has it. Each monitor remembers
+-- `state i`, unless it is down, and its map is `store i`.
+pub record IsKept (n : ℕ) (log : List (List ℕ)) (state : ℕ → Option State) (store : ℕ → Store) (a : Acknowledgement)
+    : Type 0 where
   pub some : 1 ≤ a.version
-  pub within : a.version ≤ length w.log
-  pub put : Contains (put_in a.service (ops_in (entry w.log a.version))) a.incremental
-  pub leaders : (i : ℕ) → i < n → LeaderHas a (w.state i) (w.store i)
+  pub within : a.version ≤ length log
+  pub put : Contains (put_in a.service (ops_in (entry log a.version))) a.incremental
+  pub leaders : (i : ℕ) → i < n → LeaderHas a (state i) (store i)
+
+abbrev pub IsKeptIn : ℕ → World → Acknowledged → Type 0
+IsKeptIn n w a = IsKept n w.log w.state w.store (given a)
 
 -- no version is acknowledged twice
-abbrev pub AcknowledgedOnce : List Acknowledged → Type 0
-AcknowledgedOnce [] = Unit {0}
-AcknowledgedOnce (a ∷ others) = AllByRecursion (λ b. ¬ (b.version ≡ a.version)) others × AcknowledgedOnce others
+abbrev pub AcknowledgedOnce : {A : Type 0} → (version_of : A → ℕ) → List A → Type 0
+AcknowledgedOnce version_of [] = Unit {0}
+AcknowledgedOnce version_of (a ∷ others) =
+    AllByRecursion (λ b. ¬ (version_of b ≡ version_of a)) others × AcknowledgedOnce version_of others
 
 -- The version was acknowledged, by the reply's event or an earlier one. It was acknowledged for a command that the
 -- reply's session asked of the reply's monitor.
@@ -56,6 +62,6 @@ DoneIsAnswered w r (reply.NotReadable has lease) = Unit {0}
 DoneIsAnswered w r (reply.Busy waiting) = Unit {0}
 
 pub record Kept (n : ℕ) (w : World) : Type 0 where
-  pub each : AllByRecursion (IsKept n w) w.acknowledged
-  pub once : AcknowledgedOnce w.acknowledged
+  pub each : AllByRecursion (IsKeptIn n w) w.acknowledged
+  pub once : AcknowledgedOnce (λ (a : Acknowledged). a.version) w.acknowledged
   pub answered : AllByRecursion (λ r. DoneIsAnswered w r r.reply) w.replied

@@ -47,8 +47,16 @@ pub record Asked : Type 0 where
   pub session : Session
   pub request : Request
 
--- a version that was acknowledged: by the event of this number, under the leader's proposal number and in its epoch, with
--- the service that it changes and the incremental that it puts
+-- What is acknowledged: a version, under the leader's proposal number and in its epoch, with the service that it changes
+-- and the incremental that it puts.
+pub record Acknowledgement : Type 0 where
+  pub version : ℕ
+  pub pn : ℕ
+  pub epoch : ℕ
+  pub service : Service
+  pub incremental : List ℕ
+
+-- an acknowledgement by the event of this number
 pub record Acknowledged : Type 0 where
   pub event : ℕ
   pub version : ℕ
@@ -56,6 +64,10 @@ pub record Acknowledged : Type 0 where
   pub epoch : ℕ
   pub service : Service
   pub incremental : List ℕ
+
+-- an acknowledgement without its event
+abbrev pub given : Acknowledged → Acknowledgement
+given a = record { version = a.version; pn = a.pn; epoch = a.epoch; service = a.service; incremental = a.incremental }
 
 -- a reply, with the number of its event, its monitor, and that monitor's epoch and last version
 pub record Replied : Type 0 where

@@ -10,7 +10,7 @@ use Rattle.quorum_agreement.proofs.Every.{grows}
 use Rattle.quorum_model.specs.Events.{AllFit}
 use Rattle.quorum_model.specs.Monitors.{Monitors, me_of}
 use Rattle.quorum_model.specs.Runs.{run}
-use Rattle.quorum_model.specs.World.{Acknowledged, Asked, Comes, Event, Replied, World}
+use Rattle.quorum_model.specs.World.{Acknowledged, Acknowledgement, Asked, Comes, Event, Replied, World}
 use Rattle.quorum_network.proofs.Adding.{AllLater, IsAt, IsLater, IsRepliedAt}
 use Rattle.quorum_network.proofs.Assembling.{Assembly}
 use Rattle.quorum_network.proofs.Facts.{Facts}
@@ -21,7 +21,7 @@ use Rattle.quorum_network.proofs.Steps.{step_next}
 use Rattle.quorum_network.proofs.Whole.{Stands, reach_more, stands, stands_next}
 use Rattle.quorum_network.specs.History.{Extends}
 use Rattle.quorum_network.specs.Network.{AllMay, Network, Posted, Step, after_step, network}
-use Rattle.quorum_network.specs.Requests.{Acknowledgement, Leadership, acknowledged_at, acknowledgements, asked_by, leaderships, led_at, requests}
+use Rattle.quorum_network.specs.Requests.{Leadership, acknowledged_at, acknowledgements, asked_by, leaderships, led_at, requests}
 
 -- What the later steps add to the run: events, the acknowledgements and replies of these events, and datagrams. A
 -- datagram that goes to a client is of a letter that is such a reply.

@@ -13,9 +13,9 @@ use Rattle.mon_wire.specs.declared.message.Message.{Message}
 use Rattle.quorum_model.specs.Events.{PlainFits}
 use Rattle.quorum_model.specs.Happens.{happens}
 use Rattle.quorum_model.specs.Monitors.{Monitors, me_of}
-use Rattle.quorum_model.specs.World.{Asked, World, Plain, Comes, Envelope, Replied}
+use Rattle.quorum_model.specs.World.{Asked, World, Plain, Comes, Envelope, Replied, Acknowledgement}
 use Rattle.quorum_network.specs.Network.{Network, Posted, Process, Up, Down, map_of, newest, number_of}
-use Rattle.quorum_network.specs.Requests.{Acknowledgement, Leadership}
+use Rattle.quorum_network.specs.Requests.{Leadership}
 use Rattle.quorum_network.specs.Running.{answer_of}
 use Rattle.quorum_network.proofs.Adding.{Adds}
 use Rattle.quorum_network.proofs.Assembling.{Assembly}

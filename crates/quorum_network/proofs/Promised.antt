@@ -22,19 +22,18 @@ use Rattle.log_model.proofs.Lists.{of_all}
 use Rattle.quorum_model.specs.Agree.{Agrees, IsAsked}
 use Rattle.quorum_model.specs.Events.{AllFit}
 use Rattle.quorum_model.specs.Growth.{last_of}
-use Rattle.quorum_model.specs.Kept as model
-use Rattle.quorum_model.specs.Kept.{DoneIsAnswered, IsAnswered}
+use Rattle.quorum_model.specs.Kept.{AcknowledgedOnce, DoneIsAnswered, IsAnswered, IsKeptIn, LeaderHas}
 use Rattle.quorum_model.specs.Monitors.{Monitors, me_of}
-use Rattle.quorum_network.specs.Requests.{Acknowledgement, Leadership, acknowledgements, leaderships, led_at, requests}
+use Rattle.quorum_network.specs.Requests.{Leadership, acknowledgements, leaderships, led_at, requests}
 use Rattle.quorum_model.specs.Safe.{OneActive, Safe}
 use Rattle.mon_msg.specs.Protocol.Readings.{epoch_of, readings_of}
 use Rattle.quorum_model.specs.Runs.{Ran, run}
 use Rattle.quorum_model.specs.Shown.{AskedFor, Fence, IsFenced, IsShown, ShowsLog, WasAskedFor}
-use Rattle.quorum_model.specs.World.{Acknowledged, Asked, Event, Replied, World}
-use Rattle.quorum_network.specs.Network.{AllMay, Down, Network, Posted, Process, Step, Up, map_of, network}
-use Rattle.quorum_network.specs.Promises.{AcknowledgedOnce, AgreeWith, AreAnswers, HaveOneLog, IsDone, IsKept, IsLogOf, IsNoOlder, IsOfLog, IsReply, LeaderHas, Leads, Requested}
+use Rattle.quorum_model.specs.World.{Acknowledged, Acknowledgement, Asked, Event, Replied, World, given}
+use Rattle.quorum_network.specs.Network.{AllMay, Down, Network, Posted, Process, Step, Up, map_of, network, state_of}
+use Rattle.quorum_network.specs.Promises.{AgreeWith, AreAnswers, HaveOneLog, IsDone, IsKeptBy, IsLogOf, IsNoOlder, IsOfLog, IsReply, Leads, Requested}
 use Rattle.quorum_network.specs.Running.{IsOfRun, answer_of}
-use Rattle.quorum_network.proofs.Adding.{AllLater, IsBy, IsLater, given, noted_as}
+use Rattle.quorum_network.proofs.Adding.{AllLater, IsBy, IsLater, noted_as}
 use Rattle.quorum_network.proofs.Assembled.{all_self, assembly}
 use Rattle.quorum_network.proofs.Going.{goes_on, grown_log}
 use Rattle.quorum_network.proofs.Joined.{letters_answer}
@@ -68,7 +67,7 @@ led_as [] i e (k, lt, is) = absurd (omega (arith, lt))
 led_as (x ∷ xs) i e (zero, lt, is) = (0, omega arith, ap (λ (p : ℕ × ℕ). record { rank = p.1; epoch = p.0 }) is)
 led_as (x ∷ xs) i e (suc k, lt, is) = let c = led_as xs i e (k, omega (arith, lt), is) in (suc c.0, omega (arith, c.1), c.2)
 
-given_once : (xs : List Acknowledged) → model.AcknowledgedOnce xs → AcknowledgedOnce (map given xs)
+given_once : (xs : List Acknowledged) → AcknowledgedOnce (λ (a : Acknowledged). a.version) xs → AcknowledgedOnce (λ (a : Acknowledgement). a.version) (map given xs)
 given_once [] h = tt
 given_once (x ∷ xs) h = (all_given (λ (b : Acknowledgement). ¬ (b.version ≡ x.version)) xs h.0, given_once xs h.1)
 
@@ -100,9 +99,9 @@ module _ (n : ℕ) (asks : List Asked) (w : World) (asked : AllByRecursion (λ a
   was : (a : Asked) → Contains w.asked a → Contains asks a
   was a c = of_all (λ a. Contains asks a) w.asked asked a c
 
-  done_is : (v : ℕ) → AllByRecursion (model.IsKept n w) w.acknowledged → IsAnswered w r v → IsDone asks acks w.log r.rank r.session v
+  done_is : (v : ℕ) → AllByRecursion (IsKeptIn n w) w.acknowledged → IsAnswered w r v → IsDone asks acks w.log r.rank r.session v
   done_is v kept A =
-      let k = of_all (model.IsKept n w) w.acknowledged kept A.acknowledged A.among in
+      let k = of_all (IsKeptIn n w) w.acknowledged kept A.acknowledged A.among in
       let a = A.asked in
       let one : a ≡ record { rank = r.rank; session = r.session; request = a.request } = ap (λ (i : ℕ). record { rank = i; session = a.session; request = a.request }) A.rank ∙ ap (λ (s : Session). record { rank = r.rank; session = s; request = a.request }) A.session in
       record {
@@ -113,8 +112,6 @@ module _ (n : ℕ) (asks : List Asked) (w : World) (asked : AllByRecursion (λ a
         within = subst (λ (x : ℕ). x ≤ length w.log) A.version k.within;
         request = a.request;
         requested = subst (λ (x : Asked). Contains asks x) one (was a A.was_asked);
-        service = A.acknowledged.service;
-        incremental = A.acknowledged.incremental;
         made = ap (λ (i : ℕ). made_by i a.request) (sym A.rank) ∙ A.made;
         put = subst (λ (x : ℕ). Contains (put_in A.acknowledged.service (ops_in (entry w.log x))) A.acknowledged.incremental) A.version k.put;
       }
@@ -132,7 +129,7 @@ module _ (n : ℕ) (asks : List Asked) (w : World) (asked : AllByRecursion (λ a
     no_older v is h = all_given (λ (a : Acknowledgement). a.epoch ≡ r.epoch → a.version ≤ v) before (all_self (λ (a : Acknowledged). a.epoch ≡ r.epoch → a.version ≤ v) before (λ a c e.
         let le = h a c (below a c) e in omega (arith, le, is)))
 
-    reply_of_log : (q : Reply) → AllByRecursion (model.IsKept n w) w.acknowledged → r.last ≤ length w.log → ShowsLog w r q → WasAskedFor w r q → DoneIsAnswered w r q → ((a : Acknowledged) → Contains before a → IsFenced a r q)
+    reply_of_log : (q : Reply) → AllByRecursion (IsKeptIn n w) w.acknowledged → r.last ≤ length w.log → ShowsLog w r q → WasAskedFor w r q → DoneIsAnswered w r q → ((a : Acknowledged) → Contains before a → IsFenced a r q)
         → IsOfLog asks acks (map given before) w.log r.rank r.epoch r.session q
     reply_of_log (reply.Shown s paxos version map) kept within shows for answered fenced = (
       subst (λ (k : ℕ). k ≤ length w.log) (sym shows.0) within,
@@ -185,15 +182,15 @@ module _ (ms : Monitors) (asks : List Asked) (net : Network) (es : List Event) (
   value_asked : (v : ℕ) → IsAsked ms.count w.asked w.log v → IsAsked ms.count asks w.log v
   value_asked v A = record { by = A.by; was_asked = of_all (λ a. Contains asks a) w.asked asked A.by A.was_asked; rank = A.rank; command = A.command; is = A.is; form = A.form; ops = A.ops; made = A.made; has_text = A.has_text; spells = A.spells }
 
-  leader_has : (a : Acknowledged) (i : ℕ) (lt : i < ms.count) (p : Process) → net.process i ≡ p → model.LeaderHas a (w.state i) (w.store i) → LeaderHas (given a) p
+  leader_has : (a : Acknowledgement) (i : ℕ) (lt : i < ms.count) (p : Process) → net.process i ≡ p → LeaderHas a (w.state i) (w.store i) → LeaderHas a (state_of p) (map_of p)
   leader_has a i lt (Down m) e h = tt
   leader_has a i lt (Up s) e h =
       let state = I.states i s lt e in
       let store : w.store i ≡ s.node.store.kv = sym (I.maps i lt) ∙ ap map_of e in
-      subst (λ (m : Store). model.LeaderHas a (Some s.node.state) m) store (subst (λ (x : Option State). model.LeaderHas a x (w.store i)) state h)
+      subst (λ (m : Store). LeaderHas a (Some s.node.state) m) store (subst (λ (x : Option State). LeaderHas a x (w.store i)) state h)
 
-  kept_is : (a : Acknowledged) → model.IsKept ms.count w a → IsKept ms.count net w.log (given a)
-  kept_is a k = record { some = k.some; within = k.within; leaders = λ i lt. leader_has a i lt (net.process i) refl (k.leaders i lt) }
+  kept_is : (a : Acknowledged) → IsKeptIn ms.count w a → IsKeptBy ms.count net w.log (given a)
+  kept_is a k = record { some = k.some; within = k.within; put = k.put; leaders = λ i lt. leader_has (given a) i lt (net.process i) refl (k.leaders i lt) }
 
   none_were : Were w []
   none_were a c = absurd (omega (arith, c.1))
@@ -203,7 +200,7 @@ module _ (ms : Monitors) (asks : List Asked) (net : Network) (es : List Event) (
     values = λ v lt. value_asked v ((agrees ms es F).values v lt);
     maps = λ i lt ne. subst (Agrees w.log) (sym (I.maps i lt)) ((agrees ms es F).monitors i lt (λ t. ne (subst (λ (m : Store). is_marked m ≡ true) (sym (I.maps i lt)) t)));
     answers = are_answers [] none_were ls A (λ l c. said_replied ms.count w l l.to (said l c)) net.sent posted;
-    kept = all_given (IsKept ms.count net w.log) w.acknowledged (all_map (model.IsKept ms.count w) (λ (a : Acknowledged). IsKept ms.count net w.log (given a)) kept_is w.acknowledged S.kept.each);
+    kept = all_given (IsKeptBy ms.count net w.log) w.acknowledged (all_map (IsKeptIn ms.count w) (λ (a : Acknowledged). IsKeptBy ms.count net w.log (given a)) kept_is w.acknowledged S.kept.each);
     once = given_once w.acknowledged S.kept.once;
   }
 

@@ -18,7 +18,7 @@ use Rattle.mon_msg.specs.declared.input.Input.{Input}
 use Rattle.std.proofs.lemmas.List.{append-nil}
 use Rattle.std.specs.Option.{option_map}
 use Rattle.quorum_model.specs.Clients.{with_asked}
-use Rattle.quorum_network.specs.Requests.{Acknowledgement, Leadership, acknowledged_at, acknowledged_by, acknowledged_in_turn, asked_by, asked_in_turn, asks_in, came_in, kept_by, led_at, led_by, led_in_turn}
+use Rattle.quorum_network.specs.Requests.{Leadership, acknowledged_at, acknowledged_by, acknowledged_in_turn, asked_by, asked_in_turn, asks_in, came_in, kept_by, led_at, led_by, led_in_turn}
 use Rattle.mon_msg.specs.declared.view.Me.{Me}
 use Rattle.mon_node.specs.Hearing.{Given, due_by, wait_until, clock_read, heard, Heard}
 use Rattle.mon_node.specs.Keeping.{kept}
@@ -42,7 +42,7 @@ use Rattle.quorum_model.specs.Events.{PlainFits}
 use Rattle.quorum_model.specs.Happens.{moved}
 use Rattle.quorum_model.specs.Meets.{Arrival, arrival, message_at, state_at}
 use Rattle.quorum_model.specs.Monitors.{Monitors, me_of}
-use Rattle.quorum_model.specs.World.{Asked, Client, Deliver, Envelope, Plain, Ring, Start, World}
+use Rattle.quorum_model.specs.World.{Acknowledgement, Asked, Client, Deliver, Envelope, Plain, Ring, Start, World}
 use Rattle.quorum_network.specs.Network.{Network, Process, Up, Down, map_of, Doing, Begins, Turns, Until, Whole, Lost, Kept, Step, Left, turn_of, kept_reaction, down, at_end, left_by, with_left, if_made, made_by, after_step, IsAsked, May, newest, number_of}
 use Rattle.quorum_model.specs.Happens.{put_at}
 use Rattle.quorum_network.proofs.Assembled.{contains_first, contains_later}

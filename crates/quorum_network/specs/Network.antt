@@ -11,6 +11,7 @@ use Rattle.mon_link.specs.declared.link.Outgoing.{Outgoing}
 use Rattle.mon_link.specs.declared.link.Peer.{Peer}
 use Rattle.mon_link.specs.declared.link.Peer.TheVariants.{Monitor, Client}
 use Rattle.mon_msg.specs.Protocol.Reaction.{Reaction}
+use Rattle.mon_msg.specs.Protocol.State.{State}
 use Rattle.mon_msg.specs.Protocol.Timers.{due}
 use Rattle.mon_msg.specs.declared.view.Me.{Me}
 use Rattle.mon_node.specs.Hearing.{Given, due_by}
@@ -54,6 +55,11 @@ first_network = record { process = λ _. Down empty; lives = λ _. []; sent = []
 abbrev pub map_of : Process → Store
 map_of (Up s) = s.node.store.kv
 map_of (Down m) = m
+
+-- what a process remembers, unless it is down
+abbrev pub state_of : Process → Option State
+state_of (Up s) = Some s.node.state
+state_of (Down m) = None
 
 -- ---- what happens
 

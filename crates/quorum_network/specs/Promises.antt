@@ -1,5 +1,5 @@
 -- What processes promise: there is one log that only grows, and all maps and all answers on the wire are of it.
-use Rattle.std.specs.Prelude.{◌≡◌, ◌⊎◌, ℕ, ◌<◌, ◌≤◌, max, Bool, true, List, [], ◌∷◌, ◌++◌, length, Some}
+use Rattle.std.specs.Prelude.{◌≡◌, ◌⊎◌, ℕ, ◌<◌, ◌≤◌, max, Bool, true, List, [], ◌++◌, length, Some}
 use Rattle.std.specs.List.{AllByRecursion, Contains}
 use Rattle.mon_frag.specs.Whole.{FromPeer, answered}
 use Rattle.mon_kv.specs.Readers.{is_marked}
@@ -18,17 +18,17 @@ use Rattle.mon_wire.specs.declared.reply.Reply.{Reply}
 use Rattle.mon_wire.specs.declared.reply.Reply.TheVariants as reply
 use Rattle.mon_wire.specs.declared.request.Request.{Request}
 use Rattle.mon_wire.specs.declared.request.Request.TheVariants as request
-use Rattle.mon_wire.specs.declared.request.Service.{Service}
 use Rattle.mon_wire.specs.declared.request.Session.{Session}
 use Rattle.quorum_model.specs.Agree.{Agrees, IsAsked}
 use Rattle.quorum_model.specs.Clients.{made_by}
 use Rattle.quorum_model.specs.Growth.{last_of}
 use Rattle.quorum_model.specs.Happens.{is_active}
+use Rattle.quorum_model.specs.Kept.{AcknowledgedOnce, IsKept}
 use Rattle.quorum_model.specs.Monitors.{Monitors}
 use Rattle.quorum_model.specs.Shown.{AreAfter}
-use Rattle.quorum_model.specs.World.{Asked}
-use Rattle.quorum_network.specs.Network.{Network, Posted, Process, Up, Down, Step, map_of, network}
-use Rattle.quorum_network.specs.Requests.{Acknowledgement, requests, acknowledgements}
+use Rattle.quorum_model.specs.World.{Acknowledgement, Asked}
+use Rattle.quorum_network.specs.Network.{Network, Posted, Up, Step, map_of, network, state_of}
+use Rattle.quorum_network.specs.Requests.{requests, acknowledgements}
 use Rattle.quorum_network.specs.Running.{IsPiece, reply_message}
 
 -- ---- what a client learns
@@ -37,7 +37,7 @@ use Rattle.quorum_network.specs.Running.{IsPiece, reply_message}
 abbrev pub Requested : List Asked → ℕ → Session → Request → Type 0
 Requested requests i session r = Contains requests (record { rank = i; session = session; request = r })
 
--- Version v was acknowledged, and it has in the log what a command of this session makes.
+-- Version v was acknowledged, and it has in the log what was acknowledged, which a command of this session makes.
 pub record IsDone (requests : List Asked) (acks : List Acknowledgement) (log : List (List ℕ)) (i : ℕ) (session : Session)
     (v : ℕ) : Type 0 where
   pub acknowledgement : Acknowledgement
@@ -47,10 +47,8 @@ pub record IsDone (requests : List Asked) (acks : List Acknowledgement) (log : L
   pub within : v ≤ length log
   pub request : Request
   pub requested : Requested requests i session request
-  pub service : Service
-  pub incremental : List ℕ
-  pub made : made_by i request ≡ Some (service, incremental)
-  pub put : Contains (put_in service (ops_in (entry log v))) incremental
+  pub made : made_by i request ≡ Some (acknowledgement.service, acknowledgement.incremental)
+  pub put : Contains (put_in acknowledgement.service (ops_in (entry log v))) acknowledgement.incremental
 
 -- version v is no older than those that were acknowledged before in this epoch
 abbrev pub IsNoOlder : List Acknowledgement → (epoch : ℕ) → (v : ℕ) → Type 0
@@ -119,28 +117,11 @@ pub record AreAnswers (MaySend : (i c : ℕ) → List ℕ → Type 0) (sent : Li
       → AllByRecursion (λ (d : FromPeer). ReachesClient sent numbers d.from d.bytes) came
       → AllByRecursion (λ (d : FromPeer). IsJoined MaySend numbers d.from d.bytes) (answered [] came)
 
--- ---- what is acknowledged lasts
-
--- an active leader with a number of at least that of the acknowledgement has the version, and is under no full
--- synchronization
-abbrev pub LeaderHas : Acknowledgement → Process → Type 0
-LeaderHas a (Down m) = Unit {0}
-LeaderHas a (Up s) = is_active s.node.state.phase ≡ true → a.pn ≤ s.node.state.leader.pn
-    → (a.version ≤ last_of s.node.store.kv) × ¬ (is_marked s.node.store.kv ≡ true)
-
--- the version is in the log, and every later leader has it
-pub record IsKept (n : ℕ) (net : Network) (log : List (List ℕ)) (a : Acknowledgement) : Type 0 where
-  pub some : 1 ≤ a.version
-  pub within : a.version ≤ length log
-  pub leaders : (i : ℕ) → i < n → LeaderHas a (net.process i)
-
--- no version is acknowledged twice
-abbrev pub AcknowledgedOnce : List Acknowledgement → Type 0
-AcknowledgedOnce [] = Unit {0}
-AcknowledgedOnce (a ∷ others) =
-    AllByRecursion (λ (b : Acknowledgement). ¬ (b.version ≡ a.version)) others × AcknowledgedOnce others
-
 -- ---- the log
+
+-- these processes keep what was acknowledged
+abbrev pub IsKeptBy : ℕ → Network → List (List ℕ) → Acknowledgement → Type 0
+IsKeptBy n net log a = IsKept n log (λ i. state_of (net.process i)) (λ i. map_of (net.process i)) a
 
 -- Each entry of the log is the value of a command that a client asked, over the entries before it. All maps are the
 -- log's, except those under a full synchronization. So are all answers that were ever on the wire, and all that was
@@ -150,8 +131,8 @@ pub record IsLogOf (ms : Monitors) (requests : List Asked) (acks : List Acknowle
   pub values : (v : ℕ) → v < length log → IsAsked ms.count requests log v
   pub maps : (i : ℕ) → i < ms.count → ¬ (is_marked (map_of (net.process i)) ≡ true) → Agrees log (map_of (net.process i))
   pub answers : AreAnswers (IsReply ms.count requests acks [] log) net.sent
-  pub kept : AllByRecursion (IsKept ms.count net log) acks
-  pub once : AcknowledgedOnce acks
+  pub kept : AllByRecursion (IsKeptBy ms.count net log) acks
+  pub once : AcknowledgedOnce (λ (a : Acknowledgement). a.version) acks
 
 -- After these steps there is a log, and after later ones the same log, perhaps longer. What is answered in the later
 -- ones is no older than what was acknowledged in the earlier ones.

@@ -14,10 +14,10 @@ use Rattle.mon_node.specs.Turns.{Turn, map_after}
 use Rattle.mon_node.specs.declared.end.NodeEnd.{NodeEnd}
 use Rattle.mon_node.specs.declared.hearing.TimedInput.{TimedInput}
 use Rattle.mon_tx.specs.Map.{Store}
-use Rattle.quorum_model.specs.Acknowledging.{done_by}
+use Rattle.quorum_model.specs.Acknowledging.{acknowledges, done_by}
 use Rattle.quorum_model.specs.Happens.{is_active}
 use Rattle.quorum_model.specs.Monitors.{Monitors, me_of}
-use Rattle.quorum_model.specs.World.{Asked}
+use Rattle.quorum_model.specs.World.{Acknowledgement, Asked}
 use Rattle.quorum_network.specs.Network.{Network, Step, Until, Whole, Lost, Kept, kept_reaction, network, turn_of}
 
 -- ---- requests
@@ -46,15 +46,6 @@ requests ms [] = []
 requests ms (s ∷ earlier) = requests ms earlier ++ asked_by (network ms earlier) s (me_of ms s.rank)
 
 -- ---- acknowledgements
-
--- the version that a leader says is done, with the leader's proposal number and epoch
-pub record Acknowledgement : Type 0 where
-  pub version : ℕ
-  pub pn : ℕ
-  pub epoch : ℕ
-
-abbrev pub acknowledges : Store → State → ℕ → Acknowledgement
-acknowledges m s v = record { version = v; pn = s.leader.pn; epoch = epoch_of (readings_of m) }
 
 -- What the sends of a reaction acknowledge. After the reaction the monitor keeps m and remembers s.
 abbrev pub acknowledged_in : Store → State → List Sent → List Acknowledgement
