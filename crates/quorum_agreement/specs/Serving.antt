@@ -11,6 +11,6 @@ abbrev pub KeptAndShown : ℕ → World → Type 0
 KeptAndShown n w = Kept n w × Shown w
 
 -- No epoch has two active leaders; a lease is given by a leader that has its whole quorum, to peons that have committed all that they
--- accepted; and what is shown after an acknowledgement, in its epoch, isn't older.
+-- accepted; and the monitor of a read after an acknowledgement, in its epoch, has the acknowledged version.
 abbrev pub Fenced : ℕ → World → Type 0
 Fenced n w = OneActive w × LeasesHold n w × Fence w

@@ -50,9 +50,10 @@ pub fn law_kept()
     ensures { (ms : Monitors) (events : List Event) → AllFit ms.count events → KeptAndShown ms.count (run ms events) }
 {}
 
-/// Every read after an acknowledgement, in its epoch, includes the acknowledged version, in every run of any monitors.
-/// This holds because no epoch has two active leaders, a leader gives a lease only if its whole quorum is in its epoch,
-/// and a peon that has a lease has committed all that it ever accepted.
+/// The monitor of every read after an acknowledgement, in its epoch, has the acknowledged version, in every run of any
+/// monitors. So a map that it shows includes that version; changes may end before it, if others follow. This holds
+/// because no epoch has two active leaders, a leader gives a lease only if its whole quorum is in its epoch, and a peon
+/// that has a lease has committed all that it ever accepted.
 pub fn law_fence()
     ensures { (ms : Monitors) (events : List Event) → AllFit ms.count events → Fenced ms.count (run ms events) }
 {}

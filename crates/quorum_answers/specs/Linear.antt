@@ -27,16 +27,17 @@ abbrev pub its_epoch : Operation → ℕ
 its_epoch (Write a) = a.epoch
 its_epoch (Read r) = r.epoch
 
--- The order of the log: a write has its version, and a read follows the last version that it shows.
+-- The order of the log: a write has its version, and a read follows the last version of its monitor.
 abbrev pub Precedes : Operation → Operation → Type 0
 Precedes (Write a) (Write b) = a.version < b.version
 Precedes (Write a) (Read r) = a.version ≤ r.last
 Precedes (Read r) (Write a) = r.last < a.version
 Precedes (Read q) (Read r) = q.last ≤ r.last
 
--- Each write is a version of the one log, and each read shows what the versions up to its last one make. Of two
--- operations of one epoch, at whichever monitors, the one of the earlier event comes first in that log. Whether that is
--- the order of time depends on when clients asked, which isn't stated here.
+-- Each write is a version of the one log, and each read shows what the versions up to its monitor's last one make: the
+-- map, or changes and whether others follow. Of two operations of one epoch, at whichever monitors, the one of the
+-- earlier event comes first in that log. Whether that is the order of time depends on when clients asked, which isn't
+-- stated here.
 pub record Linearizable (n : ℕ) (w : World) : Type 0 where
   pub writes : Kept n w
   pub reads : Shown w

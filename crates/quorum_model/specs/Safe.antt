@@ -1,6 +1,6 @@
 -- When a run is safe: no two monitors disagree, nothing acknowledged is lost, what is shown is the log's, each store is
--- what its monitor wrote, no epoch has two active leaders, and a read includes what was acknowledged before it in its
--- epoch.
+-- what its monitor wrote, no epoch has two active leaders, and the monitor of a read has what was acknowledged before it
+-- in its epoch.
 use Rattle.std.specs.Prelude.{◌≡◌, ℕ, ◌<◌, List, [], ◌∷◌}
 use Rattle.std.specs.List.{Contains}
 use Rattle.std.specs.FinMap.{empty}

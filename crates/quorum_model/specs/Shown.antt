@@ -65,6 +65,7 @@ IsFenced a r reply.Unavailable = Unit {0}
 IsFenced a r (reply.NotReadable has lease) = Unit {0}
 IsFenced a r (reply.Busy waiting) = Unit {0}
 
--- what is read after an acknowledgement, in its epoch, includes that version
+-- The monitor of a read after an acknowledgement, in its epoch, has that version. So a map includes it. Changes may end
+-- before it, if others follow.
 abbrev pub Fence : World → Type 0
 Fence w = AllByRecursion (λ a. AllByRecursion (λ r. IsFenced a r r.reply) w.replied) w.acknowledged
