@@ -78,13 +78,15 @@ fn sync_both<D: Disk>(a: &mut D, b: &mut D) -> Result<(), Stop>
     Ok(())
 }
 
-/// The disk's stop for a journal's. The journal's calls here never return NotAStore.
+/// The disk's stop for a journal's. The journal's calls that write never return NotAStore.
 fn outside(stop: JournalStop) -> Stop
-    ensures { IsOutside stop → Some result ≡ stop_in {T = Journal} (Err stop) }
+    requires { IsOutside stop }
+    ensures { Some result ≡ stop_in {T = Journal} (Err stop) }
 {
     match stop {
         JournalStop::DiskFault => Stop::Failed,
-        JournalStop::NotAStore { .. } | JournalStop::OutOfMemory => Stop::OutOfMemory,
+        JournalStop::OutOfMemory => Stop::OutOfMemory,
+        JournalStop::NotAStore { .. } => unreachable!(),
     }
 }
 
