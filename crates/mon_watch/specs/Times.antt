@@ -1,5 +1,5 @@
 -- What is counted of a disk's calls. Sums saturate at the greatest 64-bit number.
-use Rattle.std.specs.Prelude.{ℕ, ◌+◌, ◌-◌, ◌^◌, min, max, List, nat_le, slice_set, slice_index_or, replicate, if◌then◌else◌}
+use Rattle.std.specs.Prelude.{ℕ, ◌+◌, ◌-◌, ◌^◌, min, max, Bool, List, nat_le, slice_set, slice_index_or, replicate, if◌then◌else◌}
 use lib.Count.{count_leading_zeros}
 use Rattle.mon_types.specs.Faults.{risen}
 use Rattle.mon_watch.specs.declared.times.DiskTimes.{DiskTimes}
@@ -42,10 +42,15 @@ after_sync time t = record t {
   last_slow = if nat_le SLOW time then time else t.last_slow;
 }
 
--- a write of this many bytes at a place, and a read
-abbrev pub after_write : (at bytes : ℕ) → DiskTimes → DiskTimes
-after_write at bytes t = record t { writes = risen t.writes; written = plus t.written bytes; length = max t.length (plus at bytes) }
+-- a write of this many bytes at a place, which succeeded or failed
+abbrev pub after_write : (at bytes : ℕ) → (succeeded : Bool) → DiskTimes → DiskTimes
+after_write at bytes succeeded t = record t {
+  writes = risen t.writes;
+  written = plus t.written bytes;
+  length = if succeeded then max t.length (plus at bytes) else t.length;
+}
 
+-- a read of this many bytes
 abbrev pub after_read : (bytes : ℕ) → DiskTimes → DiskTimes
 after_read bytes t = record t { reads = risen t.reads; fetched = plus t.fetched bytes }
 

@@ -50,8 +50,10 @@ impl<D: Disk + Drop, C: Clock + Drop> Disk for Timed<D, C> {
 
     fn write_at(&mut self, at: u64, bytes: &[u8]) -> Result<(), Stop> {
         let length = bytes.len() as u64;
-        self.times.set(self.times.get().after_write(at, length));
-        self.inner.write_at(at, bytes)
+        let written = self.inner.write_at(at, bytes);
+        let succeeded = written.is_ok();
+        self.times.set(self.times.get().after_write(at, length, succeeded));
+        written
     }
 
     fn sync(&mut self) -> Result<(), Stop> {

@@ -23,7 +23,7 @@ pub struct DiskTimes {
     pub written: u64,
     pub reads: u64,
     pub fetched: u64,
-    /// The length of the disk in bytes, as far as its calls show.
+    /// The length of the disk in bytes, as far as the calls that succeeded show.
     pub length: u64,
 }
 
@@ -85,14 +85,19 @@ impl DiskTimes {
         }
     }
 
-    /// The counts after a write of this many bytes at a place.
-    pub fn after_write(self, at: u64, bytes: u64) -> DiskTimes
-        ensures { result ≡ after_write at bytes self }
+    /// The counts after a write of this many bytes at a place. One that failed doesn't raise the length.
+    pub fn after_write(self, at: u64, bytes: u64, succeeded: bool) -> DiskTimes
+        ensures { result ≡ after_write at bytes succeeded self }
     {
+        let end = at.saturating_add(bytes);
         DiskTimes {
             writes: self.writes.saturating_add(1),
             written: self.written.saturating_add(bytes),
-            length: self.length.max(at.saturating_add(bytes)),
+            length: if succeeded {
+                self.length.max(end)
+            } else {
+                self.length
+            },
             ..self
         }
     }
