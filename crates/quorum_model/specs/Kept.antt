@@ -20,8 +20,8 @@ LeaderHas a (Some s) m = is_active s.phase ≡ true → a.pn ≤ s.leader.pn →
 
 -- The version is in the log and puts what was acknowledged, and every later leader has it. Each monitor remembers
 -- `state i`, unless it is down, and its map is `store i`.
-pub record IsKept (n : ℕ) (log : List (List ℕ)) (state : ℕ → Option State) (store : ℕ → Store) (a : Acknowledgement)
-    : Type 0 where
+pub record IsKept (n : ℕ) (log : List (List ℕ)) (state : ℕ → Option State) (store : ℕ → Store)
+    (a : Acknowledgement) : Type 0 where
   pub some : 1 ≤ a.version
   pub within : a.version ≤ length log
   pub put : Contains (put_in a.service (ops_in (entry log a.version))) a.incremental
