@@ -51,8 +51,9 @@ impl<D: Disk + Drop, C: Clock + Drop> Disk for Timed<D, C> {
     fn write_at(&mut self, at: u64, bytes: &[u8]) -> Result<(), Stop> {
         let length = bytes.len() as u64;
         let written = self.inner.write_at(at, bytes);
-        let succeeded = written.is_ok();
-        self.times.set(self.times.get().after_write(at, length, succeeded));
+        let times = self.times.get();
+        self.times
+            .set(times.after_write(at, length, written.is_ok()));
         written
     }
 

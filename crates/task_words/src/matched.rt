@@ -157,11 +157,7 @@ fn follow_in(alloc: Global, found: &ArgMatches<'_>) -> Result<Task, WordsStop>
 }
 
 /// The task on a store of the arguments after the name of its command.
-fn store_in(
-    alloc: Global,
-    found: &ArgMatches<'_>,
-    what: StoreTask,
-) -> Result<Task, WordsStop>
+fn store_in(alloc: Global, found: &ArgMatches<'_>, what: StoreTask) -> Result<Task, WordsStop>
     ensures { (member : members) (disk_a disk_b : List ℕ)
         → AreTexts (rows_of (found_of found.now)) store_texts (decimal member.rank ∷ decimal member.monitors ∷ disk_a ∷ disk_b ∷ [])
         → IsGiven (task_on what member disk_a disk_b) result }

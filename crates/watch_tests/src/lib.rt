@@ -1,5 +1,7 @@
-//! Tests of what a monitor that is watched answers and passes on.
+//! Tests of what a monitor that is watched answers, passes on and counts.
 #![tactic(auto)]
 
+#[cfg(test)]
+mod timing;
 #[cfg(test)]
 mod watching;
