@@ -18,7 +18,7 @@ CLAUSES = [
     Clause('agree', 'Agreement', "All monitors commit one log. Each entry is the value of a client's command.", ('agree', 'asked')),
     Clause('kept', 'Durability', 'An acknowledged write is in the log, and each later leader has it.', ('kept', 'answered')),
     Clause('shown', 'Reads', "A map that a client gets is the log's, up to the monitor's last version.", ('shown', 'since')),
-    Clause('fence', 'Fresh reads', 'In the epoch of an acknowledged write, each later read includes it.', ('fence',)),
+    Clause('fence', 'Fresh reads', 'In the epoch of an acknowledged write, each later read is of a log with it.', ('fence',)),
     Clause('one_active', 'One leader', 'No epoch has two active leaders.', ('one active',)),
     Clause('held', 'Storage', "A store is the result of its monitor's transactions, in order.", ('held', 'whole')),
 ]
@@ -51,7 +51,8 @@ def broken(play: run.Play) -> dict[str, str]:
 
 def acknowledged(play: run.Play) -> list[tuple[int, int]]:
     """The acknowledged versions, each with its epoch."""
-    return [(it.d['version'], it.d['epoch']) for it in play.scene.d['world'].d['acknowledged']]
+    found = [it.d['what'].d for it in play.scene.d['world'].d['acknowledged']]
+    return [(it['version'], it['epoch']) for it in found]
 
 
 def said_of(play: run.Play) -> str:

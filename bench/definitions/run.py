@@ -604,8 +604,8 @@ def unsafe(w, n, writes):
     put_in = lambda s, v: apps(fn('mon_msg.specs.Fold', 'put_in'), s, app(fn('mon_tx.specs.Decode', 'ops_in'), entry(log, v)))
     active = fn(QM + 'Happens', 'is_active')
     seen = set()
-    for a in d['acknowledged']:
-        a = a.d
+    acknowledged = [{'event': a.d['event'], **a.d['what'].d} for a in d['acknowledged']]
+    for a in acknowledged:
         ok = 1 <= a['version'] <= len(log) and a['version'] not in seen and B(a['incremental']) in [B(x) for x in put_in(a['service'], a['version'])]
         for i, s in enumerate(states):
             if s.n == 'Some' and app(active, s.a[0].d['phase']) and a['pn'] <= s.a[0].d['leader'].d['pn'] and lasts[i] < a['version']:
@@ -620,8 +620,8 @@ def unsafe(w, n, writes):
         if x.n == 'Done':
             asked = [b.d for b in d['asked'] if b.d['rank'] == r['rank'] and b.d['session'] == r['session']]
             answered = [
-                a for a in d['acknowledged'] if a.d['version'] == x.a[0] and a.d['event'] <= r['event']
-                and any(apps(made, b['rank'], b['request']) == Some(Tup(a.d['service'], a.d['incremental'])) for b in asked)
+                a for a in acknowledged if a['version'] == x.a[0] and a['event'] <= r['event']
+                and any(apps(made, b['rank'], b['request']) == Some(Tup(a['service'], a['incremental'])) for b in asked)
             ]
             if not answered:
                 bad.append(('answered', x.a[0]))
@@ -636,8 +636,8 @@ def unsafe(w, n, writes):
             if [B(t) for t in told] != [B(t) for t in others[:len(told)]] or more != (len(told) < len(others)):
                 bad.append(('since', r['event']))
         if x.n in ('Shown', 'Since'):
-            for a in d['acknowledged']:
-                if a.d['event'] < r['event'] and a.d['epoch'] == r['epoch'] and r['last'] < a.d['version']:
+            for a in acknowledged:
+                if a['event'] < r['event'] and a['epoch'] == r['epoch'] and r['last'] < a['version']:
                     bad.append(('fence', r['event']))
     for i, m in enumerate(stores):
         if apps(fn(QM + 'Safe', 'after_transactions'), app(d['transactions'], i), FinMap({})) != m:

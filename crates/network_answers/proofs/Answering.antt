@@ -23,8 +23,8 @@ use Rattle.quorum_model.specs.Events.{AllFit}
 use Rattle.quorum_model.specs.Monitors.{Monitors}
 use Rattle.quorum_model.specs.Runs.{run}
 use Rattle.quorum_model.specs.Shown.{IsShown, Shown, ShowsLog}
-use Rattle.quorum_model.specs.World.{Acknowledged, Acknowledgement, Asked, Event, Replied, World, given}
-use Rattle.quorum_network.proofs.Adding.{IsBy, IsLater, IsRepliedBy}
+use Rattle.quorum_model.specs.World.{Acknowledged, Acknowledgement, Asked, Event, Replied, World}
+use Rattle.quorum_network.proofs.Adding.{IsBy, IsLater, IsRepliedBy, given}
 use Rattle.quorum_network.proofs.Assembled.{all_self, assembly}
 use Rattle.quorum_network.proofs.Going.{GoesOn, grown_log}
 use Rattle.quorum_network.proofs.Invariant.{IsSaid}

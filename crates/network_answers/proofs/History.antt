@@ -3,7 +3,7 @@ use Rattle.std.proofs.Common.{List, ◌++◌, ℕ, map}
 use Rattle.network_answers.proofs.Answering.{acknowledged, all_of_log, answer, answered, brings, brings_more, extends, is_log, order, refusals}
 use Rattle.network_answers.specs.Answers.{Adds, Answer, HaveAnswers}
 use Rattle.quorum_model.specs.Monitors.{Monitors}
-use Rattle.quorum_model.specs.World.{given}
+use Rattle.quorum_network.proofs.Adding.{given}
 use Rattle.quorum_network.proofs.Assembled.{assembly}
 use Rattle.quorum_network.proofs.Going.{goes_on}
 use Rattle.quorum_network.proofs.Whole.{Stands, facts, stands}

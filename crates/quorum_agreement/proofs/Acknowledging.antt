@@ -130,7 +130,7 @@ fenced_nothing a r (reply.Since s from told more) k = absurd k
 fenced_nothing a r other k = tt
 
 -- whatever was acknowledged is not later than the reply, or the reply's monitor has it
-pub fenced_by : (a : Acknowledged) (r : Replied) (y : Reply) → (a.event < r.event → a.epoch ≡ r.epoch → a.version ≤ r.last) → IsFenced a r y
+pub fenced_by : (a : Acknowledged) (r : Replied) (y : Reply) → (a.event < r.event → a.what.epoch ≡ r.epoch → a.what.version ≤ r.last) → IsFenced a r y
 fenced_by a r (reply.Shown s paxos version map) k = k
 fenced_by a r (reply.Since s from told more) k = k
 fenced_by a r other k = tt

@@ -82,12 +82,12 @@ asked_makes n asked i t c W = ap (λ (o : Option Command). option_map (changed W
 pub record IsRouted (w : World) (g : Ghost) (i e seq v : ℕ) : Type 0 where
   pub acknowledged : Acknowledged
   pub among : Contains w.acknowledged acknowledged
-  pub version : acknowledged.version ≡ v
+  pub version : acknowledged.what.version ≡ v
   pub earlier : acknowledged.event ≤ w.events
   pub session : Session
   pub command : Command
   pub handed : Handed g i e seq session command
-  pub made : changed i command ≡ (acknowledged.service, acknowledged.incremental)
+  pub made : changed i command ≡ (acknowledged.what.service, acknowledged.what.incremental)
 
 abbrev pub MayRoute : World → Ghost → (i e seq : ℕ) → Reply → Type 0
 MayRoute w g i e seq (reply.Done v) = IsRouted w g i e seq v

@@ -25,7 +25,7 @@ pub record IsSafe (ms : Monitors) (w : World) (I : InvOf ms w) : Type 0 where
   pub still : (i : ℕ) (s : State) → w.state i ≡ Some s → Still s.phase s.leader
   pub stems : (i : ℕ) (s : State) → w.state i ≡ Some s → s.phase ≡ phase.Updating → Stems I.g i (epoch_of (readings_at w i)) s.leader
   pub acks : AllByRecursion (IsHeld ms.count w I.g) w.acknowledged
-  pub once : AcknowledgedOnce (λ (a : Acknowledged). a.version) w.acknowledged
+  pub once : AcknowledgedOnce (λ (a : Acknowledged). a.what.version) w.acknowledged
   pub replies : AllByRecursion (IsShownIn w) w.replied
   pub answers : AllByRecursion (λ (r : Replied). DoneIsAnswered w r r.reply) w.replied
   pub fence : Fence w
@@ -85,7 +85,7 @@ module _ (ms : Monitors) (w next : World) (I : InvOf ms w) (K : InvOf ms next) (
     still = λ i s e. S.still i s (unchanged i s e).0;
     stems = λ i s e. stems_again i s (unchanged i s e).0 (unchanged i s e).1;
     acks = subst (AllByRecursion (IsHeld n next K.g)) (sym acks) held_again;
-    once = subst (AcknowledgedOnce (λ (a : Acknowledged). a.version)) (sym acks) S.once;
+    once = subst (AcknowledgedOnce (λ (a : Acknowledged). a.what.version)) (sym acks) S.once;
     replies = subst (AllByRecursion (IsShownIn next)) (sym replied) shown_again;
     answers = subst (AllByRecursion (λ (r : Replied). DoneIsAnswered next r r.reply)) (sym replied) answers_again;
     fence = subst (λ (rs : List Replied). AllByRecursion (λ (a : Acknowledged). AllByRecursion (λ (r : Replied). IsFenced a r r.reply) rs) next.acknowledged) (sym replied)
@@ -101,14 +101,14 @@ module _ (ms : Monitors) (w next : World) (I : InvOf ms w) (K : InvOf ms next) (
     abbrev FencedBy : List Replied → Acknowledged → Type 0
     FencedBy rs a = AllByRecursion (λ (r : Replied). IsFenced a r r.reply) rs
 
-    pub safe_more : AllByRecursion (λ (a : Acknowledged). IsHeld n next K.g a × (a.event ≡ next.events)) new → AcknowledgedOnce (λ (a : Acknowledged). a.version) (w.acknowledged ++ new)
+    pub safe_more : AllByRecursion (λ (a : Acknowledged). IsHeld n next K.g a × (a.event ≡ next.events)) new → AcknowledgedOnce (λ (a : Acknowledged). a.what.version) (w.acknowledged ++ new)
         → AllByRecursion (λ (r : Replied). IsShownIn next r × (r.event ≡ next.events)) replies → AllByRecursion (λ (r : Replied). DoneIsAnswered next r r.reply) replies → ((a : Acknowledged) → IsHeld n w I.g a → FencedBy replies a)
         → AllByRecursion (Routes next K.g) sends → IsSafe ms next K
     safe_more held once shown answered fenced routes = record {
       still = still;
       stems = stems;
       acks = subst (AllByRecursion (IsHeld n next K.g)) (sym acks_are) (all_append (IsHeld n next K.g) w.acknowledged new held_again (all_map _ _ (λ a k. k.0) new held));
-      once = subst (AcknowledgedOnce (λ (a : Acknowledged). a.version)) (sym acks_are) once;
+      once = subst (AcknowledgedOnce (λ (a : Acknowledged). a.what.version)) (sym acks_are) once;
       replies = subst (AllByRecursion (IsShownIn next)) (sym replied_are) (all_append (IsShownIn next) w.replied replies shown_again (all_map _ _ (λ r k. k.0) replies shown));
       answers = subst (AllByRecursion (λ (r : Replied). DoneIsAnswered next r r.reply)) (sym replied_are) (all_append (λ (r : Replied). DoneIsAnswered next r r.reply) w.replied replies answers_again answered);
       fence = subst (λ (rs : List Replied). AllByRecursion (FencedBy rs) next.acknowledged) (sym replied_are) (subst (AllByRecursion (FencedBy (w.replied ++ replies))) (sym acks_are)

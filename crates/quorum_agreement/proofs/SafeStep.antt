@@ -109,9 +109,9 @@ member_votes : (p : Phase) → is_member p ≡ true → votes p ≡ true
 member_votes p e = ap (λ (b : Bool). b || same_phase p phase.Electing) e
 
 -- a version that was not acknowledged before is acknowledged once
-once_push : (before : List Acknowledged) (a : Acknowledged) → AcknowledgedOnce (λ (c : Acknowledged). c.version) before → AllByRecursion (λ (b : Acknowledged). ¬ (a.version ≡ b.version)) before → AcknowledgedOnce (λ (c : Acknowledged). c.version) (before ++ a ∷ [])
+once_push : (before : List Acknowledged) (a : Acknowledged) → AcknowledgedOnce (λ (c : Acknowledged). c.what.version) before → AllByRecursion (λ (b : Acknowledged). ¬ (a.what.version ≡ b.what.version)) before → AcknowledgedOnce (λ (c : Acknowledged). c.what.version) (before ++ a ∷ [])
 once_push [] a h k = (tt, tt)
-once_push (b ∷ before) a h k = (all_append (λ (c : Acknowledged). ¬ (c.version ≡ b.version)) before (a ∷ []) h.0 (k.0, tt), once_push before a h.1 k.1)
+once_push (b ∷ before) a h k = (all_append (λ (c : Acknowledged). ¬ (c.what.version ≡ b.what.version)) before (a ∷ []) h.0 (k.0, tt), once_push before a h.1 k.1)
 
 -- ---- an event
 
@@ -300,7 +300,7 @@ module _ (ms : Monitors) (w next : World) (I : InvOf ms w) (K : InvOf ms next) (
   Founded x = IsFounded next K.g next.events rank m x
 
   quietly : acknowledgements_of next.events m d.y.state d.y.out ≡ [] → AllByRecursion NoShowSent d.y.out → AllByRecursion Founded d.y.out → IsSafe ms next K
-  quietly none k f = safe_more ms w next I K O S stills stems later [] (replies_of next.events rank m d.y.out) (messages_of d.y.out) (M.acks ∙ ap (λ (z : List Acknowledged). w.acknowledged ++ z) none) M.replied M.messages tt (subst (AcknowledgedOnce (λ (a : Acknowledged). a.version)) (sym (append-nil w.acknowledged)) S.once)
+  quietly none k f = safe_more ms w next I K O S stills stems later [] (replies_of next.events rank m d.y.out) (messages_of d.y.out) (M.acks ∙ ap (λ (z : List Acknowledged). w.acknowledged ++ z) none) M.replied M.messages tt (subst (AcknowledgedOnce (λ (a : Acknowledged). a.what.version)) (sym (append-nil w.acknowledged)) S.once)
       (all_both _ _ _ (quiet_replies next rank m last_then d.y.out k) (replies_event next.events rank m d.y.out)) (founded_replies next K.g next.events rank m d.y.out f) (λ a h. quiet_fenced a next.events rank m d.y.out k)
       (founded_routes next K.g next.events rank m d.y.out f)
 
@@ -356,7 +356,7 @@ module _ (ms : Monitors) (w next : World) (I : InvOf ms w) (K : InvOf ms next) (
     fenced a h = fenced_by a answer R.reply (λ lt e. let v = shows_it ms w I a h rank below s there_before d.by.at R.readable still_before (e ∙ ap epoch_of same) R.member in let l = last_is m in let q = ap (λ (r : Readings). r.last) same in omega arith)
 
     shown_then : IsSafe ms next K
-    shown_then = safe_more ms w next I K O S stills stems later [] (answer ∷ []) [] (M.acks ∙ ap (λ (out : List Sent). w.acknowledged ++ acknowledgements_of next.events m d.y.state out) R.out ∙ ap (λ (z : List Acknowledged). w.acknowledged ++ z) none) (M.replied ∙ ap (λ (out : List Sent). w.replied ++ replies_of next.events rank m out) R.out) (M.messages ∙ ap (λ (out : List Sent). w.messages ++ messages_of out) R.out) tt (subst (AcknowledgedOnce (λ (a : Acknowledged). a.version)) (sym (append-nil w.acknowledged)) S.once) ((is_shown, refl), tt) (no_answer next answer R.reply no_done, tt) (λ a h. (fenced a h, tt)) tt
+    shown_then = safe_more ms w next I K O S stills stems later [] (answer ∷ []) [] (M.acks ∙ ap (λ (out : List Sent). w.acknowledged ++ acknowledgements_of next.events m d.y.state out) R.out ∙ ap (λ (z : List Acknowledged). w.acknowledged ++ z) none) (M.replied ∙ ap (λ (out : List Sent). w.replied ++ replies_of next.events rank m out) R.out) (M.messages ∙ ap (λ (out : List Sent). w.messages ++ messages_of out) R.out) tt (subst (AcknowledgedOnce (λ (a : Acknowledged). a.what.version)) (sym (append-nil w.acknowledged)) S.once) ((is_shown, refl), tt) (no_answer next answer R.reply no_done, tt) (λ a h. (fenced a h, tt)) tt
       where
         no_done : done_in R.reply ≡ None
         no_done = by R.read
@@ -490,18 +490,18 @@ module _ (ms : Monitors) (w next : World) (I : InvOf ms w) (K : InvOf ms next) (
     made_kept : incremental_in (record_kept m v) ≡ (service_of asked_then.command, incremental_of asked_then.by.rank asked_then.command)
     made_kept = ap incremental_in kept ∙ first_put (view_at next.log w0.last) asked_then.command asked_then.by.rank asked_then.ops asked_then.made
 
-    put : Contains (put_in ack.service (ops_in (entry next.log v))) ack.incremental
+    put : Contains (put_in ack.what.service (ops_in (entry next.log v))) ack.what.incremental
     put = subst (λ (z : Service × List ℕ). Contains (put_in z.0 (ops_in (entry next.log v))) z.1) (sym made_kept)
         (subst (λ (xs : List (List ℕ)). Contains xs (incremental_of asked_then.by.rank asked_then.command)) (sym puts) (Contains-push [] (incremental_of asked_then.by.rank asked_then.command)))
       where
         puts : put_in (service_of asked_then.command) (ops_in (entry next.log v)) ≡ incremental_of asked_then.by.rank asked_then.command ∷ []
         puts = ap (put_in (service_of asked_then.command)) ops_are ∙ puts_command (view_at next.log w0.last) asked_then.command asked_then.by.rank asked_then.ops asked_then.made
 
-    led : WasActive count K.g (ack.epoch, rank)
-    led = all_among (WasActive count K.g) (ack.epoch, rank) next.active (M.active (ap is_active A.active)) K.active
+    led : WasActive count K.g (ack.what.epoch, rank)
+    led = all_among (WasActive count K.g) (ack.what.epoch, rank) next.active (M.active (ap is_active A.active)) K.active
 
     quorum_is : led.0 ≡ s.leader.quorum
-    quorum_is = (K.glob.roles.once rank ack.epoch rank rank led.0 d.y.state.leader.quorum led.1 (subst (λ (r : Readings). Entered K.g rank (epoch_of r) rank d.y.state.leader.quorum) stored acts.0.reigns.role)).1 ∙ A.quorum
+    quorum_is = (K.glob.roles.once rank ack.what.epoch rank rank led.0 d.y.state.leader.quorum led.1 (subst (λ (r : Readings). Entered K.g rank (epoch_of r) rank d.y.state.leader.quorum) stored acts.0.reigns.role)).1 ∙ A.quorum
 
     updates : Completes me d.by.at w0 s From Routed Voted Looked A.origin A.ops → s.phase ≡ phase.Updating
     updates C = elim C.in_phase [ inl e ↦ (let q = (subst (λ (p : Phase). Still p s.leader) e still_before).1 in let z : None ≡ Some A.origin = sym q ∙ C.waits in absurd cc) | inr e ↦ e ]
@@ -580,7 +580,7 @@ module _ (ms : Monitors) (w next : World) (I : InvOf ms w) (K : InvOf ms next) (
             let R = read_version next.log N.short values_then w0.last within A.ops (subst (λ (b : List ℕ). transaction_in (Some b) ≡ Some A.ops) (ap text (sym same) ∙ spells several) V.reads) in R.reads
         by (inr (inr none)) = let b = below in absurd (omega arith)
 
-    made_here : changed (asker rank A.origin) source.command ≡ (ack.service, ack.incremental)
+    made_here : changed (asker rank A.origin) source.command ≡ (ack.what.service, ack.what.incremental)
     made_here = ap (λ (z : Service × List ℕ). (z.0, z.1)) (sym (ap (λ (z : Cell). incremental_in (ops_in (unwrap_or z []))) there ∙ ap incremental_in reads ∙ source.makes))
 
     epoch_same : epoch_of d.y.readings ≡ epoch_of w0
@@ -596,7 +596,7 @@ module _ (ms : Monitors) (w next : World) (I : InvOf ms w) (K : InvOf ms next) (
     now : Contains next.acknowledged ack
     now = subst (λ (xs : List Acknowledged). Contains xs ack) (sym acks_are) (Contains-push w.acknowledged ack)
 
-    answer_founded : (o : Origin) (c : Command) → HasSource J.g rank (epoch_of w0) c o → changed (asker rank o) c ≡ (ack.service, ack.incremental) → AllByRecursion Founded (answer_to me (epoch_of d.y.readings) o (reply.Done v) ∷ [])
+    answer_founded : (o : Origin) (c : Command) → HasSource J.g rank (epoch_of w0) c o → changed (asker rank o) c ≡ (ack.what.service, ack.what.incremental) → AllByRecursion Founded (answer_to me (epoch_of d.y.readings) o (reply.Done v) ∷ [])
     answer_founded (origin.Session t) c k made =
         let W = J.asks rank t c k in (
           record {
@@ -628,31 +628,31 @@ module _ (ms : Monitors) (w next : World) (I : InvOf ms w) (K : InvOf ms next) (
 
     -- ---- no version twice
 
-    first_time : (b : Acknowledged) → IsHeld count w I.g b → ¬ (ack.version ≡ b.version)
-    first_time b h e = by (cases_lt 1 count) (cases_order b.pn s.leader.pn)
+    first_time : (b : Acknowledged) → IsHeld count w I.g b → ¬ (ack.what.version ≡ b.what.version)
+    first_time b h e = by (cases_lt 1 count) (cases_order b.what.pn s.leader.pn)
       where
         level : level_at w rank ≡ w0.last
         level = level_is (own_of w0) unmarked_before
 
         same_rank : h.rank ≡ rank → ⊥
-        same_rank q = let l = subst (λ (i : ℕ). b.version ≤ level_at w i) q h.level in omega (arith, level)
+        same_rank q = let l = subst (λ (i : ℕ). b.what.version ≤ level_at w i) q h.level in omega (arith, level)
 
         number : s.leader.pn % 100 ≡ rank
         number = ap (λ (p : ℕ). p % 100) (sym A.number) ∙ acts.0.own
 
-        lower : 1 < count → b.pn < s.leader.pn → ⊥
+        lower : 1 < count → b.what.pn < s.leader.pn → ⊥
         lower several lt =
             let role = h.led.1 in
             let R = I.glob.roles in
-            let z = nothing_below several b.pn h.led.0 lt (record { below = R.within h.rank b.epoch h.rank h.led.0 role; major = R.major h.rank b.epoch h.rank h.led.0 role }) in
-            z.never (entry w.log b.version) (subst (λ (u : ℕ). HasAccepted w z.rank u b.pn (entry w.log b.version)) (sym e) (h.chosen several z.rank z.within))
+            let z = nothing_below several b.what.pn h.led.0 lt (record { below = R.within h.rank b.what.epoch h.rank h.led.0 role; major = R.major h.rank b.what.epoch h.rank h.led.0 role }) in
+            z.never (entry w.log b.what.version) (subst (λ (u : ℕ). HasAccepted w z.rank u b.what.pn (entry w.log b.what.version)) (sym e) (h.chosen several z.rank z.within))
 
-        higher : 1 < count → s.leader.pn < b.pn → ⊥
+        higher : 1 < count → s.leader.pn < b.what.pn → ⊥
         higher several lt =
             let z = h.fresh several s.leader.pn s.leader.quorum lt (majority several) in
             z.never (text (done several).x) (subst (λ (u : ℕ). HasAccepted w z.rank u s.leader.pn (text (done several).x)) e (all_accepted several z.rank z.within))
 
-        by : (1 < count) ⊎ (count ≤ 1) → (b.pn ≡ s.leader.pn) ⊎ ((b.pn < s.leader.pn) ⊎ (s.leader.pn < b.pn)) → ⊥
+        by : (1 < count) ⊎ (count ≤ 1) → (b.what.pn ≡ s.leader.pn) ⊎ ((b.what.pn < s.leader.pn) ⊎ (s.leader.pn < b.what.pn)) → ⊥
         by (inr one) t = let a = h.below in let q = below in same_rank (omega arith)
         by (inl several) (inl q) = same_rank (sym h.own ∙ ap (λ (p : ℕ). p % 100) q ∙ number)
         by (inl several) (inr (inl lt)) = lower several lt
@@ -660,7 +660,7 @@ module _ (ms : Monitors) (w next : World) (I : InvOf ms w) (K : InvOf ms next) (
 
     acked_then : IsSafe ms next K
     acked_then = safe_more ms w next I K O S stills stems later (ack ∷ []) (replies_of next.events rank m d.y.out) (messages_of d.y.out)
-        acks_are M.replied M.messages ((held, refl), tt) (once_push w.acknowledged ack S.once (all_map (IsHeld count w I.g) (λ (b : Acknowledged). ¬ (ack.version ≡ b.version)) first_time w.acknowledged S.acks))
+        acks_are M.replied M.messages ((held, refl), tt) (once_push w.acknowledged ack S.once (all_map (IsHeld count w I.g) (λ (b : Acknowledged). ¬ (ack.what.version ≡ b.what.version)) first_time w.acknowledged S.acks))
         (all_both _ _ _ (quiet_replies next rank m last_then d.y.out quiet) (replies_event next.events rank m d.y.out)) (founded_replies next K.g next.events rank m d.y.out founded) (λ a h. quiet_fenced a next.events rank m d.y.out quiet)
         (founded_routes next K.g next.events rank m d.y.out founded)
       where

@@ -28,7 +28,7 @@ epochs_onward ms events F = let O = ordered ms events F in O.reads
 of_pairs : {A B : Type 0} (P : A → B → Type 0) (xs : List A) (ys : List B) → AllPairs P xs ys → (x : A) (y : B) → Contains xs x → Contains ys y → P x y
 of_pairs P xs ys k x y a b = of_all (P x) ys (of_all (λ z. AllByRecursion (P z) ys) xs k x a) y b
 
-fenced : (a : Acknowledged) (r : Replied) (y : Reply) → IsFenced a r y → Shows y → a.event < r.event → a.epoch ≡ r.epoch → a.version ≤ r.last
+fenced : (a : Acknowledged) (r : Replied) (y : Reply) → IsFenced a r y → Shows y → a.event < r.event → a.what.epoch ≡ r.epoch → a.what.version ≤ r.last
 fenced a r (reply.Shown s paxos version map) k t = k
 fenced a r (reply.Since s from told more) k t = k
 fenced a r (reply.Done v) k t = absurd t

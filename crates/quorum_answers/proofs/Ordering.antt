@@ -28,10 +28,10 @@ abbrev pub ReadRead : Replied → Replied → Type 0
 ReadRead a b = a.epoch ≡ b.epoch → NoOlder a b
 
 abbrev pub WriteWrite : Acknowledged → Acknowledged → Type 0
-WriteWrite a b = a.epoch ≡ b.epoch → a.event < b.event → a.version < b.version
+WriteWrite a b = a.what.epoch ≡ b.what.epoch → a.event < b.event → a.what.version < b.what.version
 
 abbrev pub ReadWrite : Replied → Acknowledged → Type 0
-ReadWrite a b = Shows a.reply → a.epoch ≡ b.epoch → a.event < b.event → a.last < b.version
+ReadWrite a b = Shows a.reply → a.epoch ≡ b.what.epoch → a.event < b.event → a.last < b.what.version
 
 -- The operations of a world are in order, except reads after writes: these are left to the law of the fence.
 pub record Ordered (w : World) : Type 0 where
@@ -59,8 +59,8 @@ pub record NewRead (w : World) (event top : ℕ) (r : Replied) : Type 0 where
 pub record NewWrite (w : World) (event : ℕ) (a : Acknowledged) : Type 0 where
   pub event_is : a.event ≡ event
   pub before : ℕ
-  pub next : a.version ≡ suc before
-  pub covers : Covered w a.epoch before
+  pub next : a.what.version ≡ suc before
+  pub covers : Covered w a.what.epoch before
 
 module _ (w next : World) (top : ℕ) (reads : List Replied) (writes : List Acknowledged) (later : next.events ≡ suc w.events) (replied : next.replied ≡ w.replied ++ reads) (acknowledged : next.acknowledged ≡ w.acknowledged ++ writes)
     (R : AllByRecursion (NewRead w next.events top) reads) (W : AllByRecursion (NewWrite w next.events) writes) (D : Dated w) where

@@ -98,7 +98,7 @@ pub record IsHad (n : ℕ) (w : World) (a : Acknowledged) : Type 0 where
   pub event : a.event ≤ w.events
   pub rank : ℕ
   pub below : rank < n
-  pub level : a.version ≤ level_at w rank
+  pub level : a.what.version ≤ level_at w rank
 
 pub record Onward (n : ℕ) (w : World) : Type 0 where
   pub still : (i : ℕ) (s : State) → w.state i ≡ Some s → Still s.phase s.leader

@@ -165,7 +165,7 @@ module _ (ms : Monitors) (w : World) (R : Reached ms w) where
   valued = subst (λ (v : World). (length v.log ≤ 2 ^ 62) × AllValues v.log) (world_is ms w R) (all_values ms R.events R.fit)
 
   -- no version was acknowledged that the log doesn't have
-  in_log : AllByRecursion (λ (a : Acknowledged). a.version ≤ length w.log) w.acknowledged
+  in_log : AllByRecursion (λ (a : Acknowledged). a.what.version ≤ length w.log) w.acknowledged
   in_log = all_map (IsKeptIn ms.count w) _ (λ a k. k.within) w.acknowledged (subst (λ (v : World). AllByRecursion (IsKeptIn ms.count v) v.acknowledged) (world_is ms w R) (let S = safe ms R.events R.fit in let K = S.kept in K.each))
 
   leads : (i : ℕ) (s : State) → i < ms.count → w.state i ≡ Some s → s.phase ≡ phase.Active → Covered w (epoch_of (readings_at w i)) (readings_at w i).last
@@ -252,7 +252,7 @@ module _ (ms : Monitors) (before w : World) (R : Reached ms w) (I : InvOf ms w) 
       why = because.TooLong (text_length c) (most_text c);
       refused = ap (λ (v : Readings). value v c i) (view_stays w.log next.log fronts (length w.log) (omega arith)) ∙ (let V = valued ms w R in long_refused w.log V.0 V.1 c i long.0);
       says = long.1;
-      since = inr (covers_before (epoch_of w0) (length w.log) (all_map (λ (a : Acknowledged). a.version ≤ length w.log) (λ (a : Acknowledged). a.epoch ≡ epoch_of w0 → a.version ≤ length w.log) (λ a k e. k) w.acknowledged (in_log ms w R)));
+      since = inr (covers_before (epoch_of w0) (length w.log) (all_map (λ (a : Acknowledged). a.what.version ≤ length w.log) (λ (a : Acknowledged). a.what.epoch ≡ epoch_of w0 → a.what.version ≤ length w.log) (λ a k e. k) w.acknowledged (in_log ms w R)));
     }
     refused_by i t c r W (inr (active, e, q, is)) = record {
       asked = W.by;

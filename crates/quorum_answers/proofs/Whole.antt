@@ -51,13 +51,13 @@ abbrev pub ReadMarked : (n : ℕ) → World → Ghost → Replied → Type 0
 ReadMarked n w g r = Shows r.reply → Mark n w g r.epoch r.last
 
 abbrev pub WriteMarked : (n : ℕ) → World → Ghost → Acknowledged → Type 0
-WriteMarked n w g a = Mark n w g a.epoch a.version
+WriteMarked n w g a = Mark n w g a.what.epoch a.what.version
 
 abbrev ReadLow : (e top : ℕ) → Replied → Type 0
 ReadLow e top r = Shows r.reply → r.epoch ≡ e → r.last ≤ top
 
 abbrev WriteLow : (e top : ℕ) → Acknowledged → Type 0
-WriteLow e top a = a.epoch ≡ e → a.version ≤ top
+WriteLow e top a = a.what.epoch ≡ e → a.what.version ≤ top
 
 -- each operation's version is a mark of its epoch
 pub record Marked (n : ℕ) (w : World) (g : Ghost) : Type 0 where
@@ -70,14 +70,14 @@ pub record Marked (n : ℕ) (w : World) (g : Ghost) : Type 0 where
 covered_marks : (n : ℕ) (w : World) (g : Ghost) → Marked n w g → (e top : ℕ) → ((v : ℕ) → Mark n w g e v → v ≤ top) → Covered w e top
 covered_marks n w g M e top low = record {
   reads = all_map (ReadMarked n w g) (ReadLow e top) (λ r k t q. low r.last (subst (λ (f : ℕ). Mark n w g f r.last) q (k t))) w.replied M.reads;
-  writes = all_map (WriteMarked n w g) (WriteLow e top) (λ a k q. low a.version (subst (λ (f : ℕ). Mark n w g f a.version) q k)) w.acknowledged M.writes;
+  writes = all_map (WriteMarked n w g) (WriteLow e top) (λ a k q. low a.what.version (subst (λ (f : ℕ). Mark n w g f a.what.version) q k)) w.acknowledged M.writes;
 }
 
 -- the only monitor has all
 covered_alone : (n : ℕ) (w : World) → n ≤ 1 → Onward n w → (i e top : ℕ) → i < n → level_at w i ≡ top → Covered w e top
 covered_alone n w few O i e top below level = record {
   reads = all_map (IsBelow n w) (ReadLow e top) (λ r k t q. let b = k.below in let h = k.last t in let same : r.rank ≡ i = omega arith in let l = subst (λ (j : ℕ). r.last ≤ level_at w j) same h in omega arith) w.replied O.replied;
-  writes = all_map (IsHad n w) (WriteLow e top) (λ a k q. let b = k.below in let h = k.level in let same : k.rank ≡ i = omega arith in let l = subst (λ (j : ℕ). a.version ≤ level_at w j) same h in omega arith) w.acknowledged O.acknowledged;
+  writes = all_map (IsHad n w) (WriteLow e top) (λ a k q. let b = k.below in let h = k.level in let same : k.rank ≡ i = omega arith in let l = subst (λ (j : ℕ). a.what.version ≤ level_at w j) same h in omega arith) w.acknowledged O.acknowledged;
 }
 
 dated : (n : ℕ) (w : World) → Onward n w → Dated w
@@ -96,7 +96,7 @@ module _ (n : ℕ) (w next : World) (g h : Ghost) (F : Further g h) (T : Later w
         subst (λ (m : Store). PhaseMark n next h i (epoch_of (readings_of m)) (readings_of m).last s.peon.lease s.phase) (sym u.1)
         (phase_lasts n w next g h [] lasts i (epoch_of (readings_at w i)) (readings_at w i).last s.peon.lease s.phase tt (M.up i s u.0));
     reads = subst (AllByRecursion (ReadMarked n next h)) (sym replied) (all_map (ReadMarked n w g) (ReadMarked n next h) (λ r k t. mark_lasts n w next g h [] lasts r.epoch r.last (k t)) w.replied M.reads);
-    writes = subst (AllByRecursion (WriteMarked n next h)) (sym acknowledged) (all_map (WriteMarked n w g) (WriteMarked n next h) (λ a k. mark_lasts n w next g h [] lasts a.epoch a.version k) w.acknowledged M.writes);
+    writes = subst (AllByRecursion (WriteMarked n next h)) (sym acknowledged) (all_map (WriteMarked n w g) (WriteMarked n next h) (λ a k. mark_lasts n w next g h [] lasts a.what.epoch a.what.version k) w.acknowledged M.writes);
   }
 
 ordered_same : (w next : World) → next.replied ≡ w.replied → next.acknowledged ≡ w.acknowledged → Ordered w → Ordered next
@@ -301,7 +301,7 @@ module _ (ms : Monitors) where
                   sent = sent_now ms several w I asked J Way d up N.up way next A.0 A.1 F A.2 acc store state refl others N.sent;
                   up = λ i z e. up_now ms several w I asked J Way d up N.up way next A.0 A.1 F A.2 acc store state refl others i z e (equal_or_not i d.by.rank);
                   reads = all_append (ReadMarked ms.count next A.0.g) w.replied replies (all_map (ReadMarked ms.count w I.g) (ReadMarked ms.count next A.0.g) (λ r k t. lasting r.epoch r.last (k t)) w.replied N.reads) (read_marks several next A lasting marked store (suc w.events));
-                  writes = all_append (WriteMarked ms.count next A.0.g) w.acknowledged acks (all_map (WriteMarked ms.count w I.g) (WriteMarked ms.count next A.0.g) (λ a k. lasting a.epoch a.version k) w.acknowledged N.writes) (write_marks several next A lasting marked store (suc w.events));
+                  writes = all_append (WriteMarked ms.count next A.0.g) w.acknowledged acks (all_map (WriteMarked ms.count w I.g) (WriteMarked ms.count next A.0.g) (λ a k. lasting a.what.epoch a.what.version k) w.acknowledged N.writes) (write_marks several next A lasting marked store (suc w.events));
                 }),
             ordered_then w next w0.last replies acks refl refl refl (new_reads (suc w.events)) (new_writes (suc w.events)) (dated ms.count w O) R,
           )

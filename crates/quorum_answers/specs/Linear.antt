@@ -24,14 +24,14 @@ its_event (Write a) = a.event
 its_event (Read r) = r.event
 
 abbrev pub its_epoch : Operation → ℕ
-its_epoch (Write a) = a.epoch
+its_epoch (Write a) = a.what.epoch
 its_epoch (Read r) = r.epoch
 
 -- The order of the log: a write has its version, and a read follows the last version of its monitor.
 abbrev pub Precedes : Operation → Operation → Type 0
-Precedes (Write a) (Write b) = a.version < b.version
-Precedes (Write a) (Read r) = a.version ≤ r.last
-Precedes (Read r) (Write a) = r.last < a.version
+Precedes (Write a) (Write b) = a.what.version < b.what.version
+Precedes (Write a) (Read r) = a.what.version ≤ r.last
+Precedes (Read r) (Write a) = r.last < a.what.version
 Precedes (Read q) (Read r) = q.last ≤ r.last
 
 -- Each write is a version of the one log, and each read shows what the versions up to its monitor's last one make: the

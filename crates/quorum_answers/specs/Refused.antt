@@ -27,7 +27,7 @@ Refuses (reply.Busy waiting) = ⊥
 
 -- no version above this one was acknowledged in the epoch, in this world
 abbrev pub CoversAll : World → (epoch version : ℕ) → Type 0
-CoversAll w epoch version = AllByRecursion (λ a. a.epoch ≡ epoch → a.version ≤ version) w.acknowledged
+CoversAll w epoch version = AllByRecursion (λ a. a.what.epoch ≡ epoch → a.what.version ≤ version) w.acknowledged
 
 -- Session t asked a command of monitor i, and the command's service refuses it with r over the log's versions up to
 -- `version`. If the command wasn't asked in `before`, these include all that were acknowledged in `before` in epoch e.

@@ -65,16 +65,7 @@ acknowledges m s v =
     }
 
 abbrev pub acknowledgement : (event : ℕ) → Store → State → ℕ → Acknowledged
-acknowledgement event m s v =
-    let a = acknowledges m s v in
-    record {
-      event = event;
-      version = a.version;
-      pn = a.pn;
-      epoch = a.epoch;
-      service = a.service;
-      incremental = a.incremental;
-    }
+acknowledgement event m s v = record { event = event; what = acknowledges m s v }
 
 -- What the sends of an event acknowledge. After the event the monitor keeps m and remembers s.
 abbrev pub acknowledgements_of : (event : ℕ) → Store → State → List Sent → List Acknowledged

@@ -11,7 +11,7 @@ use Rattle.mon_wire.specs.declared.reply.Reply.TheVariants as reply
 use Rattle.quorum_model.specs.Clients.{made_by}
 use Rattle.quorum_model.specs.Growth.{last_of}
 use Rattle.quorum_model.specs.Happens.{is_active}
-use Rattle.quorum_model.specs.World.{World, Asked, Acknowledged, Acknowledgement, Replied, given}
+use Rattle.quorum_model.specs.World.{World, Asked, Acknowledged, Acknowledgement, Replied}
 
 -- an active leader with a number of at least that of the acknowledgement has the version, and is under no full synchronization
 abbrev pub LeaderHas : Acknowledgement → Option State → Store → Type 0
@@ -28,7 +28,7 @@ pub record IsKept (n : ℕ) (log : List (List ℕ)) (state : ℕ → Option Stat
   pub leaders : (i : ℕ) → i < n → LeaderHas a (state i) (store i)
 
 abbrev pub IsKeptIn : ℕ → World → Acknowledged → Type 0
-IsKeptIn n w a = IsKept n w.log w.state w.store (given a)
+IsKeptIn n w a = IsKept n w.log w.state w.store a.what
 
 -- no version is acknowledged twice
 abbrev pub AcknowledgedOnce : {A : Type 0} → (version_of : A → ℕ) → List A → Type 0
@@ -41,13 +41,13 @@ AcknowledgedOnce version_of (a ∷ others) =
 pub record IsAnswered (w : World) (r : Replied) (v : ℕ) : Type 0 where
   pub acknowledged : Acknowledged
   pub among : Contains w.acknowledged acknowledged
-  pub version : acknowledged.version ≡ v
+  pub version : acknowledged.what.version ≡ v
   pub earlier : acknowledged.event ≤ r.event
   pub asked : Asked
   pub was_asked : Contains w.asked asked
   pub rank : asked.rank ≡ r.rank
   pub session : asked.session ≡ r.session
-  pub made : made_by asked.rank asked.request ≡ Some (acknowledged.service, acknowledged.incremental)
+  pub made : made_by asked.rank asked.request ≡ Some (acknowledged.what.service, acknowledged.what.incremental)
 
 -- each kind of reply is named, so that whoever adds one decides what is promised of it
 abbrev pub DoneIsAnswered : World → Replied → Reply → Type 0
@@ -63,5 +63,5 @@ DoneIsAnswered w r (reply.Busy waiting) = Unit {0}
 
 pub record Kept (n : ℕ) (w : World) : Type 0 where
   pub each : AllByRecursion (IsKeptIn n w) w.acknowledged
-  pub once : AcknowledgedOnce (λ (a : Acknowledged). a.version) w.acknowledged
+  pub once : AcknowledgedOnce (λ (a : Acknowledged). a.what.version) w.acknowledged
   pub answered : AllByRecursion (λ r. DoneIsAnswered w r r.reply) w.replied

@@ -55,8 +55,8 @@ Shown w = AllByRecursion (IsShown w) w.replied
 -- ---- the fence of an acknowledgement
 
 abbrev pub IsFenced : Acknowledged → Replied → Reply → Type 0
-IsFenced a r (reply.Shown s paxos version map) = a.event < r.event → a.epoch ≡ r.epoch → a.version ≤ r.last
-IsFenced a r (reply.Since s from told more) = a.event < r.event → a.epoch ≡ r.epoch → a.version ≤ r.last
+IsFenced a r (reply.Shown s paxos version map) = a.event < r.event → a.what.epoch ≡ r.epoch → a.what.version ≤ r.last
+IsFenced a r (reply.Since s from told more) = a.event < r.event → a.what.epoch ≡ r.epoch → a.what.version ≤ r.last
 IsFenced a r (reply.Done v) = Unit {0}
 IsFenced a r reply.NoSuch = Unit {0}
 IsFenced a r (reply.TooLong len most) = Unit {0}

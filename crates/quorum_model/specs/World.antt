@@ -56,18 +56,10 @@ pub record Acknowledgement : Type 0 where
   pub service : Service
   pub incremental : List ℕ
 
--- an acknowledgement by the event of this number
+-- what was acknowledged by the event of this number
 pub record Acknowledged : Type 0 where
   pub event : ℕ
-  pub version : ℕ
-  pub pn : ℕ
-  pub epoch : ℕ
-  pub service : Service
-  pub incremental : List ℕ
-
--- an acknowledgement without its event
-abbrev pub given : Acknowledged → Acknowledgement
-given a = record { version = a.version; pn = a.pn; epoch = a.epoch; service = a.service; incremental = a.incremental }
+  pub what : Acknowledgement
 
 -- a reply, with the number of its event, its monitor, and that monitor's epoch and last version
 pub record Replied : Type 0 where

@@ -11,7 +11,7 @@ use Rattle.mon_tx.specs.Map.{Store}
 use Rattle.mon_wire.specs.Message.Whole.{HasText, text}
 use Rattle.quorum_model.specs.Acknowledging.{acknowledgement, acknowledgements_of, acknowledges, done_by}
 use Rattle.quorum_model.specs.Clients.{replies_of}
-use Rattle.quorum_model.specs.World.{Acknowledged, Acknowledgement, Asked, Replied, World, given}
+use Rattle.quorum_model.specs.World.{Acknowledged, Acknowledgement, Asked, Replied, World}
 use Rattle.quorum_network.specs.Network.{Posted}
 use Rattle.quorum_network.specs.Requests.{Leadership, acknowledged_in}
 use Rattle.quorum_network.specs.Running.{answer_of}
@@ -25,6 +25,10 @@ IsLater count e w i (Client c) bytes =
 
 abbrev pub AllLater : (count event : ℕ) → World → List Letter → Type 0
 AllLater count e w ls = (l : Letter) → Contains ls l → IsLater count e w l.by l.to l.bytes
+
+-- an acknowledgement without the number of its event
+abbrev pub given : Acknowledged → Acknowledgement
+given a = a.what
 
 abbrev pub IsBy : ℕ → Acknowledged → Type 0
 IsBy e a = a.event ≤ e

@@ -29,11 +29,11 @@ use Rattle.quorum_model.specs.Safe.{OneActive, Safe}
 use Rattle.mon_msg.specs.Protocol.Readings.{epoch_of, readings_of}
 use Rattle.quorum_model.specs.Runs.{Ran, run}
 use Rattle.quorum_model.specs.Shown.{AskedFor, Fence, IsFenced, IsShown, ShowsLog, WasAskedFor}
-use Rattle.quorum_model.specs.World.{Acknowledged, Acknowledgement, Asked, Event, Replied, World, given}
+use Rattle.quorum_model.specs.World.{Acknowledged, Acknowledgement, Asked, Event, Replied, World}
 use Rattle.quorum_network.specs.Network.{AllMay, Down, Network, Posted, Process, Step, Up, map_of, network, state_of}
 use Rattle.quorum_network.specs.Promises.{AgreeWith, AreAnswers, HaveOneLog, IsDone, IsKeptBy, IsLogOf, IsNoOlder, IsOfLog, IsReply, Leads, Requested}
 use Rattle.quorum_network.specs.Running.{IsOfRun, answer_of}
-use Rattle.quorum_network.proofs.Adding.{AllLater, IsBy, IsLater, noted_as}
+use Rattle.quorum_network.proofs.Adding.{AllLater, IsBy, IsLater, given, noted_as}
 use Rattle.quorum_network.proofs.Assembled.{all_self, assembly}
 use Rattle.quorum_network.proofs.Going.{goes_on, grown_log}
 use Rattle.quorum_network.proofs.Joined.{letters_answer}
@@ -67,9 +67,9 @@ led_as [] i e (k, lt, is) = absurd (omega (arith, lt))
 led_as (x ∷ xs) i e (zero, lt, is) = (0, omega arith, ap (λ (p : ℕ × ℕ). record { rank = p.1; epoch = p.0 }) is)
 led_as (x ∷ xs) i e (suc k, lt, is) = let c = led_as xs i e (k, omega (arith, lt), is) in (suc c.0, omega (arith, c.1), c.2)
 
-given_once : (xs : List Acknowledged) → AcknowledgedOnce (λ (a : Acknowledged). a.version) xs → AcknowledgedOnce (λ (a : Acknowledgement). a.version) (map given xs)
+given_once : (xs : List Acknowledged) → AcknowledgedOnce (λ (a : Acknowledged). a.what.version) xs → AcknowledgedOnce (λ (a : Acknowledgement). a.version) (map given xs)
 given_once [] h = tt
-given_once (x ∷ xs) h = (all_given (λ (b : Acknowledgement). ¬ (b.version ≡ x.version)) xs h.0, given_once xs h.1)
+given_once (x ∷ xs) h = (all_given (λ (b : Acknowledgement). ¬ (b.version ≡ x.what.version)) xs h.0, given_once xs h.1)
 
 -- what was acknowledged before is acknowledged
 abbrev Were : World → List Acknowledged → Type 0
@@ -113,7 +113,7 @@ module _ (n : ℕ) (asks : List Asked) (w : World) (asked : AllByRecursion (λ a
         request = a.request;
         requested = subst (λ (x : Asked). Contains asks x) one (was a A.was_asked);
         made = ap (λ (i : ℕ). made_by i a.request) (sym A.rank) ∙ A.made;
-        put = subst (λ (x : ℕ). Contains (put_in A.acknowledged.service (ops_in (entry w.log x))) A.acknowledged.incremental) A.version k.put;
+        put = subst (λ (x : ℕ). Contains (put_in A.acknowledged.what.service (ops_in (entry w.log x))) A.acknowledged.what.incremental) A.version k.put;
       }
 
   asked_either : (s : Service) → AskedFor w r (request.Show s) ⊎ ((v : ℕ) × AskedFor w r (request.Since s v)) → Requested asks r.rank r.session (request.Show s) ⊎ ((v : ℕ) × Requested asks r.rank r.session (request.Since s v))
@@ -125,8 +125,8 @@ module _ (n : ℕ) (asks : List Asked) (w : World) (asked : AllByRecursion (λ a
     fenced_by a c = of_all (λ (q : Replied). IsFenced a q q.reply) w.replied (of_all (λ (b : Acknowledged). AllByRecursion (λ (q : Replied). IsFenced b q q.reply) w.replied) w.acknowledged fence a (were a c)) r among
 
     -- what is shown up to a version
-    no_older : (v : ℕ) → v ≡ r.last → ((a : Acknowledged) → Contains before a → a.event < r.event → a.epoch ≡ r.epoch → a.version ≤ r.last) → IsNoOlder (map given before) r.epoch v
-    no_older v is h = all_given (λ (a : Acknowledgement). a.epoch ≡ r.epoch → a.version ≤ v) before (all_self (λ (a : Acknowledged). a.epoch ≡ r.epoch → a.version ≤ v) before (λ a c e.
+    no_older : (v : ℕ) → v ≡ r.last → ((a : Acknowledged) → Contains before a → a.event < r.event → a.what.epoch ≡ r.epoch → a.what.version ≤ r.last) → IsNoOlder (map given before) r.epoch v
+    no_older v is h = all_given (λ (a : Acknowledgement). a.epoch ≡ r.epoch → a.version ≤ v) before (all_self (λ (a : Acknowledged). a.what.epoch ≡ r.epoch → a.what.version ≤ v) before (λ a c e.
         let le = h a c (below a c) e in omega (arith, le, is)))
 
     reply_of_log : (q : Reply) → AllByRecursion (IsKeptIn n w) w.acknowledged → r.last ≤ length w.log → ShowsLog w r q → WasAskedFor w r q → DoneIsAnswered w r q → ((a : Acknowledged) → Contains before a → IsFenced a r q)

@@ -14,10 +14,10 @@ use Rattle.quorum_model.specs.Monitors.{Monitors, me_of}
 use Rattle.quorum_network.specs.Requests.{Leadership, acknowledged_at, acknowledgements, asked_by, leaderships, led_at, requests}
 use Rattle.std.proofs.lemmas.List.Elements.{Contains-append_left, Contains-append_right}
 use Rattle.quorum_model.specs.Runs.{Ran, run, ran_from}
-use Rattle.quorum_model.specs.World.{Acknowledged, Asked, Replied, World, Plain, Event, Comes, first_world, plain_of, Acknowledgement, given}
+use Rattle.quorum_model.specs.World.{Acknowledged, Asked, Replied, World, Plain, Event, Comes, first_world, plain_of, Acknowledgement}
 use Rattle.quorum_network.specs.Network.{Network, Step, AllMay, Posted, network, first_network, after_step, number_of}
 use Rattle.quorum_network.specs.Running.{IsOfRun, IsTold, DoesARun}
-use Rattle.quorum_network.proofs.Adding.{Adds, IsAt, IsBy, IsRepliedAt, IsRepliedBy, noted_as}
+use Rattle.quorum_network.proofs.Adding.{Adds, IsAt, IsBy, IsRepliedAt, IsRepliedBy, given, noted_as}
 use Rattle.quorum_network.proofs.Assembled.{all_self, all_through, assembly}
 use Rattle.quorum_network.proofs.Assembling.{Assembly}
 use Rattle.quorum_network.proofs.Senders.{running_own, started_own}

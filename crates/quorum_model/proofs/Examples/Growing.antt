@@ -28,7 +28,7 @@ abbrev route : Reply → Sent
 route r = sent.Message 1 (record { from = 0; monitors = 3; epoch = 2; body = body.Route 4 r })
 
 abbrev made : Acknowledged → ℕ × ℕ × Service × List ℕ
-made a = (a.event, a.version, a.service, a.incremental)
+made a = (a.event, a.what.version, a.what.service, a.what.incremental)
 
 -- the fifth event of a run, after which a monitor keeps this map and remembers this
 module _ (m : Store) (s : State) where
