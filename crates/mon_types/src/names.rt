@@ -7,7 +7,7 @@ pub enum Which {
     Epoch,
     /// A proposal number.
     Pn,
-    /// A version of the log.
+    /// A version of the log or of a service.
     Version,
     /// How often a monitor was started.
     Boot,
