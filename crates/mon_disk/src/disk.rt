@@ -1,4 +1,4 @@
-ghost use Rattle.std.specs.Prelude.{◌≡◌, ◌≤◌, ◌+◌, List, [], ◌∷◌, Err, max, length, IfOk, IfSome, OnOk, OnErr};
+ghost use Rattle.std.specs.Prelude.{◌≡◌, ◌≤◌, ◌<◌, ◌+◌, ◌^◌, List, [], ◌∷◌, Err, max, length, IfOk, IfSome, OnOk, OnErr};
 ghost use Rattle.std.specs.Result.{result_err};
 ghost use Rattle.mon_types.specs.declared.names.Stop.TheVariants.{OutOfMemory};
 ghost use Rattle.mon_disk.specs.Images.{images, written, Reads, TornFrom, Only};
@@ -51,13 +51,14 @@ pub trait Disk {
         ensures no_memory { result ≡ Err OutOfMemory → Unmade (state self.old) (state self.new) };
 
     /// Writes over what is there, and past the end. Until a sync, a crash may leave a part of it, whatever the call
-    /// returned. After `Failed` a read, too, may return a part of it.
+    /// returned. After `Failed` a read, too, may return a part of it. A write whose end isn't below 2^64 fails.
     fn write_at(&mut self, at: u64, bytes: &[u8]) -> Result<(), Stop>
         requires { at ≤ (state self.old).known }
         ensures call { Called (DiskCall.Write at bytes.now ∷ []) (TornFrom (state self.old).content at bytes.now)
             (result_err result) (state self.old) (state self.new) }
         ensures written { OnOk result ((state self.new).content.seen
             ≡ written at bytes.now (state self.old).content.seen) }
+        ensures end { OnOk result (at + length bytes.now < 2 ^ 64) }
         ensures known { OnOk result ((state self.new).known ≡ max (state self.old).known (at + length bytes.now)) }
         ensures known_err { OnErr result ((state self.new).known ≡ (state self.old).known) }
         ensures no_memory { result ≡ Err OutOfMemory → Unmade (state self.old) (state self.new) };

@@ -1,4 +1,4 @@
-ghost use Rattle.std.specs.Prelude.{◌≡◌, ◌≤◌, [], Some, None, OnOk, OnErr};
+ghost use Rattle.std.specs.Prelude.{◌≡◌, ◌≤◌, ◌<◌, ◌+◌, ◌^◌, [], length, Some, None, OnOk, OnErr};
 ghost use Rattle.std.specs.Result.{result_err};
 ghost use Rattle.mon_disk.specs.Images.{images, Only, LeavesOnly};
 ghost use Rattle.mon_disk.specs.Memory.{begins_with, seen_of};
@@ -104,6 +104,7 @@ impl MemoryDisk {
 
     fn write(&mut self, at: u64, bytes: &[u8]) -> Result<(), Stop>
         requires known { at ≤ self.old.known }
+        ensures end { OnOk result (at + length bytes.now < 2 ^ 64) }
         ensures state { self.new ≡ after_call (DiskCall.Write at bytes.now) (result_err result) self.old }
         ensures right { IsFor (result_err result) self.old.life }
     {

@@ -18,6 +18,9 @@ use Rattle.mon_journal.proofs.Gates.{torn_behind, written_behind, torn_gate, wri
 abbrev pub body : List ℕ → List ℕ
 body payload = payload_bytes payload ++ 0 ∷ []
 
+pub length-body : (payload : List ℕ) → length (body payload) ≡ length payload + 5
+length-body payload = omega (arith, length-append (payload_bytes payload) (0 ∷ []), length-append (u32_bytes (length payload)) payload, length-u32_bytes (length payload))
+
 module _ (journal : Journal) (payload : List ℕ) (short : length payload < 2 ^ 32) where
   abbrev P : List (List ℕ) → List ℕ → Type 0
   P payloads = WithOrWithout journal payloads payload
@@ -127,8 +130,9 @@ module _ (journal : Journal) (payload : List ℕ) (short : length payload < 2 ^ 
     in_second mid seen only c (d, left, torn) = third old.seen mid.seen d c (seen_holds journal known old stands) seen (only d left) torn
 
     pub is_kept : (mid new : Content) (known1 known2 : ℕ) → mid.seen ≡ written (journal.next_gate + 1) (body payload) old.seen → new.seen ≡ written journal.next_gate (1 ∷ []) mid.seen → Only new
-        → known1 ≡ max known (journal.next_gate + 1 + length (body payload)) → known2 ≡ max known1 (journal.next_gate + 1) → Keeps (appended journal payload) (payloads_seen old ++ payload ∷ []) known2 new
-    is_kept mid new known1 known2 seen1 seen2 only reach1 reach2 =
+        → journal.next_gate + 1 + length (body payload) < 2 ^ 64 → known1 ≡ max known (journal.next_gate + 1 + length (body payload)) → known2 ≡ max known1 (journal.next_gate + 1) → Keeps (appended journal payload) (payloads_seen old ++ payload ∷ []) known2 new
+    is_kept mid new known1 known2 seen1 seen2 only end reach1 reach2 =
         keeps_by (appended journal payload) (payloads_seen old ++ payload ∷ []) known2 new only
         (fourth old.seen mid.seen new.seen (seen_holds journal known old stands) seen1 seen2)
-        (omega (arith, reach1, reach2, length-append (payload_bytes payload) (0 ∷ []), length-append (u32_bytes (length payload)) payload, length-u32_bytes (length payload)))
+        (omega (arith, reach1, reach2, length-body payload))
+        (omega (arith, end, length-body payload))

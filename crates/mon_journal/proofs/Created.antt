@@ -93,8 +93,9 @@ module _ (member : Member) (generation : ℕ) (first : Option (List ℕ)) (from_
               more 4 told mid last c3 Left (LeavesOnly c2 c3 (images c2)) all either none (at_third head Q is_made (journal.next_gate + 1) long_more old reads c1 c2 c3 one seen1 only1 second whole only2 three) settled
 
     pub is_kept : (c1 c2 c3 : Content) (bytes : List ℕ) (known1 known2 known3 : ℕ) → bytes ≡ head → c1.seen ≡ written 0 (0 ∷ []) old.seen → c2.seen ≡ written 1 bytes c1.seen → c3.seen ≡ written 0 (1 ∷ []) c2.seen → Only c3
-        → known2 ≡ max known1 (1 + length bytes) → known3 ≡ max known2 1 → Keeps journal (first_payloads first) known3 c3
-    is_kept c1 c2 c3 bytes known1 known2 known3 is seen1 seen2 seen3 only reach2 reach3 =
+        → 1 + length bytes < 2 ^ 64 → known2 ≡ max known1 (1 + length bytes) → known3 ≡ max known2 1 → Keeps journal (first_payloads first) known3 c3
+    is_kept c1 c2 c3 bytes known1 known2 known3 is seen1 seen2 seen3 only end reach2 reach3 =
         keeps_by journal (first_payloads first) known3 c3 only
         (is_there head Q is_made (journal.next_gate + 1) long_more old reads c1 c2 c3 seen1 (seen2 ∙ ap (λ (b : List ℕ). written 1 b c1.seen) is) seen3)
         (omega (arith, ap length is, long, reach2, reach3))
+        (omega (arith, ap length is, long, end))

@@ -1,5 +1,5 @@
 -- What opening finds, and what a crash leaves meanwhile.
-use Rattle.std.proofs.Common.{◌≡◌, ◌≢◌, ◌⊎◌, ⊎_elim, ℕ, zero, suc, ◌+◌, ◌≤◌, ◌<◌, min, max, true, false, not, eqb, List, [], ◌∷◌, ◌++◌, length, take, drop, Option, Some, None, Result, Ok, Err, inl, inr, refl, sym, ap, subst, ◌∙◌, length-append, arith}
+use Rattle.std.proofs.Common.{◌≡◌, ◌≢◌, ◌⊎◌, ⊎_elim, ℕ, zero, suc, ◌+◌, ◌≤◌, ◌<◌, ◌^◌, min, max, true, false, not, eqb, List, [], ◌∷◌, ◌++◌, length, take, drop, Option, Some, None, Result, Ok, Err, inl, inr, refl, sym, ap, subst, ◌∙◌, length-append, arith}
 use Rattle.std.proofs.lemmas.Bool.Decides.{nat_tests}
 use Rattle.std.proofs.lemmas.List.{take_all, drop_all, take-append-drop, length-take, append-nil}
 use Rattle.std.specs.Prelude.{IfSome}
@@ -148,10 +148,10 @@ holds_seen journal payloads None s1 holds is = subst (λ (t : Option (List ℕ))
 holds_seen journal payloads (Some file) s1 holds is = subst (λ (t : Option (List ℕ)). IfSome t (Holds journal payloads)) (sym is) (zeroed_holds file journal payloads holds)
 
 module _ (journal : Journal) (payloads : List (List ℕ)) where
-  pub is_live : (old mid new : Content) (known1 known2 : ℕ) → IfSome old.seen (Holds journal payloads) → mid.seen ≡ old.seen → new.seen ≡ written journal.next_gate (0 ∷ []) mid.seen → Only new → known2 ≡ max known1 (journal.next_gate + 1)
+  pub is_live : (old mid new : Content) (known1 known2 : ℕ) → IfSome old.seen (Holds journal payloads) → mid.seen ≡ old.seen → new.seen ≡ written journal.next_gate (0 ∷ []) mid.seen → Only new → journal.next_gate + 1 < 2 ^ 64 → known2 ≡ max known1 (journal.next_gate + 1)
       → Keeps journal payloads known2 new × IfSome old.seen (Holds journal payloads)
-  is_live old mid new known1 known2 holds seen1 seen2 only reach = (
-    keeps_by journal payloads known2 new only (holds_seen journal payloads old.seen new.seen holds (seen2 ∙ ap (λ (t : Option (List ℕ)). written journal.next_gate (0 ∷ []) t) seen1)) (omega (arith, reach)),
+  is_live old mid new known1 known2 holds seen1 seen2 only end reach = (
+    keeps_by journal payloads known2 new only (holds_seen journal payloads old.seen new.seen holds (seen2 ∙ ap (λ (t : Option (List ℕ)). written journal.next_gate (0 ∷ []) t) seen1)) (omega (arith, reach)) end,
     holds,
   )
 

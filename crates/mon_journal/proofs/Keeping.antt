@@ -1,5 +1,5 @@
 -- `Stands` and `Keeps` from what a disk holds, and what it holds from these.
-use Rattle.std.proofs.Common.{◌≡◌, ◌≢◌, ℕ, ◌<◌, ◌∷◌, ◌++◌, List, Option, Some, None, Result, get_or, sym, ap, subst, ◌∙◌}
+use Rattle.std.proofs.Common.{◌≡◌, ◌≢◌, ℕ, ◌+◌, ◌<◌, ◌^◌, ◌∷◌, ◌++◌, List, Option, Some, None, Result, get_or, sym, ap, subst, ◌∙◌}
 use Rattle.std.specs.Prelude.{IfSome}
 use Rattle.mon_disk.specs.Images.{Content, Only}
 use Rattle.mon_journal.specs.declared.stop.JournalStop.{JournalStop}
@@ -32,9 +32,9 @@ all_shut : (journal : Journal) (payloads : List (List ℕ)) (s : Option (List �
 all_shut journal payloads None holds = tt
 all_shut journal payloads (Some file) holds = is_shut journal payloads file holds
 
-pub keeps_by : (journal : Journal) (payloads : List (List ℕ)) (known : ℕ) (x : Content) → Only x → IfSome x.seen (Holds journal payloads) → journal.next_gate < known → Keeps journal payloads known x
-keeps_by journal payloads known x only holds reach = record {
-  stands = record { only = only; holds = itself journal payloads x.seen holds; shut = all_shut journal payloads x.seen holds; reach = reach };
+pub keeps_by : (journal : Journal) (payloads : List (List ℕ)) (known : ℕ) (x : Content) → Only x → IfSome x.seen (Holds journal payloads) → journal.next_gate < known → journal.next_gate + 1 < 2 ^ 64 → Keeps journal payloads known x
+keeps_by journal payloads known x only holds reach room = record {
+  stands = record { only = only; holds = itself journal payloads x.seen holds; shut = all_shut journal payloads x.seen holds; reach = reach; room = room };
   payloads_are = all_these journal payloads x.seen holds;
 }
 

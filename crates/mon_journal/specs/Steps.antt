@@ -1,5 +1,5 @@
 -- What the calls of a journal do on its disk.
-use Rattle.std.specs.Prelude.{◌≡◌, ◌≢◌, ◌⊎◌, ℕ, ◌≤◌, ◌<◌, ◌+◌, max, length, Bool, true, false, ◌&&◌, ◌==◌, nat_lt, List, [], ◌∷◌, ◌++◌, slice_index_or, Option, Some, None, Result, Ok, Err, IfSome}
+use Rattle.std.specs.Prelude.{◌≡◌, ◌≢◌, ◌⊎◌, ℕ, ◌≤◌, ◌<◌, ◌+◌, ◌^◌, max, length, Bool, true, false, ◌&&◌, ◌==◌, nat_lt, List, [], ◌∷◌, ◌++◌, slice_index_or, Option, Some, None, Result, Ok, Err, IfSome}
 use Rattle.mon_types.specs.declared.names.Stop.{Stop}
 use Rattle.mon_types.specs.declared.names.Stop.TheVariants as stop
 use Rattle.mon_types.specs.Faults.{risen}
@@ -85,12 +85,13 @@ abbrev pub payloads_seen : Content → List (List ℕ)
 payloads_seen x = payloads_told x.seen
 
 -- The journal's store is on the disk, if its contents can be seen, and a crash leaves nothing else. Its first closed gate is
--- closed there, and within the known length.
+-- closed there, and within the known length. The place after it is below 2^64.
 pub record Stands (journal : Journal) (known : ℕ) (x : Content) : Type 0 where
   pub only : Only x
   pub holds : IfSome x.seen (λ file. Holds journal (payloads_of file) file)
   pub shut : IfSome x.seen (λ file. slice_index_or file journal.next_gate 0 ≢ 1)
   pub reach : journal.next_gate < known
+  pub room : journal.next_gate + 1 < 2 ^ 64
 
 -- and it has these payloads
 pub record Keeps (journal : Journal) (payloads : List (List ℕ)) (known : ℕ) (x : Content) : Type 0 where

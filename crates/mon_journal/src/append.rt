@@ -40,16 +40,9 @@ impl Journal {
         ensures no_memory { WantsFirst D.state JournalStop.OutOfMemory result disk.old disk.new }
     {
         let body = record_body(alloc, payload)?;
-        // A file that would end above the greatest offset is refused as out of memory.
-        let Some(next_gate) = self
-            .next_gate
-            .checked_add(RECORD_HEAD + payload.len() as u64)
-        else {
-            return Err(JournalStop::OutOfMemory);
-        };
         write_synced(disk, self.next_gate + 1, &body)?;
         write_synced(disk, self.next_gate, &[1])?;
-        self.next_gate = next_gate;
+        self.next_gate += RECORD_HEAD + payload.len() as u64;
         Ok(())
     }
 }

@@ -1,6 +1,6 @@
 //! A write that is on the disk before the next one begins.
 
-ghost use Rattle.std.specs.Prelude.{◌≡◌, ◌≤◌, ◌+◌, max, length, [], ◌∷◌, Some, Err, OnOk, IfSome};
+ghost use Rattle.std.specs.Prelude.{◌≡◌, ◌≤◌, ◌<◌, ◌+◌, ◌^◌, max, length, [], ◌∷◌, Some, Err, OnOk, IfSome};
 ghost use Rattle.std.specs.Result.{result_err};
 ghost use Rattle.mon_types.specs.Faults.{risen};
 ghost use Rattle.mon_types.specs.declared.names.Stop.TheVariants.{OutOfMemory};
@@ -19,6 +19,7 @@ pub fn write_synced<D: Disk>(disk: &mut D, at: u64, bytes: &[u8]) -> Result<(), 
     ensures seen { OnOk result ((D.state disk.new).content.seen
         ≡ written at bytes.now (D.state disk.old).content.seen) }
     ensures durable { OnOk result (Only (D.state disk.new).content) }
+    ensures end { OnOk result (at + length bytes.now < 2 ^ 64) }
     ensures known { OnOk result ((D.state disk.new).known ≡ max (D.state disk.old).known (at + length bytes.now)) }
     ensures no_memory { result ≡ Err OutOfMemory → (D.state disk.new).wants ≡ risen (D.state disk.old).wants }
 

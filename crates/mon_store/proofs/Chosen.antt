@@ -1,5 +1,5 @@
 -- The disk that is live if two were opened.
-use Rattle.std.proofs.Common.{◌≡◌, ◌≢◌, ◌⊎◌, inl, inr, ℕ, ◌≤◌, ◌<◌, Bool, true, false, cond, eqb, ltb, is_some, List, length, Option, Some, None, Result, Ok, Err, refl, sym, ap, subst, ◌∙◌, arith}
+use Rattle.std.proofs.Common.{◌≡◌, ◌≢◌, ◌⊎◌, inl, inr, ℕ, ◌+◌, ◌≤◌, ◌<◌, ◌^◌, Bool, true, false, cond, eqb, ltb, is_some, List, length, Option, Some, None, Result, Ok, Err, refl, sym, ap, subst, ◌∙◌, arith}
 use Rattle.std.specs.Prelude.{IfOk, OnOk, IfSome, slice_index_or}
 use Rattle.std.proofs.lemmas.Bool.{ltb-true, ltb-false, eqb-false}
 use Rattle.mon_types.specs.declared.names.Side.{Side}
@@ -98,6 +98,7 @@ stands_as j k p q known x is s = record {
   holds = by x.seen s.holds;
   shut = subst (λ (n : ℕ). IfSome x.seen (λ file. slice_index_or file n 0 ≢ 1)) gate s.shut;
   reach = subst (λ (n : ℕ). n < known) gate s.reach;
+  room = subst (λ (n : ℕ). n + 1 < 2 ^ 64) gate s.room;
 }
   where
     gate : j.next_gate ≡ k.next_gate

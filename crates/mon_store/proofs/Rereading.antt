@@ -35,6 +35,7 @@ stands_still stop old new journal r reach s = record {
   holds = subst (λ (t : Option (List ℕ)). IfSome t (λ file. Holds journal (payloads_of file) file)) (sym r.seen) s.holds;
   shut = subst (λ (t : Option (List ℕ)). IfSome t (λ file. Rattle.std.specs.Prelude.◌≢◌ (slice_index_or file journal.next_gate 0) 1)) (sym r.seen) s.shut;
   reach = reach;
+  room = s.room;
 }
 
 -- ---- of the two

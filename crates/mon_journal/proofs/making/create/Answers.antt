@@ -143,7 +143,7 @@ returns-clause-kept g c =
     (is_kept c.args.member c.args.generation first c.requires.from_one c.requires.most (is_short c.args.first c.requires.short)
     (g.D.Disk.state c.args.disk.now).content (reads_of (g.D.Disk.state c.args.disk.now).content (g.met.D.Disk.as_read c.args.disk.now)) (g.D.Disk.state c.write_synced.new.disk).content (g.D.Disk.state c.write_synced-2.new.disk).content (g.D.Disk.state c.write_synced-3.new.disk).content
     c.deref.result.now (g.D.Disk.state c.write_synced.new.disk).known (g.D.Disk.state c.write_synced-2.new.disk).known (g.D.Disk.state c.write_synced-3.new.disk).known (c.deref.ensures.value ∙ c.in_ok-head.ensures)
-    c.in_ok-write_synced.ensures.seen c.in_ok-write_synced-2.ensures.seen c.in_ok-write_synced-3.ensures.seen c.in_ok-write_synced-3.ensures.durable c.in_ok-write_synced-2.ensures.known c.in_ok-write_synced-3.ensures.known)
+    c.in_ok-write_synced.ensures.seen c.in_ok-write_synced-2.ensures.seen c.in_ok-write_synced-3.ensures.seen c.in_ok-write_synced-3.ensures.durable c.in_ok-write_synced-2.ensures.end c.in_ok-write_synced-2.ensures.known c.in_ok-write_synced-3.ensures.known)
 
 pub returns-in_err-head-clause-call : goal.returns-in_err-head-clause-call
 returns-in_err-head-clause-call g c =

@@ -59,4 +59,4 @@ returns-clause-found g c =
     let told = subst (λ (t : Option (List ℕ)). IfSome t (FoundIn (Ok c.in_ok-found.found))) c.in_ok-len.ensures.seen c.in_ok-found.ensures.held in
     let holds = told_payloads c.in-Some.journal s (subst (λ (o : Option Journal). IfSome s (FoundIn (Ok o))) c.in-Some.is told) in
     is_live c.in-Some.journal (payloads_told s) (state c.args.disk.now).content (state c.held_on.new.disk).content (state c.write_synced.new.disk).content (state c.held_on.new.disk).known (state c.write_synced.new.disk).known holds
-    (c.in_ok-found.ensures.disk.seen ∙ c.in_ok-len.ensures.seen) c.in_ok-write_synced-in-Some.ensures.seen c.in_ok-write_synced-in-Some.ensures.durable c.in_ok-write_synced-in-Some.ensures.known
+    (c.in_ok-found.ensures.disk.seen ∙ c.in_ok-len.ensures.seen) c.in_ok-write_synced-in-Some.ensures.seen c.in_ok-write_synced-in-Some.ensures.durable c.in_ok-write_synced-in-Some.ensures.end c.in_ok-write_synced-in-Some.ensures.known

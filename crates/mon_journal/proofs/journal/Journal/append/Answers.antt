@@ -1,4 +1,4 @@
-use Rattle.std.proofs.Common.{◌≡◌, [], ◌∷◌, Some, None, ◌+◌, max, length, List, ℕ, ◌∙◌, subst, ap, arith}
+use Rattle.std.proofs.Common.{◌≡◌, [], ◌∷◌, Some, None, ◌+◌, ◌<◌, ◌^◌, max, length, List, ℕ, ◌∙◌, subst, ap, arith}
 use Rattle.std.proofs.lemmas.Result.{err_from_is_err_and}
 use Rattle.mon_disk.specs.declared.disk.DiskCall.TheVariants.{Write, Sync}
 use Rattle.mon_disk.specs.Images.{TornFrom, written}
@@ -7,8 +7,14 @@ use Rattle.mon_disk.proofs.Following.{none, stopped_at, then_calls, without_memo
 use Rattle.mon_journal.specs.Steps.{append_calls, payloads_seen}
 use Rattle.mon_journal.specs.Content.{WithOrWithout}
 use Rattle.mon_journal.proofs.Stops.{stop_back}
-use Rattle.mon_journal.proofs.Appending.{body, before_it, behind_it, in_second, is_kept}
+use Rattle.mon_journal.proofs.Appending.{body, before_it, behind_it, in_second, is_kept, length-body}
 use Rattle.mon_journal.proofs.journal.Journal.append.Goals as goal
+
+pub overflow_add-self-3 : goal.overflow_add-self-3
+overflow_add-self-3 g c =
+    let is : c.deref.result.now ≡ body c.args.payload.now = c.deref.ensures.value ∙ c.in_ok-body.ensures in
+    let end = subst (λ (bytes : List ℕ). c.args.self.now.next_gate + 1 + length bytes < 2 ^ 64) is c.in_ok-write_synced.ensures.end in
+    omega (arith, end, length-body c.args.payload.now)
 
 pub returns-in_err-body-clause-call : goal.returns-in_err-body-clause-call
 returns-in_err-body-clause-call g c =
@@ -17,13 +23,6 @@ returns-in_err-body-clause-call g c =
     let old = g.D.Disk.state c.args.disk.now in
     let P = WithOrWithout j (payloads_seen old.content) c.args.payload.now in
     rw (p.1, p.2) (stopped_at (append_calls j.next_gate c.args.payload.now) P P (without_memory P (none old P (before_it j c.args.payload.now c.requires.short old.content old.known c.requires.stands))) (λ d h. h))
-
-pub returns-in_default-clause-call : goal.returns-in_default-clause-call
-returns-in_default-clause-call g c =
-    let j = c.args.self.now in
-    let old = g.D.Disk.state c.args.disk.now in
-    let P = WithOrWithout j (payloads_seen old.content) c.args.payload.now in
-    stopped_at (append_calls j.next_gate c.args.payload.now) P P (without_memory P (none old P (before_it j c.args.payload.now c.requires.short old.content old.known c.requires.stands))) (λ d h. h)
 
 pub returns-in_err-write_synced-clause-call : goal.returns-in_err-write_synced-clause-call
 returns-in_err-write_synced-clause-call g c =
@@ -78,22 +77,17 @@ returns-clause-kept g c =
     let new = g.D.Disk.state c.write_synced-2.new.disk in
     let seen = c.in_ok-write_synced.ensures.seen ∙ ap (λ (bytes : List ℕ). written (c.args.self.now.next_gate + 1) bytes old.content.seen) is in
     let reach = c.in_ok-write_synced.ensures.known ∙ ap (λ (bytes : List ℕ). max old.known (c.args.self.now.next_gate + 1 + length bytes)) is in
-    let gate : c.in-Some.next_gate ≡ c.args.self.now.next_gate + 5 + length c.args.payload.now = omega arith in
+    let end = subst (λ (bytes : List ℕ). c.args.self.now.next_gate + 1 + length bytes < 2 ^ 64) is c.in_ok-write_synced.ensures.end in
+    let gate : c.args.self.now.next_gate + (5 + length c.args.payload.now) ≡ c.args.self.now.next_gate + 5 + length c.args.payload.now = omega arith in
     rw gate
     (is_kept c.args.self.now c.args.payload.now c.requires.short old.content old.known c.requires.stands mid.content new.content mid.known new.known
-    seen c.in_ok-write_synced-2.ensures.seen c.in_ok-write_synced-2.ensures.durable reach c.in_ok-write_synced-2.ensures.known)
+    seen c.in_ok-write_synced-2.ensures.seen c.in_ok-write_synced-2.ensures.durable end reach c.in_ok-write_synced-2.ensures.known)
 
 pub returns-in_err-body-clause-settles : goal.returns-in_err-body-clause-settles
 returns-in_err-body-clause-settles g c =
     let old = g.D.Disk.state c.args.disk.now in
     let new = g.D.Disk.state c.args.disk.now in
     settles_by old.content new.content new.told (WithOrWithout c.args.self.now (payloads_seen old.content) c.args.payload.now) (returns-in_err-body-clause-call g c).any_moment (g.met.D.Disk.settled c.args.disk.now)
-
-pub returns-in_default-clause-settles : goal.returns-in_default-clause-settles
-returns-in_default-clause-settles g c =
-    let old = g.D.Disk.state c.args.disk.now in
-    let new = g.D.Disk.state c.args.disk.now in
-    settles_by old.content new.content new.told (WithOrWithout c.args.self.now (payloads_seen old.content) c.args.payload.now) (returns-in_default-clause-call g c).any_moment (g.met.D.Disk.settled c.args.disk.now)
 
 pub returns-in_err-write_synced-clause-settles : goal.returns-in_err-write_synced-clause-settles
 returns-in_err-write_synced-clause-settles g c =
