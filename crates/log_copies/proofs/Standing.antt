@@ -1,4 +1,4 @@
--- A monitor of the log stays one, whatever comes to it and whenever it crashes. What it sends is the log's. All of this
+-- A monitor of the log stays one, whatever arrives at it and whenever it crashes. What it sends is the log's. All of this
 -- lasts when the log grows. Other parts of the invariant, about elections, numbers and values, give the other premises.
 use Rattle.std.proofs.Common.{◌≡◌, ℕ, zero, suc, ◌≤◌, ◌<◌, ◌^◌, true, false, List, [], ◌∷◌, length, IfSome, ◌⊎◌, inl, inr, Ok, refl, sym, ap, subst, ◌∙◌, arith}
 use Rattle.mon_tx.specs.declared.op.Op.{Op}

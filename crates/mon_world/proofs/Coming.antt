@@ -1,4 +1,4 @@
--- The inputs that events bring may come to the monitors of a world.
+-- The monitors of a world may get the inputs that events bring.
 use Rattle.std.proofs.Common.{ℕ, zero, suc, ◌<◌, List, [], ◌∷◌, map, Option, Some, None, IfSome, arith}
 use Rattle.std.specs.List.{AllByRecursion}
 use Rattle.std.specs.Prelude.{slice_get}

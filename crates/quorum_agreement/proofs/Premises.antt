@@ -62,7 +62,7 @@ module _ (me : Me) (g : Ghost) (w : Readings) (s : State) (G : Glob me.member.mo
   requests_in phase.Updating t k = no t
   requests_in phase.Peon t k = no t
 
-  -- a monitor that votes in an odd epoch stands for election
+  -- a monitor that votes in an odd epoch is a candidate
   odd_stands : (p : Phase) → votes p ≡ true → is_even (epoch_of w) ≡ false → InPhase n g i c p → StandsIn n i c
   odd_stands phase.Electing t odd k = k
   odd_stands phase.Collecting t odd k = no (sym odd ∙ G.roles.even i (epoch_in c.own) i c.quorum k.0.reigns.role)

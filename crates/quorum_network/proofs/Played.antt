@@ -1,5 +1,5 @@
 -- The premise of the laws can be met. Processes may begin in any order, with numbers that their ranks didn't have
--- before. A datagram that was sent may come to its receiver, once, never, late or again. A process may be killed in
+-- before. A datagram that was sent may arrive at its receiver once, never, late or again. A process may be killed in
 -- each of its iterations.
 use Rattle.std.proofs.Common.{◌≡◌, ℕ, ◌≤◌, ◌^◌, zero, suc, eqb, Bool, true, false, cond, List, [], ◌∷◌, ◌++◌, Option, Some, None, Ok, refl, sym, ap, subst, inl, inr, arith}
 use Rattle.std.proofs.lemmas.Bool.{eqb-true, eq-eqb}
@@ -58,7 +58,7 @@ comes_again ms later earlier j i bytes clock may was = comes_late ms (comes j i 
 pub data Play : Type 0 where
   -- a process begins on the map that the last one of its rank left, in a life with this number
   Starts : (rank number : ℕ) → Until → Play
-  -- the datagram with this number, counted from 0 in the order of sending, comes to the monitor that it was sent to, at
+  -- the datagram with this number, counted from 0 in the order of sending, arrives at the monitor that it was sent to, at
   -- this reading of that monitor's clock
   Comes : (datagram clock : ℕ) → Until → Play
   -- nothing comes to a process

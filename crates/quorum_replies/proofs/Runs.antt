@@ -65,7 +65,7 @@ more_asked (Start rank at) asked i t = omega arith
 more_asked (Deliver k at) asked i t = omega arith
 more_asked (Ring rank timer at) asked i t = omega arith
 
--- a request that comes to a monitor is counted among what was asked of it; b is true if and only if it is monitor j
+-- a request that arrives at a monitor is counted among what was asked of it; b is true if and only if it is monitor j
 abbrev Counts : World → Plain → (rank : ℕ) → Input → Type 0
 Counts w p rank came = (j : ℕ) (t : Session) (b : Bool) → eqb rank j ≡ b → times_asked j t w.asked + cond b (asks_now t came) 0 ≤ times_asked j t (with_asked p w.asked)
 

@@ -115,7 +115,7 @@ module _ (me : Me) (now : ℕ) (is_read : Message → Bool) (R : ReadsShort is_r
 
   -- ---- leading
 
-  -- if its quorum is itself alone, the monitor was seen to stand for election at most
+  -- if its quorum is itself alone, the monitor was seen as a candidate at most
   abbrev pub Company : List Sent → List Bool → Type 0
   Company out q = is_alone me q ≡ true → IsIdle strict (after out)
 
@@ -208,7 +208,7 @@ module _ (me : Me) (now : ℕ) (is_read : Message → Bool) (R : ReadsShort is_r
   elects x = and_then (λ (y : Course). Unit {0}) Keeps (in_odd_epoch x) _ (anyway (in_odd_epoch x))
       (λ y _. done (inr (told me is_read R (body.Propose (own_table me y)) (epoch_of y.readings) phase.Electing None (λ to. refl) refl refl y.out (others me) (has_others me several) seen)))
 
-  -- a monitor wins that was seen to stand for election at most
+  -- a monitor wins that was seen as a candidate at most
   pub wins : (q : List Bool) (x : Course) → IsIdle strict (after x.out) → Then Keeps (win me now q x)
   unfolding win
   wins q x i = and_then (λ (y : Course). y.out ≡ x.out) Keeps (in_next_epoch x) _ (where_fits (λ (y : Course). y.out ≡ x.out) which.Epoch (suc (epoch_of x.readings)) _ (λ _. done refl))

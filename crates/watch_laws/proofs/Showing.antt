@@ -146,7 +146,7 @@ module _ (me : Me) (is_read : Message → Bool) where
     abbrev pub Is : Seen → Course → Type 0
     Is s x = At (all x.out s) (epoch_of x.readings) x.state.phase x.state.leader.quorum x.state.peon.leader x.state.requester.provider
 
-    -- a leader whose quorum is itself alone was seen to stand for election at most
+    -- a leader whose quorum is itself alone was seen as a candidate at most
     pub idle_alone : (s : Seen) (e : ℕ) (p : Phase) (q : List Bool) (l v : ℕ) → At s e p q l v → (p ≡ phase.Collecting) ⊎ ((p ≡ phase.Previous) ⊎ ((p ≡ phase.Active) ⊎ (p ≡ phase.Updating))) → is_alone me q ≡ true → IsIdle strict s
     idle_alone s e p q l v k (inl same) t = led (subst (λ (z : Phase). At s e z q l v) same k)
       where
