@@ -33,7 +33,7 @@ class Link:
 
     def sent(self, now, to, datagram):
         """The monitor sends a datagram to another one. Returns whether it goes on the wire now."""
-        goes = apps(resolve(WORLD, 'goes_now'), to, datagram, now, self.copies)
+        goes = apps(resolve(WORLD, 'is_sent_now'), to, datagram, now, self.copies)
         self.copies = apps(resolve(WORLD, 'sent'), True, to, datagram, now, self.copies)
         return goes
 
@@ -49,7 +49,7 @@ class Link:
         is_kept = apps(resolve(SENDING, 'isnt_handed_up'), got, now, self.copies)
         again = apps(resolve(SENDING, 'may_go'), got, self.run)
         after = apps(resolve(SENDING, 'with_got'), True, got, now, self.copies)
-        going = apps(resolve(WORLD, 'all_going'), again, now, after)
+        going = apps(resolve(WORLD, 'all_due_copies'), again, now, after)
         self.copies = apps(resolve(WORLD, 'all_passed'), again, now, after)
         self.run = apps(resolve(SENDING, 'run_after'), got, self.run)
         return got.n == 'Datagram' and not is_kept, [(out.d['to'].a[0], out.d['bytes']) for out in going]

@@ -25,7 +25,7 @@ use Rattle.quorum_model.specs.CalmRun.{Answer}
 use Rattle.quorum_model.specs.CalmSchedule.{request_of}
 use Rattle.quorum_model.specs.Happens.{happens}
 use Rattle.quorum_model.specs.Monitors.{Monitors}
-use Rattle.quorum_model.specs.World.{Client, Comes, Envelope, Plain, World}
+use Rattle.quorum_model.specs.World.{Client, Arrives, Envelope, Plain, World}
 use Rattle.std.proofs.Common.{Bool, Err, List, Ok, [], ap, append-nil, arith, cond, eqb, false, length, ltb, refl, subst, suc, sym, true, zero, ℕ, ◌+◌, ◌-◌, ◌++◌, ◌<◌, ◌^◌, ◌∙◌, ◌∷◌, ◌≡◌, ◌≤◌}
 use Rattle.std.proofs.lemmas.Bool.{eq-eqb, ne_eqb}
 use Rattle.std.specs.List.{range_with_len}
@@ -70,7 +70,7 @@ module _ (ms : Monitors) (H : Role → Store → State → Type 0) where
   pub record Goes (T : ℕ → Role) (more : List (List ℕ)) (told : List Answer) (c k : ℕ) (p : Plain)
       (w : World) : Type 0 where
     pub next : World
-    pub is : happens ms w (Comes p) ≡ Ok next
+    pub is : happens ms w (Arrives p) ≡ Ok next
     pub later : After ms Role H T [] more told c k next
 
   -- monitor i gets a client's request

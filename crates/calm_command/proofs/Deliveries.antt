@@ -3,7 +3,7 @@ use Rattle.quorum_model.specs.CalmSchedule.{deliveries, numbers_delivered}
 use Rattle.quorum_model.specs.Happens.{Stop}
 use Rattle.quorum_model.specs.Monitors.{Monitors}
 use Rattle.quorum_model.specs.Runs.{Ran, goes_on, ran_from, run_from}
-use Rattle.quorum_model.specs.World.{Comes, Deliver, Event, World}
+use Rattle.quorum_model.specs.World.{Arrives, Deliver, Event, World}
 use Rattle.std.proofs.Common.{List, Result, [], ap, arith, cond, length, refl, suc, sym, zero, ℕ, ◌+◌, ◌-◌, ◌≤◌, ◌∙◌, ◌∷◌, ◌≡◌}
 use Rattle.std.proofs.lemmas.Bool.{le-leb, lt-leb}
 use Rattle.std.specs.List.{range_with_len}
@@ -34,11 +34,11 @@ ends ms (suc most) _ _ _ _ (delivered k w next j last lt h d) le few =
     let up = drains_up ms (suc k) next j last d in
     let E = ends ms most (suc k) next j last d le (omega arith) in
     let there = le-leb (suc k) (length w.messages) (omega arith) in
-    let one : run_from ms w (Comes (Deliver (suc k) 0) ∷ []) ≡ next =
-    ap (λ (r : Ran). r.world) (ran_one ms w next (Comes (Deliver (suc k) 0)) h) in
+    let one : run_from ms w (Arrives (Deliver (suc k) 0) ∷ []) ≡ next =
+    ap (λ (r : Ran). r.world) (ran_one ms w next (Arrives (Deliver (suc k) 0)) h) in
     let count : j - k ≡ suc (j - suc k) = omega arith in
     let more : suc k + 1 ≡ suc (suc k) = omega arith in
-    let e : Event = Comes (Deliver (suc k) 0) in
+    let e : Event = Arrives (Deliver (suc k) 0) in
     let opened : deliveries ms (suc most) (suc k) w ≡ e ∷ deliveries ms most (suc (suc k)) next =
     ap (λ b. cond b (e ∷ deliveries ms most (suc (suc k)) (run_from ms w (e ∷ []))) []) there
     ∙ ap (λ (v : World). e ∷ deliveries ms most (suc (suc k)) v) one in

@@ -1,5 +1,5 @@
 -- A run that rests goes on with one more command, and rests again.
-use Rattle.log_copies.proofs.Telling.{monitor_keeps, read_last}
+use Rattle.log_copies.proofs.Matching.{monitor_keeps, read_last}
 use Rattle.log_copies.specs.Versions.{HasVersions}
 use Rattle.log_model.proofs.Committed.{value_told}
 use Rattle.log_model.proofs.Lists.{length_push}

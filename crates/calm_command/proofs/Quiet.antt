@@ -1,5 +1,5 @@
 -- What monitors do at messages and commands that write nothing.
-use Rattle.log_copies.specs.Versions.{HasVersions, behind}
+use Rattle.log_copies.specs.Versions.{HasVersions, store_after}
 use Rattle.log_model.specs.LogOfValues.{AllValues}
 use Rattle.mon_bytes.specs.declared.command.Command.{Command}
 use Rattle.mon_bytes.specs.declared.command.CommandRefused.{CommandRefused}
@@ -20,7 +20,7 @@ use Rattle.mon_wire.specs.declared.reply.Reply.{Reply}
 use Rattle.mon_wire.specs.declared.request.Session.{Session}
 use Rattle.quorum_model.proofs.Members.{member_of}
 use Rattle.quorum_agreement.proofs.Grown.{grown_none}
-use Rattle.log_copies.proofs.Telling.{read_last}
+use Rattle.log_copies.proofs.Matching.{read_last}
 use Rattle.quorum_model.specs.CalmRun.{Answer}
 use Rattle.quorum_model.specs.CalmSchedule.{request_of}
 use Rattle.quorum_model.specs.Growth.{grown}
@@ -52,14 +52,14 @@ module _ (ms : Monitors) where
         (lt : ltb i n ≡ true) (m : Store) (s : State) → Holds ms base from m s
         → Does ms Role (Holds ms base) i lt m s came l to out said l
 
-    unwritten : (m : Store) → Stored base u p m → Stored base u p (behind [] m)
+    unwritten : (m : Store) → Stored base u p m → Stored base u p (store_after [] m)
     unwritten m S = subst (λ (m : Store). Stored base u p m) (sym (nothing_written m)) S
 
-    kept : (m : Store) → Stored base u p m → grown l (behind [] m) ≡ l
+    kept : (m : Store) → Stored base u p m → grown l (store_after [] m) ≡ l
     kept m S =
         let T = unwritten m S in
-        grown_none l (behind [] m) T.unmarked
-        (let r = read_last base fits all u (behind [] m) T.versions in omega arith)
+        grown_none l (store_after [] m) T.unmarked
+        (let r = read_last base fits all u (store_after [] m) T.versions in omega arith)
 
     module _ (k : ℕ) (seq : ℕ) (session : Session) where
       pub long_peon : (c : Command) → is_too_long c ≡ true

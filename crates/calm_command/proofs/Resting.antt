@@ -18,7 +18,7 @@ use Rattle.quorum_model.specs.CalmRun.{Answer, answers_of, log_of, reply_over, v
 use Rattle.quorum_model.specs.CalmSchedule.{Order, asks, deliveries, most_sent, number_delivered, numbers_delivered, request_of, session, then_delivered}
 use Rattle.quorum_model.specs.Monitors.{Monitors}
 use Rattle.quorum_model.specs.Runs.{Ran, ran, ran_from, run}
-use Rattle.quorum_model.specs.World.{Client, Comes, Envelope, Event, World, first_world}
+use Rattle.quorum_model.specs.World.{Client, Arrives, Envelope, Event, World, first_world}
 use Rattle.std.proofs.Common.{Err, List, None, Option, [], ap, append-nil, arith, length, refl, subst, suc, sym, true, zero, ℕ, ◌+◌, ◌-◌, ◌++◌, ◌^◌, ◌∙◌, ◌∷◌, ◌≡◌, ◌≤◌}
 use Rattle.std.proofs.lemmas.List.Elements.{filter_map-append}
 use Rattle.std.proofs.lemmas.List.FromFn.{length-range_with_len}
@@ -133,7 +133,7 @@ module _ (ms : Monitors) where
     k0 = length w0.messages
 
     abbrev came : Event
-    came = Comes (Client c.0 0 (session (suc (length cs))) (request_of c.1))
+    came = Arrives (Client c.0 0 (session (suc (length cs))) (request_of c.1))
 
     abbrev pub later : List Event
     later = then_delivered ms events (asks (suc (length cs)) c.0 (request_of c.1) ∷ [])

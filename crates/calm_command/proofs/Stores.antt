@@ -2,13 +2,13 @@
 use Rattle.log_copies.proofs.Growing as growing
 use Rattle.log_copies.proofs.Leaving.{still_has}
 use Rattle.log_copies.proofs.Learning as learning
-use Rattle.log_copies.proofs.Telling.{monitor_keeps, read_last, record_there}
-use Rattle.log_copies.specs.Versions.{HasVersions, behind}
+use Rattle.log_copies.proofs.Matching.{monitor_keeps, read_last, record_there}
+use Rattle.log_copies.specs.Versions.{HasVersions, store_after}
 use Rattle.log_model.proofs.AnyValue.{value_spares}
 use Rattle.log_model.proofs.Committed.{shorts, holds, value_told}
 use Rattle.log_model.proofs.FoldWindows.{keeps_view, view_last}
 use Rattle.log_model.proofs.Lists.{length_push}
-use Rattle.log_model.proofs.Logs.{entry_push, fold_stays, fronts_push}
+use Rattle.log_model.proofs.Logs.{entry_push, fold_stays, log_prefix_push}
 use Rattle.log_model.proofs.Older.{older_itself}
 use Rattle.log_model.proofs.Records.{IsVersion}
 use Rattle.log_model.proofs.RowReadings as rows
@@ -41,7 +41,7 @@ use Rattle.calm_sizes.specs.Sizes.{longest}
 use Rattle.calm_sizes.proofs.Stores.{short_behind}
 
 -- no change
-pub nothing_written : (m : Store) → behind [] m ≡ m
+pub nothing_written : (m : Store) → store_after [] m ≡ m
 unfolding joined
 nothing_written m = refl
 
@@ -99,7 +99,7 @@ module _ (log : List (List ℕ)) (x : List Op) (V : Makes log x) where
         rank = V.rank;
         newer = x;
         made = V.made;
-        spelled = older_itself x;
+        encoded = older_itself x;
       }
 
   keeps : Keeps log v (view_at log v)
@@ -123,7 +123,7 @@ module _ (log : List (List ℕ)) (x : List Op) (V : Makes log x) where
       let S : HasVersions log v m = record {
         within = omega arith;
         last = W.last;
-        folded = W.folded ∙ fold_stays (fronts_push log (text x)) v (omega arith);
+        folded = W.folded ∙ fold_stays (log_prefix_push log (text x)) v (omega arith);
       } in
       sym (value_told log (omega arith) V.all (readings_of m) (monitor_keeps log (omega arith) V.all v m S)
       (read_last log (omega arith) V.all v m S) V.command V.asked)
@@ -132,7 +132,7 @@ module _ (log : List (List ℕ)) (x : List Op) (V : Makes log x) where
   pub longer : (p : ℕ) (m : Store) → Stored log v p m → Stored more v p m
   longer p m S =
       record {
-        versions = growing.versions_stay (fronts_push log (text x)) v m S.versions;
+        versions = growing.versions_stay (log_prefix_push log (text x)) v m S.versions;
         epoch = S.epoch;
         promise = S.promise;
         unmarked = S.unmarked;
@@ -142,7 +142,7 @@ module _ (log : List (List ℕ)) (x : List Op) (V : Makes log x) where
 
   module _ (m : Store) where
     abbrev voted : Store
-    voted = behind (Vote (suc v) 100 x ∷ []) m
+    voted = store_after (Vote (suc v) 100 x ∷ []) m
 
     told_voted : readings_of voted ≡ played (Vote (suc v) 100 x ∷ []) (readings_of m)
     told_voted = readings-joined (Vote (suc v) 100 x ∷ []) ((omega arith, omega arith), tt) m
@@ -158,7 +158,7 @@ module _ (log : List (List ℕ)) (x : List Op) (V : Makes log x) where
     }
 
     abbrev learned : Store
-    learned = behind (Learn (suc v) x ∷ Last (suc v) ∷ []) m
+    learned = store_after (Learn (suc v) x ∷ Last (suc v) ∷ []) m
 
     told_learned : readings_of learned ≡ played (Learn (suc v) x ∷ Last (suc v) ∷ []) (readings_of m)
     told_learned = readings-joined (Learn (suc v) x ∷ Last (suc v) ∷ []) (tt, (omega arith, tt)) m
@@ -169,7 +169,7 @@ module _ (log : List (List ℕ)) (x : List Op) (V : Makes log x) where
 
     pub stored_learned : (p : ℕ) → p ≤ suc v → Stored more v p m → Stored more (suc v) (suc v) learned
     stored_learned p le S = record {
-      versions = subst (λ (e : ℕ). HasVersions more e (behind (Learn (suc v) x ∷ Last e ∷ []) m)) (omega arith)
+      versions = subst (λ (e : ℕ). HasVersions more e (store_after (Learn (suc v) x ∷ Last e ∷ []) m)) (omega arith)
           (learning.learned more short values v m S.versions x [] (version, tt) (omega (arith, long)));
       epoch = ap (λ (w : Readings). w.epoch) told_learned ∙ ap (λ (o : Own). o.epoch) spared ∙ S.epoch;
       promise = ap (λ (w : Readings). w.promise) told_learned ∙ ap (λ (o : Own). o.promise) spared ∙ S.promise;

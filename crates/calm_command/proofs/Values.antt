@@ -1,5 +1,5 @@
 -- What monitors do with one more value.
-use Rattle.log_copies.specs.Versions.{HasVersions, behind}
+use Rattle.log_copies.specs.Versions.{HasVersions, store_after}
 use Rattle.log_model.proofs.AnyValue.{value_spares}
 use Rattle.log_model.specs.LogOfValues.{view_at}
 use Rattle.mon_bytes.specs.declared.command.Command.{Command}
@@ -78,18 +78,18 @@ module _ (ms : Monitors) where
     quiet = adds_none log x V
 
     voted : (p : ℕ) (m : Store) → Stored longer v p m
-        → Stored longer v (suc v) (behind (Vote (suc v) 100 x ∷ []) m)
+        → Stored longer v (suc v) (store_after (Vote (suc v) 100 x ∷ []) m)
     voted p m = stored_voted log x V m p
 
     learned : (p : ℕ) (m : Store) → p ≤ suc v → Stored longer v p m
-        → Stored longer (suc v) (suc v) (behind (Learn (suc v) x ∷ Last (suc v) ∷ []) m)
+        → Stored longer (suc v) (suc v) (store_after (Learn (suc v) x ∷ Last (suc v) ∷ []) m)
     learned p m = stored_learned log x V m p
 
     length_longer : length longer ≡ suc v
     length_longer = long log x V
 
     -- the same store
-    same : (u p : ℕ) (m : Store) → Stored longer u p m → Stored longer u p (behind [] m)
+    same : (u p : ℕ) (m : Store) → Stored longer u p m → Stored longer u p (store_after [] m)
     same u p m S = subst (λ (m : Store). Stored longer u p m) (sym (nothing_written m)) S
 
     -- ---- the peons
@@ -258,8 +258,8 @@ module _ (ms : Monitors) where
     }
 
     -- it begins a value if there are others
-    abbrev Comes : (came : Input) (acks : List Bool) (taken later : List ℕ) (o : Origin) → Type 0
-    Comes came acks taken later o =
+    abbrev Arrives : (came : Input) (acks : List Bool) (taken later : List ℕ) (o : Origin) → Type 0
+    Arrives came acks taken later o =
         Leads_to ms longer (short log x V) (values log x V) log v v (omega arith) came acks
         taken later c o
 
@@ -293,7 +293,7 @@ module _ (ms : Monitors) where
         ∙ ap (λ (c : ℕ). is_empty (range_with_len 1 c)) (let e : n - 1 ≡ 0 = omega arith in e)
 
     pub proposes : (came : Input) (acks : List Bool) (taken later : List ℕ) (o : Origin) → is_too_long c ≡ false
-        → rank_of o ≡ V.asked → 1 < n → Comes came acks taken later o
+        → rank_of o ≡ V.asked → 1 < n → Arrives came acks taken later o
         → HeardInput came (Leading v v acks taken) (Voting v (firsts 1) x o later)
         (to_each n (body.Begin 100 (suc v) x) (range_with_len 1 (n - 1))) [] log
     unfolding begin_with
@@ -329,7 +329,7 @@ module _ (ms : Monitors) where
 
     -- and commits it at once if there are none
     pub commits_alone : (came : Input) (acks : List Bool) (taken later : List ℕ) (o : Origin)
-        → is_too_long c ≡ false → rank_of o ≡ V.asked → n ≡ 1 → Comes came acks taken later o
+        → is_too_long c ≡ false → rank_of o ≡ V.asked → n ≡ 1 → Arrives came acks taken later o
         → HeardInput came (Leading v v acks taken) (Leading (suc v) (suc v) acks later)
         (routed n o (reply.Done (suc v))) (replied o (reply.Done (suc v))) longer
     commits_alone came acks taken later o small_text from one comes lt m s H =

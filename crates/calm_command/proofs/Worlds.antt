@@ -1,7 +1,7 @@
 -- Monitors each of whose states is known, and messages that are delivered in order.
 use Rattle.mon_kv.specs.Readers.{most_size, size_of}
 use Rattle.mon_msg.specs.Joined.{joined}
-use Rattle.mon_msg.specs.Protocol.Changes.{spelled}
+use Rattle.mon_msg.specs.Protocol.Changes.{encoded}
 use Rattle.mon_msg.specs.Protocol.Course.{Course}
 use Rattle.mon_msg.specs.Protocol.Reaction.{any_reaction, reaction_of}
 use Rattle.mon_msg.specs.Protocol.Readings.{readings_of, shared_entries}
@@ -21,7 +21,7 @@ use Rattle.quorum_model.specs.Growth.{grown}
 use Rattle.quorum_model.specs.Happens.{Full, after_meeting, happens, in_world, moved, put_at, unless_stopped}
 use Rattle.quorum_model.specs.Meets.{Arrival, arrival, meeting, meeting_at, state_at}
 use Rattle.quorum_model.specs.Monitors.{Monitors}
-use Rattle.quorum_model.specs.World.{Comes, Deliver, Envelope, Plain, Replied, World}
+use Rattle.quorum_model.specs.World.{Arrives, Deliver, Envelope, Plain, Replied, World}
 use Rattle.std.proofs.Common.{Err, List, None, Ok, Option, Result, Some, [], ap, append-nil, append_assoc, arith, cond, false, inl, inr, length, length-append, ltb, map, refl, subst, suc, sym, true, zero, ℕ, ◌+◌, ◌++◌, ◌<◌, ◌≤◌, ◌∙◌, ◌∷◌, ◌≡◌, ◌⊎◌}
 use Rattle.std.proofs.lemmas.Bool.{cases_eq, eq-eqb, lt-ltb, ne_eqb}
 use Rattle.std.proofs.lemmas.List.{map-append}
@@ -53,7 +53,7 @@ replies_are event i m (sent.Message to x ∷ sends) = replies_are event i m send
 pub data Drains (ms : Monitors) : ℕ → World → ℕ → World → Type 0 where
   finished : (k : ℕ) (w : World) → Drains ms k w k w
   delivered : (k : ℕ) (w next : World) (j : ℕ) (last : World) → k < length w.messages
-      → happens ms w (Comes (Deliver (suc k) 0)) ≡ Ok next → Drains ms (suc k) next j last → Drains ms k w j last
+      → happens ms w (Arrives (Deliver (suc k) 0)) ≡ Ok next → Drains ms (suc k) next j last → Drains ms k w j last
 
 pub drains_on : (ms : Monitors) (k : ℕ) (w : World) (j : ℕ) (v : World) (l : ℕ) (last : World) → Drains ms k w j v
     → Drains ms j v l last → Drains ms k w l last
@@ -67,17 +67,17 @@ happens_is : (ms : Monitors) (w : World) (p : Plain) (i : ℕ) (lt : ltb i ms.co
     (y : Course) → arrival w p ≡ Some (record { rank = i; at = 0; input = came })
     → state_at i (w.state i) came ≡ Some s
     → react (member_of ms i lt) (shared_entries (w.store i)) 0 (readings_of (w.store i)) s came ≡ Ok y
-    → ltb most_size (size_of (apply (joined (spelled y.changes)) (w.store i))) ≡ false
-    → happens ms w (Comes p) ≡ Ok (moved w p i (reaction_of y))
+    → ltb most_size (size_of (apply (joined (encoded y.changes)) (w.store i))) ≡ false
+    → happens ms w (Arrives p) ≡ Ok (moved w p i (reaction_of y))
 happens_is ms w p i lt came s y a c d e =
-    ap (λ (o : Option Arrival). after_meeting w (Comes p) (meeting_at ms w o)) a
-    ∙ ap (λ (o : Option Me). after_meeting w (Comes p)
+    ap (λ (o : Option Arrival). after_meeting w (Arrives p) (meeting_at ms w o)) a
+    ∙ ap (λ (o : Option Me). after_meeting w (Arrives p)
     (meeting (record { rank = i; at = 0; input = came }) (w.store i) o (state_at i (w.state i) came))) (me_is ms i lt)
-    ∙ ap (λ (o : Option State). after_meeting w (Comes p)
+    ∙ ap (λ (o : Option State). after_meeting w (Arrives p)
     (meeting (record { rank = i; at = 0; input = came }) (w.store i) (Some (member_of ms i lt)) o)) c
     ∙ ap (λ (r : Result Course Which). in_world (moved w p i) (unless_stopped (w.store i) (any_reaction r))) d
     ∙ ap (λ b. in_world (moved w p i)
-    (cond b (Err (Full (size_of (apply (joined (spelled y.changes)) (w.store i))))) (Ok (reaction_of y)))) e
+    (cond b (Err (Full (size_of (apply (joined (encoded y.changes)) (w.store i))))) (Ok (reaction_of y)))) e
 
 module _ (ms : Monitors) (D : Type 0) (Holds : D → Store → State → Type 0) where
   -- a monitor is up, and its store and its state are as d says
@@ -101,11 +101,11 @@ module _ (ms : Monitors) (D : Type 0) (Holds : D → Store → State → Type 0)
       (d : D) (out : List Envelope) (said : List Answer) (more : List (List ℕ)) : Type 0 where
     pub y : Course
     pub is : react (member_of ms i lt) (shared_entries m) 0 (readings_of m) s came ≡ Ok y
-    pub small : ltb most_size (size_of (apply (joined (spelled y.changes)) m)) ≡ false
+    pub small : ltb most_size (size_of (apply (joined (encoded y.changes)) m)) ≡ false
     pub sends : messages_of y.out ≡ out
     pub tells : answers_in i y.out ≡ said
-    pub grows : grown log (apply (joined (spelled y.changes)) m) ≡ more
-    pub leaves : Holds d (apply (joined (spelled y.changes)) m) y.state
+    pub grows : grown log (apply (joined (encoded y.changes)) m) ≡ more
+    pub leaves : Holds d (apply (joined (encoded y.changes)) m) y.state
 
   -- one event at monitor i, which takes the monitors from the states S to the states T
   pub record One (S T : ℕ → D) (i : ℕ) (came : Input) (log : List (List ℕ)) (out : List Envelope)
@@ -120,7 +120,7 @@ module _ (ms : Monitors) (D : Type 0) (Holds : D → Store → State → Type 0)
     -- the world after it
     pub record Moves (p : Plain) (told : List Answer) (w : World) : Type 0 where
       pub next : World
-      pub is : happens ms w (Comes p) ≡ Ok next
+      pub is : happens ms w (Arrives p) ≡ Ok next
       pub each : (j : ℕ) → j < ms.count → Is (T j) (next.store j) (next.state j)
       pub messages : next.messages ≡ w.messages ++ out
       pub logged : next.log ≡ more
@@ -150,7 +150,7 @@ module _ (ms : Monitors) (D : Type 0) (Holds : D → Store → State → Type 0)
         does = O.does here (w.store i) at.state at.holds
 
         after : Store
-        after = apply (joined (spelled does.y.changes)) (w.store i)
+        after = apply (joined (encoded does.y.changes)) (w.store i)
 
         by : (j : ℕ) → j < ms.count → (j ≡ i) ⊎ (j ≡ i → ⊥)
             → Is (T j) (put_at w.store i after j) (put_at w.state i (Some does.y.state) j)

@@ -29,7 +29,7 @@ use Rattle.quorum_model.specs.Happens.{put_at}
 use Rattle.quorum_model.specs.Meets.{Arrival}
 use Rattle.quorum_model.specs.Monitors.{Monitors, classic}
 use Rattle.quorum_model.specs.Runs.{Ran, ran_from, ran, run, goes_on}
-use Rattle.quorum_model.specs.World.{World, Start, Event, Comes, Envelope, Replied, first_world}
+use Rattle.quorum_model.specs.World.{World, Start, Event, Arrives, Envelope, Replied, first_world}
 use Rattle.calm_quorum.proofs.Rounds.{did, flat, first_of_them, mixed_none, mixed_more, crew, at_team, at_other}
 use Rattle.calm_quorum.proofs.Sets.{chosen, all_in}
 use Rattle.calm_quorum.proofs.States.{me_at, reacts, leasing, following, acked, unacked, born, promised, alone, born_is, alone_is}
@@ -161,7 +161,7 @@ module _ (n : ℕ) (some : 1 ≤ n) (most : n ≤ 15) where
 -- ---- the starts
 
 abbrev start_events : ℕ → ℕ → List Event
-start_events a k = map (λ i. Comes (Start i 0)) (range_with_len a k)
+start_events a k = map (λ i. Arrives (Start i 0)) (range_with_len a k)
 
 none_delivered : (a k : ℕ) → numbers_delivered (start_events a k) ≡ []
 none_delivered a zero = refl
@@ -213,7 +213,7 @@ module _ (n : ℕ) (most : n ≤ 15) where
       let B = begins k (suc a) C.next two (omega arith) shows in
       record {
         last = B.last;
-        goes = rw z (ran_next ms w C.next (Comes (Start a 0)) (start_events (suc a) k) C.happened ∙ B.goes);
+        goes = rw z (ran_next ms w C.next (Arrives (Start a 0)) (start_events (suc a) k) C.happened ∙ B.goes);
         shows = B.shows;
       }
 
@@ -398,7 +398,7 @@ calm_one most =
     let shows : Shows [] (put_at (λ _. nobody_up) 0 alone_up) [] [] C.next = rw t at C.shows in
     let E = settled_is ms [] (put_at (λ _. nobody_up) 0 alone_up) 1000 [] [] C.next (omega arith) shows in
     let goes : ran_from ms first_world (start_events 0 1) ≡ record { world = C.next; stop = None } =
-    ran_next ms first_world C.next (Comes (Start 0 0)) [] C.happened in
+    ran_next ms first_world C.next (Arrives (Start 0 0)) [] C.happened in
     let at : run ms (start_events 0 1) ≡ C.next = ap (λ (r : Ran). r.world) goes in
     let d : deliveries ms 1000 1 (run ms (start_events 0 1)) ≡ deliveries ms 1000 1 C.next =
     ap (deliveries ms 1000 1) at in

@@ -15,12 +15,12 @@ use Rattle.log_model.proofs.Lists.{all_front}
 use Rattle.quorum_model.specs.CalmRun.{Answer, answers}
 use Rattle.quorum_model.specs.CalmSchedule.{deliveries, numbers_delivered}
 use Rattle.quorum_model.specs.Clients.{messages_of, replies_of}
-use Rattle.quorum_model.specs.Growth.{grown, last_of, records_behind}
+use Rattle.quorum_model.specs.Growth.{grown, last_of, records_after}
 use Rattle.quorum_model.specs.Happens.{Stop, put_at, moved, unless_stopped, in_world, happens, after_meeting}
 use Rattle.quorum_model.specs.Meets.{Arrival, Meeting, NoMessage, Down, Reacts, meeting, meeting_at, arrival, state_at}
 use Rattle.quorum_model.specs.Monitors.{Monitors, me_of}
 use Rattle.quorum_model.specs.Runs.{Ran, ran_from, run_from}
-use Rattle.quorum_model.specs.World.{World, Plain, Deliver, Event, Comes, Envelope, Replied}
+use Rattle.quorum_model.specs.World.{World, Plain, Deliver, Event, Arrives, Envelope, Replied}
 use Rattle.calm_quorum.proofs.Rounds.{Took, did, all_of, turn}
 use Rattle.quorum_model.proofs.Continuing.{ran_next}
 
@@ -117,7 +117,7 @@ stays log m le = by (is_marked m)
     none : last_of m - length log ≡ 0
     none = omega arith
 
-    by : (b : Bool) → cond b log (log ++ records_behind m (length log) (last_of m - length log)) ≡ log
+    by : (b : Bool) → cond b log (log ++ records_after m (length log) (last_of m - length log)) ≡ log
     by true = refl
     by false = rw none (append-nil log)
 
@@ -175,17 +175,17 @@ pub record Comes_to (ms : Monitors) (log : List (List ℕ)) (w : World) (e : Eve
 pub comes : (ms : Monitors) (log : List (List ℕ)) (S : ℕ → Place) (out : List Envelope) (told : List Said)
     (w : World) (p : Plain) (a : Arrival) → Shows log S out told w → arrival w p ≡ Some a
     → AllByRecursion Fine (takes ms log a (S a.rank)).done → (let t = takes ms log a (S a.rank) in
-    Comes_to ms log w (Comes p) (put_at S a.rank t.st) (out ++ t.out) (told ++ t.done))
+    Comes_to ms log w (Arrives p) (put_at S a.rank t.st) (out ++ t.out) (told ++ t.done))
 comes ms log S out told w p a H arrives f = by (me_of ms a.rank) refl (state_at a.rank (S a.rank).state a.input) refl f
   where
     after : (q : Result Reaction Stop) → AllByRecursion Fine (took log a.rank (S a.rank) q).done → (met : Meeting)
-        → after_meeting w (Comes p) met ≡ in_world (moved w p a.rank) q → meeting_at ms w (arrival w p) ≡ met
+        → after_meeting w (Arrives p) met ≡ in_world (moved w p a.rank) q → meeting_at ms w (arrival w p) ≡ met
         → (let t = took log a.rank (S a.rank) q in
-        Comes_to ms log w (Comes p) (put_at S a.rank t.st) (out ++ t.out) (told ++ t.done))
+        Comes_to ms log w (Arrives p) (put_at S a.rank t.st) (out ++ t.out) (told ++ t.done))
     after (Ok r) f met e is =
         record {
           next = moved w p a.rank r;
-          happened = ap (after_meeting w (Comes p)) is ∙ e;
+          happened = ap (after_meeting w (Arrives p)) is ∙ e;
           shows = shows_moved log S out told w p a.rank r H f;
         }
     after (Err s) f met e is = absurd f.0
@@ -193,7 +193,7 @@ comes ms log S out told w p a H arrives f = by (me_of ms a.rank) refl (state_at 
     by : (me : Option Me) → me_of ms a.rank ≡ me → (s : Option State) → state_at a.rank (S a.rank).state a.input ≡ s
         → AllByRecursion Fine (took_by log a.rank (S a.rank) (meeting a (S a.rank).store me s)).done
         → (let t = took_by log a.rank (S a.rank) (meeting a (S a.rank).store me s) in
-        Comes_to ms log w (Comes p) (put_at S a.rank t.st) (out ++ t.out) (told ++ t.done))
+        Comes_to ms log w (Arrives p) (put_at S a.rank t.st) (out ++ t.out) (told ++ t.done))
     by None e s k f = absurd f.0
     by (Some me) e None k f = absurd f.0
     by (Some me) e (Some s) k f =
@@ -221,24 +221,24 @@ unfolding ran_from
 after_one ms w next e h = ap (λ (r : Ran). r.world) (ran_next ms w next e [] h)
 
 next_delivery : (ms : Monitors) (most k : ℕ) (w next : World) → k ≤ length w.messages
-    → happens ms w (Comes (Deliver k 0)) ≡ Ok next
-    → deliveries ms (suc most) k w ≡ Comes (Deliver k 0) ∷ deliveries ms most (suc k) next
+    → happens ms w (Arrives (Deliver k 0)) ≡ Ok next
+    → deliveries ms (suc most) k w ≡ Arrives (Deliver k 0) ∷ deliveries ms most (suc k) next
 unfolding deliveries
 next_delivery ms most k w next le h =
-    rw (le-leb k (length w.messages) le) (ap (λ (z : World). Comes (Deliver k 0) ∷ deliveries ms most (suc k) z)
-    (after_one ms w next (Comes (Deliver k 0)) h))
+    rw (le-leb k (length w.messages) le) (ap (λ (z : World). Arrives (Deliver k 0) ∷ deliveries ms most (suc k) z)
+    (after_one ms w next (Arrives (Deliver k 0)) h))
 
 range_more : (k count : ℕ) → range_with_len k (suc count) ≡ k ∷ range_with_len (suc k) count
 range_more k count = let z : k + 1 ≡ suc k = omega arith in rw z refl
 
 ends_more : (ms : Monitors) (log : List (List ℕ)) (most k : ℕ) (w next : World) (count : ℕ) (S : ℕ → Place)
-    (out : List Envelope) (told : List Said) → k ≤ length w.messages → happens ms w (Comes (Deliver k 0)) ≡ Ok next
+    (out : List Envelope) (told : List Said) → k ≤ length w.messages → happens ms w (Arrives (Deliver k 0)) ≡ Ok next
     → Ends ms log most (suc k) next count S out told → Ends ms log (suc most) k w (suc count) S out told
 ends_more ms log most k w next count S out told le h E =
     let d = next_delivery ms most k w next le h in
     record {
       last = E.last;
-      ran = ap (ran_from ms w) d ∙ ran_next ms w next (Comes (Deliver k 0)) (deliveries ms most (suc k) next) h ∙ E.ran;
+      ran = ap (ran_from ms w) d ∙ ran_next ms w next (Arrives (Deliver k 0)) (deliveries ms most (suc k) next) h ∙ E.ran;
       numbers = ap numbers_delivered d ∙ ap (λ (ks : List ℕ). k ∷ ks) E.numbers ∙ sym (range_more k count);
       shows = E.shows;
     }
@@ -271,7 +271,7 @@ taken ms log (m ∷ q) f count S U old tail sent told said w fine H then_ends =
     let a : Arrival = message_arrives m.to m in
     let arrives : arrival w (Deliver (suc (length old)) 0) ≡ Some a =
     rw (H.messages) (rw (get_at old (q ++ tail) m) refl) in
-    let C : Comes_to ms log w (Comes (Deliver (suc (length old)) 0)) t.st ((old ++ m ∷ (q ++ tail)) ++ t.out)
+    let C : Comes_to ms log w (Arrives (Deliver (suc (length old)) 0)) t.st ((old ++ m ∷ (q ++ tail)) ++ t.out)
     (told ++ t.done) = comes ms log S (old ++ m ∷ (q ++ tail)) told w (Deliver (suc (length old)) 0) a H arrives
     (all_front Fine t.done g.done fine) in
     let c : (old ++ m ∷ (q ++ tail)) ++ t.out ≡ (old ++ m ∷ []) ++ (q ++ (tail ++ t.out)) = simp append_assoc refl in

@@ -2,7 +2,7 @@
 use Rattle.std.specs.Prelude.{ℕ, ◌≤◌, nat_lt, ◌≡◌, Bool, true, false, List, [], ◌∷◌, Option, Some, None, refl}
 use Rattle.std.specs.FinMap.{empty}
 use Rattle.mon_msg.specs.Joined.{joined}
-use Rattle.mon_msg.specs.Protocol.Changes.{Change, Boot, Epoch, Numbers, Promise, spelled}
+use Rattle.mon_msg.specs.Protocol.Changes.{Change, Boot, Epoch, Numbers, Promise, encoded}
 use Rattle.mon_msg.specs.Protocol.Reaction.{Reaction}
 use Rattle.mon_msg.specs.Protocol.Readings.{Readings}
 use Rattle.mon_msg.specs.Protocol.State.{State, booting, start_leader, start_elector}
@@ -45,7 +45,7 @@ tells epoch last_pn promise = record {
 }
 
 abbrev pub reacts : List Change → List Sent → State → Reaction
-reacts cs out s = record { transaction = joined (spelled cs); sends = out; state = s }
+reacts cs out s = record { transaction = joined (encoded cs); sends = out; state = s }
 
 -- ---- states
 
@@ -104,7 +104,7 @@ acked = armed 0 timer.Renew unarmed
 -- ---- stores
 
 abbrev pub with_changes : List Change → Store → Store
-with_changes cs m = apply (joined (spelled cs)) m
+with_changes cs m = apply (joined (encoded cs)) m
 
 unfoldable pub born : Store
 born = with_changes (Boot 1 ∷ Epoch 1 ∷ []) empty

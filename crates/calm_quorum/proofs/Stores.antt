@@ -5,7 +5,7 @@ use Rattle.std.specs.List.{AllByRecursion}
 use Rattle.std.specs.FinMap.{empty, get, entries, insert, retain_keys, put, get-empty, entries-insert, len-empty, len-entries, same_map}
 use Rattle.mon_kv.specs.Readers.{size_of, most_size, pending}
 use Rattle.mon_msg.specs.Fold.{fold}
-use Rattle.mon_msg.specs.Protocol.Changes.{Change, Boot, Epoch, Numbers, Promise, spelled}
+use Rattle.mon_msg.specs.Protocol.Changes.{Change, Boot, Epoch, Numbers, Promise, encoded}
 use Rattle.mon_msg.specs.Protocol.Played.{played}
 use Rattle.mon_msg.specs.Protocol.Readings.{Readings, readings_of, number_if_there, marks, epoch_of, promise_of}
 use Rattle.mon_msg.specs.Puts.{area_of}
@@ -120,15 +120,15 @@ no_entries =
     no_length (entries {R = place_cmp} empty)
     (sym (len-entries {R = place_cmp} empty) ∙ len-empty place_cmp (List ℕ))
 
-changed_entries : (cs : List Change) (m : Store) (es : Entries) → are_puts (spelled cs) ≡ true → entries m ≡ es
-    → entries (with_changes cs m) ≡ put_all (spelled cs) es
-changed_entries cs m es h e = ap entries (apply-joined (spelled cs) m) ∙ entries_put (spelled cs) m es h e
+changed_entries : (cs : List Change) (m : Store) (es : Entries) → are_puts (encoded cs) ≡ true → entries m ≡ es
+    → entries (with_changes cs m) ≡ put_all (encoded cs) es
+changed_entries cs m es h e = ap entries (apply-joined (encoded cs) m) ∙ entries_put (encoded cs) m es h e
 
 abbrev es1 : Entries
-es1 = put_all (spelled (Boot 1 ∷ Epoch 1 ∷ [])) []
+es1 = put_all (encoded (Boot 1 ∷ Epoch 1 ∷ [])) []
 
 abbrev es2 : Entries
-es2 = put_all (spelled (Epoch 2 ∷ [])) es1
+es2 = put_all (encoded (Epoch 2 ∷ [])) es1
 
 born_entries : entries born ≡ es1
 unfolding born
@@ -204,10 +204,10 @@ own_stay (Erase prefix k ∷ ops) m h e = absurd cc
 own_stay (ErasePrefix prefix ∷ ops) m h e = absurd cc
 own_stay (EraseRange prefix from to ∷ ops) m h e = absurd cc
 
-changed_share : (cs : List Change) (m : Store) → are_own (spelled cs) ≡ true → SharesNone m
+changed_share : (cs : List Change) (m : Store) → are_own (encoded cs) ≡ true → SharesNone m
     → SharesNone (with_changes cs m)
 changed_share cs m h e =
-    ap (λ (z : Store). retain_keys z (is_shared 0)) (apply-joined (spelled cs) m) ∙ own_stay (spelled cs) m h e
+    ap (λ (z : Store). retain_keys z (is_shared 0)) (apply-joined (encoded cs) m) ∙ own_stay (encoded cs) m h e
 
 born_shares : SharesNone born
 unfolding born

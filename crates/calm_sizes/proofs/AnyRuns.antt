@@ -15,13 +15,13 @@ use Rattle.mon_msg.specs.Fold.{fold}
 use Rattle.mon_types.specs.declared.names.Which.{Which}
 use Rattle.log_copies.proofs.Standing.{Agrees}
 use Rattle.log_model.specs.LogOfValues.{AllValues}
-use Rattle.quorum_agreement.proofs.Invariant.{EnvelopeTells, remembers}
+use Rattle.quorum_agreement.proofs.Invariant.{EnvelopeMatches, remembers}
 use Rattle.quorum_agreement.proofs.LoneWorlds.{LoneFollows, lone_asking, lone_follows}
 use Rattle.quorum_agreement.proofs.Result.{OneLog, lone_log, several_log}
 use Rattle.quorum_agreement.proofs.Runs.{lone_run, several_run}
 use Rattle.quorum_agreement.proofs.Step.{copy_marked}
 use Rattle.quorum_agreement.proofs.Worlds.{Follows, all_follow, asking}
-use Rattle.quorum_laws.proofs.Events.{Arrives, Keeps, member_of}
+use Rattle.quorum_laws.proofs.Events.{Arriving, Keeps, member_of}
 use Rattle.quorum_laws.proofs.Invariant.{InvWith}
 use Rattle.quorum_model.specs.Clients.{with_asked}
 use Rattle.quorum_model.specs.Events.{AllFit, PlainFits}
@@ -29,7 +29,7 @@ use Rattle.quorum_model.specs.Happens.{happens, after_meeting, in_world, moved, 
 use Rattle.quorum_model.specs.Meets.{Meeting, Reacts, meets}
 use Rattle.quorum_model.specs.Monitors.{Monitors}
 use Rattle.quorum_model.specs.Runs.{run}
-use Rattle.quorum_model.specs.World.{World, Event, Plain, Comes}
+use Rattle.quorum_model.specs.World.{World, Event, Plain, Arrives}
 use Rattle.calm_sizes.specs.Sizes.{OwnShort, longest}
 use Rattle.quorum_laws.proofs.Meetings.{OfMeeting, each_meeting}
 use Rattle.calm_sizes.proofs.Weights.{never_full}
@@ -47,22 +47,22 @@ Would ms w p (Reacts i came (Ok r)) = (ltb i ms.count ≡ true) × OneLog ms (mo
 Would ms w p other = Unit {0}
 
 module _ (ms : Monitors) (w : World) (p : Plain) (J : InvWith ms w (with_asked p w.asked)) where
-  several_so : Keeps ms w (EnvelopeTells w.log) p J (Follows ms w)
-      → OfMeeting ms w (EnvelopeTells w.log) p J (Would ms w p)
+  several_so : Keeps ms w (EnvelopeMatches w.log) p J (Follows ms w)
+      → OfMeeting ms w (EnvelopeMatches w.log) p J (Would ms w p)
   several_so K = record { down = tt; none = tt; reacts = reacts }
     where
-      reacts : (A : Arrives ms w (EnvelopeTells w.log) (with_asked p w.asked) J) (r : Result Course Which)
+      reacts : (A : Arriving ms w (EnvelopeMatches w.log) (with_asked p w.asked) J) (r : Result Course Which)
           → react (member_of ms A.rank A.lt) (shared_entries (w.store A.rank)) A.at (readings_of (w.store A.rank))
           A.state A.came ≡ r → Would ms w p (Reacts A.rank A.came (any_reaction r))
       reacts A (Ok y) q =
           (A.lt, several_log ms (moved w p A.rank (reaction_of y)) (K.goes_on (record { by = A; y = y; is = q })).0)
       reacts A (Err which) q = tt
 
-  lone_so : Keeps ms w (EnvelopeTells w.log) p J (LoneFollows ms w)
-      → OfMeeting ms w (EnvelopeTells w.log) p J (Would ms w p)
+  lone_so : Keeps ms w (EnvelopeMatches w.log) p J (LoneFollows ms w)
+      → OfMeeting ms w (EnvelopeMatches w.log) p J (Would ms w p)
   lone_so K = record { down = tt; none = tt; reacts = reacts }
     where
-      reacts : (A : Arrives ms w (EnvelopeTells w.log) (with_asked p w.asked) J) (r : Result Course Which)
+      reacts : (A : Arriving ms w (EnvelopeMatches w.log) (with_asked p w.asked) J) (r : Result Course Which)
           → react (member_of ms A.rank A.lt) (shared_entries (w.store A.rank)) A.at (readings_of (w.store A.rank))
           A.state A.came ≡ r → Would ms w p (Reacts A.rank A.came (any_reaction r))
       reacts A (Ok y) q =
@@ -76,13 +76,13 @@ module _ (ms : Monitors) (events : List Event) (F : AllFit ms.count events) (p :
   of_several : ((i : ℕ) → i < ms.count → 1 < ms.count) → Would ms w p (meets ms w p)
   of_several several =
       let h = several_run ms several events F in
-      each_meeting ms w (EnvelopeTells w.log) h.0 (Would ms w p) h.1.sent p G
+      each_meeting ms w (EnvelopeMatches w.log) h.0 (Would ms w p) h.1.sent p G
       (λ J up. several_so ms w p J (all_follow ms several w p J (asking ms w p h.0 h.1 J)))
 
   of_one : ms.count ≡ 1 → Would ms w p (meets ms w p)
   of_one one =
       let h = lone_run ms one events F in
-      each_meeting ms w (EnvelopeTells w.log) h.0 (Would ms w p) h.1.sent p G
+      each_meeting ms w (EnvelopeMatches w.log) h.0 (Would ms w p) h.1.sent p G
       (λ J up. lone_so ms w p J (lone_follows ms one w p J (lone_asking ms w p h.1)))
 
   would : Would ms w p (meets ms w p)
@@ -115,8 +115,8 @@ module _ (ms : Monitors) (events : List Event) (F : AllFit ms.count events) (p :
     }
 
     -- an event that the store has room for doesn't stop the run
-    pub goes_on_within : size_of next ≤ most_size → happens ms w (Comes p) ≡ Ok (moved w p i r)
-    goes_on_within small = ap (after_meeting w (Comes p)) met ∙ ap (in_world (moved w p i)) stops_not
+    pub goes_on_within : size_of next ≤ most_size → happens ms w (Arrives p) ≡ Ok (moved w p i r)
+    goes_on_within small = ap (after_meeting w (Arrives p)) met ∙ ap (in_world (moved w p i)) stops_not
       where
         stops_not : unless_stopped (w.store i) (Ok r) ≡ Ok r
         stops_not = rw (le-ltb most_size (size_of next) small) refl
@@ -139,5 +139,5 @@ module _ (ms : Monitors) (events : List Event) (F : AllFit ms.count events) (p :
               (sym unmarked ∙ ap (λ (m : Store). (readings_of m).marked) (sym next_is) ∙ copy_marked _ _ _ T))
 
       -- the event doesn't stop the run
-      pub goes_on_then : happens ms w (Comes p) ≡ Ok (moved w p i r)
+      pub goes_on_then : happens ms w (Arrives p) ≡ Ok (moved w p i r)
       goes_on_then = goes_on_within within

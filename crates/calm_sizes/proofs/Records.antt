@@ -8,9 +8,9 @@ use Rattle.mon_wire.specs.declared.request.Service.TheVariants.{Kv, Log}
 use Rattle.mon_msg.specs.Fold.{entry, incrementals, version_of_log}
 use Rattle.mon_msg.specs.Puts.{area_of}
 use Rattle.mon_msg.specs.Protocol.Parts.{map_text}
-use Rattle.log_model.specs.LogOfValues.{view_at, AllValues, SpellsValue}
+use Rattle.log_model.specs.LogOfValues.{view_at, AllValues, EncodesValue}
 use Rattle.log_model.specs.Windows.{service_from, log_from, first_read}
-use Rattle.log_model.proofs.Committed.{holds, spelled_text, next_at}
+use Rattle.log_model.proofs.Committed.{holds, encoded_text, next_at}
 use Rattle.log_model.proofs.FoldWindows.{Holds, keeps_view, view_last}
 use Rattle.log_model.proofs.MapSteps.{fine_short}
 use Rattle.log_model.proofs.Windows.{Next, incrementals_more}
@@ -40,7 +40,7 @@ module _ (log : List (List ℕ)) (within : length log ≤ 2 ^ 62) (all : AllValu
       H : Holds log c
       H = holds log within all c (omega arith)
 
-      S : SpellsValue log c
+      S : EncodesValue log c
       S = all c h
 
       N : Next log c S.value.newer
@@ -48,13 +48,13 @@ module _ (log : List (List ℕ)) (within : length log ≤ 2 ^ 62) (all : AllValu
           next_at log c (omega arith) H (view_at log c) (keeps_view log c (omega arith) H.keeps)
           (view_last log c (omega arith)) S.changes S.value
 
-      spells : ops_in (entry log (suc c)) ≡ S.changes
-      spells = spelled_text log c (omega arith) H S
+      encodes : ops_in (entry log (suc c)) ≡ S.changes
+      encodes = encoded_text log c (omega arith) H S
 
       more : (u : Service)
           → version_of_log u log (suc c) ≡ version_of_log u log c + cond (same_area (area_of N.service) (area_of u)) 1 0
       more u =
-          ap length (incrementals_more log c S.changes S.value.newer S.value.spelled N spells u)
+          ap length (incrementals_more log c S.changes S.value.newer S.value.encoded N encodes u)
           ∙ length-append (incrementals u log c) _
           ∙ ap (λ (k : ℕ). version_of_log u log c + k) (one (same_area (area_of N.service) (area_of u)) N.incremental)
 
@@ -64,8 +64,8 @@ module _ (log : List (List ℕ)) (within : length log ≤ 2 ^ 62) (all : AllValu
           let l = value_length (first_read log_from c) c (area_of N.service) _
           (first_read service_from (version_of_log N.service log c)) N.incremental (map_text N.map)
           S.value.newer N.ops (omega arith) (omega arith) N.makes.short
-          (fine_short N.service N.map N.makes.fine) S.changes S.value.spelled in
-          omega (arith, l, ap length S.spells)
+          (fine_short N.service N.map N.makes.fine) S.changes S.value.encoded in
+          omega (arith, l, ap length S.encodes)
 
   -- each record is short
   pub entry_short : (c : ℕ) → c < length log → length (entry log (suc c)) ≤ 524288

@@ -16,7 +16,7 @@ use Rattle.mon_tx.proofs.After.{get-apply_op}
 use Rattle.mon_msg.specs.Fold.{entry, fold}
 use Rattle.mon_msg.specs.Puts.{put}
 use Rattle.log_model.specs.LogOfValues.{AllValues}
-use Rattle.log_model.proofs.Committed.{holds, spelled_text}
+use Rattle.log_model.proofs.Committed.{holds, encoded_text}
 use Rattle.calm_sizes.specs.Sizes.{AllShort}
 use Rattle.calm_sizes.proofs.Records.{entry_short}
 
@@ -105,8 +105,8 @@ fold_short log within all zero h = empty_short 524288
 fold_short log within all (suc c) h =
     let S = all c h in
     let one = entry_short log within all c h in
-    let is = spelled_text log c (omega arith) (holds log within all c (omega arith)) S in
-    let text_short : length (text S.changes) ≤ 524288 = omega (arith, one, ap length S.spells) in
+    let is = encoded_text log c (omega arith) (holds log within all c (omega arith)) S in
+    let text_short : length (text S.changes) ≤ 524288 = omega (arith, one, ap length S.encodes) in
     short_more log c one
     (subst (AllByRecursion (PutsShort 524288)) (sym is) (puts_within 524288 S.changes text_short))
     (fold_short log within all c (omega arith))

@@ -6,8 +6,8 @@ use Rattle.mon_tx.specs.Map.{Store, number_bytes}
 use Rattle.mon_tx.specs.Text.{text}
 use Rattle.mon_kv.specs.Readers.{size_of, most_size}
 use Rattle.mon_msg.proofs.Joining.{apply-joined}
-use Rattle.mon_msg.specs.Protocol.Changes.{Change, Boot, Epoch, Numbers, Promise, Vote, Record, Learn, Last, Copy, Mark, Unmark, ops_of, spelled}
-use Rattle.log_copies.specs.Versions.{HasVersions, behind}
+use Rattle.mon_msg.specs.Protocol.Changes.{Change, Boot, Epoch, Numbers, Promise, Vote, Record, Learn, Last, Copy, Mark, Unmark, ops_of, encoded}
+use Rattle.log_copies.specs.Versions.{HasVersions, store_after}
 use Rattle.log_model.proofs.Lists.{all_append}
 use Rattle.log_model.specs.LogOfValues.{AllValues}
 use Rattle.calm_sizes.specs.Sizes.{AllShort, longest}
@@ -45,15 +45,15 @@ puts_short (Copy entry) h = absurd h
 puts_short (Mark floor a b) h = absurd h
 puts_short Unmark h = absurd h
 
-all_puts : (cs : List Change) → AllByRecursion ChangeShort cs → AllByRecursion (PutsShort longest) (spelled cs)
+all_puts : (cs : List Change) → AllByRecursion ChangeShort cs → AllByRecursion (PutsShort longest) (encoded cs)
 all_puts [] h = tt
-all_puts (c ∷ cs) h = all_append (PutsShort longest) (ops_of c) (spelled cs) (puts_short c h.0) (all_puts cs h.1)
+all_puts (c ∷ cs) h = all_append (PutsShort longest) (ops_of c) (encoded cs) (puts_short c h.0) (all_puts cs h.1)
 
 pub short_behind : (cs : List Change) (m : Store) → AllByRecursion ChangeShort cs → AllShort longest m
-    → AllShort longest (behind cs m)
+    → AllShort longest (store_after cs m)
 short_behind cs m h all =
-    subst (AllShort longest) (sym (apply-joined (spelled cs) m))
-    (short_apply longest (spelled cs) m (all_puts cs h) all)
+    subst (AllShort longest) (sym (apply-joined (encoded cs) m))
+    (short_apply longest (encoded cs) m (all_puts cs h) all)
 
 -- ---- it is not full
 

@@ -12,7 +12,7 @@ ghost use Rattle.quorum_model.specs.Happens.{happens, moved};
 ghost use Rattle.quorum_model.specs.Meets.{Reacts, meets};
 ghost use Rattle.quorum_model.specs.Monitors.{Monitors};
 ghost use Rattle.quorum_model.specs.Runs.{run};
-ghost use Rattle.quorum_model.specs.World.{Comes, Event, Plain};
+ghost use Rattle.quorum_model.specs.World.{Arrives, Event, Plain};
 ghost use Rattle.calm_sizes.specs.Sizes.{OwnShort, longest};
 
 /// The fold of a log of values is small, however long the log is: at most 172,700,000 bytes. A store whose shared part
@@ -31,5 +31,5 @@ pub fn law_goes_on()
         → (i : ℕ) (came : Input) (r : Reaction) → meets ms (run ms events) p ≡ Reacts i came (Ok r)
         → (readings_of (apply r.transaction ((run ms events).store i))).marked ≡ false
         → OwnShort longest (apply r.transaction ((run ms events).store i))
-        → happens ms (run ms events) (Comes p) ≡ Ok (moved (run ms events) p i r) }
+        → happens ms (run ms events) (Arrives p) ≡ Ok (moved (run ms events) p i r) }
 {}

@@ -1,6 +1,6 @@
 //! The devices of the system that arguments name.
 
-use crate::naming::{FIRST_MOST, MonitorLink, greeting, lives, new_life};
+use crate::naming::{FIRST_STANDSTILL, MonitorLink, greeting, lives, new_life};
 use crate::watching::{Times, lines_of, share, watch};
 use cephmon_run::Status;
 use election_rules::Rule;
@@ -87,7 +87,7 @@ fn monitor_channel(
     let lines = lines_of(rt)?;
     let watch = watch(rt, member, times, share(&lines)?);
     let link = greeting(rt, member, rule, addresses, lines)?;
-    Ok(Channel::Monitor(lives(rt, link, life, FIRST_MOST, watch)))
+    Ok(Channel::Monitor(lives(rt, link, life, FIRST_STANDSTILL, watch)))
 }
 
 fn client_channel(rt: &HostRuntime, addresses: Vec<Address>) -> Channel {

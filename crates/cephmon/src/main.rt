@@ -7,7 +7,9 @@ mod watching;
 mod words;
 
 use crate::devices::{Channel, CountedDisk, Devices, FileDisks, devices_of};
-use crate::naming::{FIRST_MOST, MonitorLink, lives, new_life, socket_of, tell_room, tell_stood};
+use crate::naming::{
+    FIRST_STANDSTILL, MonitorLink, lives, new_life, report_room, report_standstill, socket_of,
+};
 use crate::words::words_of;
 use cephmon_run::{Ended, Status, run};
 use mon_link::{Clock, Link, RunClock, StdinSource, StdoutSink, UdpLink};
@@ -19,7 +21,7 @@ fn main(rt: HostRuntime) -> ExitCode {
         Ok(words) => run_words(&rt, words.as_slice()),
         Err(status) => status,
     };
-    tell(&rt, &status);
+    print_status(&rt, &status);
     ExitCode::from(status.number())
 }
 
@@ -49,15 +51,15 @@ fn run_as_monitor(
     disks: FileDisks,
     mut link: MonitorLink,
 ) -> Status {
-    tell_room(&mut link);
-    let mut most = FIRST_MOST;
+    report_room(&mut link);
+    let mut most = FIRST_STANDSTILL;
     let mut ended = ended_over(rt, words, disks, &mut link);
     for _ in 0..u64::MAX {
         if !link.inner.inner.stood() {
             break;
         }
         let lived = link.clock.now().get();
-        most = tell_stood(&mut link.watch.lines, rt.alloc(), most, lived);
+        most = report_standstill(&mut link.watch.lines, rt.alloc(), most, lived);
         let Ok(life) = new_life(rt) else {
             ended.status = Status::LinkFault;
             break;
@@ -67,7 +69,7 @@ fn run_as_monitor(
         link = lives(rt, inner.inner.inner.inner, life, most, watch);
         ended = ended_over(rt, words, disks, &mut link);
     }
-    tell_link_failure(rt, socket_of(&mut link));
+    print_link_failure(rt, socket_of(&mut link));
     drop(link);
     status_of(rt, ended)
 }
@@ -79,9 +81,9 @@ fn run_as_client(
     disks: FileDisks,
     mut link: UdpLink<HostRuntime>,
 ) -> Status {
-    tell_short_room(rt, &mut link);
+    print_short_room(rt, &mut link);
     let status = run_over(rt, words, disks, &mut link);
-    tell_link_failure(rt, &link);
+    print_link_failure(rt, &link);
     drop(link);
     status
 }
@@ -94,7 +96,7 @@ fn run_alone(
     mut link: UdpLink<HostRuntime>,
 ) -> Status {
     let status = run_over(rt, words, disks, &mut link);
-    tell_link_failure(rt, &link);
+    print_link_failure(rt, &link);
     drop(link);
     status
 }
@@ -122,7 +124,7 @@ fn ended_over<L: Link>(
 
 /// Says on standard error which disks failed. Returns how the program ends.
 fn status_of(rt: &HostRuntime, ended: Ended<CountedDisk>) -> Status {
-    tell_disk_failures(rt, &ended.disks);
+    print_disk_failures(rt, &ended.disks);
     let status = ended.status;
     drop(ended);
     status
@@ -134,8 +136,8 @@ fn run_over<L: Link>(rt: &HostRuntime, words: &[String], disks: FileDisks, link:
     status_of(rt, ended)
 }
 
-/// Says on standard error, before a client follows, if its socket has too little room for a long message.
-fn tell_short_room(rt: &HostRuntime, link: &mut UdpLink<HostRuntime>) {
+/// Prints on standard error, before a client follows, if its socket has too little room for a long message.
+fn print_short_room(rt: &HostRuntime, link: &mut UdpLink<HostRuntime>) {
     if let Some(room) = link.short_room() {
         let _ = eprintln!(rt;
             "link: room for {room} bytes, less than a long message takes: raise net.core.rmem_max"
@@ -143,8 +145,8 @@ fn tell_short_room(rt: &HostRuntime, link: &mut UdpLink<HostRuntime>) {
     }
 }
 
-/// Says on standard error, for each disk, which error the system gave to its first call that failed.
-fn tell_disk_failures(rt: &HostRuntime, disks: &FileDisks) {
+/// Prints on standard error, for each disk, the error that the system gave to its first call that failed.
+fn print_disk_failures(rt: &HostRuntime, disks: &FileDisks) {
     if let Some(said) = disks.a.inner.failure() {
         let _ = eprintln!(rt; "disk a: {said}");
     }
@@ -153,15 +155,15 @@ fn tell_disk_failures(rt: &HostRuntime, disks: &FileDisks) {
     }
 }
 
-/// Says on standard error which error the system gave to the first call of the link that failed.
-fn tell_link_failure(rt: &HostRuntime, link: &UdpLink<HostRuntime>) {
+/// Prints on standard error the error that the system gave to the first call of the link that failed.
+fn print_link_failure(rt: &HostRuntime, link: &UdpLink<HostRuntime>) {
     if let Some(said) = link.failure() {
         let _ = eprintln!(rt; "link: {said}");
     }
 }
 
-/// Says on standard error how the program ends. If that can't be written, the status alone says it.
-fn tell(rt: &impl Eprint, status: &Status) {
+/// Prints on standard error how the program ends. If that can't be written, the status alone says it.
+fn print_status(rt: &impl Eprint, status: &Status) {
     match status {
         Status::Done => {}
         _ => {

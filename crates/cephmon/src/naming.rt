@@ -10,7 +10,7 @@ use mon_link::{Address, Clock, RunClock, UdpLink};
 use mon_name::{Awake, BootClock, Life, Named, framed};
 use mon_resend::Resending;
 use mon_types::Member;
-use mon_watch::{Tell, Watch, Watched};
+use mon_watch::{LineReceiver, Watch, Watched};
 use std::alloc::{AllocError, Global};
 use std::env::{Env, FillError};
 use std::fmt::Write;
@@ -19,9 +19,9 @@ use std::fmt::Write;
 const QUORUM: &str = "CEPHMON_QUORUM";
 
 /// For how many milliseconds the machine may stand still in the first life of a monitor, and in any life at most.
-pub const FIRST_MOST: u64 = 10_000;
+pub const FIRST_STANDSTILL: u64 = 10_000;
 
-const LAST_MOST: u64 = 120_000;
+const MOST_STANDSTILL: u64 = 120_000;
 
 /// A socket whose monitors greet one another.
 pub type GreetingLink = Greeting<UdpLink<HostRuntime>, RunClock<HostRuntime>, Lines>;
@@ -135,17 +135,17 @@ pub fn socket_of(link: &mut MonitorLink) -> &mut UdpLink<HostRuntime> {
 }
 
 /// The bound on a standstill in the next life, in milliseconds, after a life with the bound `most` that lasted `lived`
-/// milliseconds. It doubles, up to `LAST_MOST`, if that life was shorter than `LAST_MOST`: then each iteration may be
-/// slower than the bound. Otherwise it is `FIRST_MOST` again.
+/// milliseconds. It doubles, up to `MOST_STANDSTILL`, if that life was shorter than `MOST_STANDSTILL`: then each
+/// iteration may be slower than the bound. Otherwise it is `FIRST_STANDSTILL` again.
 fn next_most(most: u64, lived: u64) -> u64 {
-    if lived < LAST_MOST {
-        most.saturating_mul(2).min(LAST_MOST)
+    if lived < MOST_STANDSTILL {
+        most.saturating_mul(2).min(MOST_STANDSTILL)
     } else {
-        FIRST_MOST
+        FIRST_STANDSTILL
     }
 }
 
-fn stood_line(alloc: Global, most: u64, next: u64) -> Result<String, AllocError> {
+fn standstill_line(alloc: Global, most: u64, next: u64) -> Result<String, AllocError> {
     let (seconds, then) = (most / 1000, next / 1000);
     let mut line = String::new(alloc);
     write!(
@@ -156,10 +156,10 @@ fn stood_line(alloc: Global, most: u64, next: u64) -> Result<String, AllocError>
 }
 
 /// Reports that the machine stood still. Returns the bound on a standstill in the next life, in milliseconds.
-pub fn tell_stood(lines: &mut Lines, alloc: Global, most: u64, lived: u64) -> u64 {
+pub fn report_standstill(lines: &mut Lines, alloc: Global, most: u64, lived: u64) -> u64 {
     let next = next_most(most, lived);
-    if let Ok(line) = stood_line(alloc, most, next) {
-        lines.tell(line.as_str());
+    if let Ok(line) = standstill_line(alloc, most, next) {
+        lines.take_line(line.as_str());
     }
     next
 }
@@ -174,11 +174,11 @@ fn room_line(alloc: Global, room: u32) -> Result<String, AllocError> {
 }
 
 /// Reports, before a monitor serves, if its socket has too little room for a long message.
-pub fn tell_room(link: &mut MonitorLink) {
+pub fn report_room(link: &mut MonitorLink) {
     let room = socket_of(link).short_room();
     if let Some(room) = room
         && let Ok(line) = room_line(link.watch.alloc, room)
     {
-        link.watch.lines.tell(line.as_str());
+        link.watch.lines.take_line(line.as_str());
     }
 }

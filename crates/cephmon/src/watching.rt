@@ -6,7 +6,7 @@ use libc::types::pollfd;
 use mon_hello::Say;
 use mon_link::RunClock;
 use mon_types::Member;
-use mon_watch::{DiskTimes, Journal, Shared, Tell, Watch};
+use mon_watch::{DiskTimes, Journal, LineReceiver, Shared, Watch};
 use std::cell::Cell;
 use std::env::Env;
 use std::rc::Rc;
@@ -33,8 +33,8 @@ fn takes_at_once() -> bool {
     streams[0].revents & POLLOUT != 0
 }
 
-impl Tell for StandardError {
-    fn tell(&mut self, line: &str) {
+impl LineReceiver for StandardError {
+    fn take_line(&mut self, line: &str) {
         if takes_at_once() {
             let _ = eprintln!(self.rt; "{line}");
         }
@@ -49,9 +49,9 @@ pub struct Lines {
     shared: Shared<StandardError, RunClock<HostRuntime>>,
 }
 
-impl Tell for Lines {
-    fn tell(&mut self, line: &str) {
-        self.shared.tell(line);
+impl LineReceiver for Lines {
+    fn take_line(&mut self, line: &str) {
+        self.shared.take_line(line);
     }
 
     fn rest(&mut self) {
@@ -61,7 +61,7 @@ impl Tell for Lines {
 
 impl Say for Lines {
     fn say(&mut self, line: &str) {
-        self.shared.tell(line);
+        self.shared.take_line(line);
     }
 }
 

@@ -88,7 +88,7 @@ module _ {D : Type 0} (state : D → DiskState) (before after : Outside) (around
     pub written_so : (what : StoreText) (member : Member) (disk_a disk_b : List ℕ) (s : Status) → HasCause state (text_task what member disk_a disk_b) before after around left s
         → (a b : List ℕ) → Hold state around.disks a b → StatusOf status_of_tool (TextCompletes member a b) s
     written_so what member disk_a disk_b s cause a b holds = elim (of_text what member disk_a disk_b s cause) [
-      | inl ran ↦ record { end = tool_end.OutOfMemory; is = ran.is; holds = record { stands = λ stood is. tt; refused = λ refusal is. tt } }
+      | inl ran ↦ record { end = tool_end.OutOfMemory; is = ran.is; holds = record { stands = λ store_view is. tt; refused = λ refusal is. tt } }
       | inr did ↦ record {
         end = did.0.end;
         is = did.0.is;

@@ -12,7 +12,7 @@ use Rattle.quorum_model.specs.Monitors.{Monitors}
 use Rattle.quorum_model.specs.Scenes.{Scene, first_scene}
 use Rattle.schedule_text.specs.declared.event.Event.{Event}
 use Rattle.trace_text.specs.declared.step.StepLine.{StepLine}
-use Rattle.mon_world.specs.Stands.{Does, Fits, IsWorld, StandsFor}
+use Rattle.mon_world.specs.Represented.{Does, Fits, IsWorld, RepresentsScene}
 use Rattle.mon_world.specs.Step.{step}
 use Rattle.mon_world.specs.Stops.{Stops}
 use Rattle.mon_world.specs.declared.stop.WorldStop.{WorldStop}
@@ -27,12 +27,12 @@ use Rattle.cephmon_run.specs.Summary.{AreNumbers, IsLine, and_step, counted_from
 -- This many of the events were counted; the others are run too.
 pub record Counted (ms : Monitors) (world : World) (k : Counts) (es : List Event) (n : ℕ) : Type 0 where
   next : Scene
-  pub stands : StandsFor ms world next
+  pub stands : RepresentsScene ms world next
   same : counted_from ms first_scene no_counts es ≡ counted_from ms next k (drop n es)
   fits : AllByRecursion (Fits ms.count) (drop n es)
 
 -- none was
-pub counts_none : (ms : Monitors) (world : World) (es : List Event) → StandsFor ms world first_scene → AllByRecursion (Fits ms.count) es → Counted ms world no_counts es 0
+pub counts_none : (ms : Monitors) (world : World) (es : List Event) → RepresentsScene ms world first_scene → AllByRecursion (Fits ms.count) es → Counted ms world no_counts es 0
 counts_none ms world es stands fits = record { next = first_scene; stands = stands; same = refl; fits = fits }
 
 one_more : (ms : Monitors) (c : Scene) (k : Counts) (e : Event) (es : List Event) → counted_from ms c k (e ∷ es) ≡ counts_on (λ next more. counted_from ms next more es) k (step ms c e)
@@ -54,7 +54,7 @@ others_fit n e rest es is fits = (subst (λ (es : List Event). AllByRecursion (F
 
 -- one more event was
 pub counts_more : (ms : Monitors) (world new : World) (k more : Counts) (line : StepLine) (es : List Event) (n : ℕ) (e : Event) → drop n es ≡ e ∷ drop (n + 1) es
-    → Counted ms world k es n → ((c : Scene) → StandsFor ms world c → Does ms (Ok line) new (step ms c e)) → more ≡ and_step line k → Counted ms new more es (n + 1)
+    → Counted ms world k es n → ((c : Scene) → RepresentsScene ms world c → Does ms (Ok line) new (step ms c e)) → more ≡ and_step line k → Counted ms new more es (n + 1)
 counts_more ms world new k more line es n e rest so_far does adds =
     let d = does so_far.next so_far.stands in
     record {
@@ -76,7 +76,7 @@ stops_with (world_stop.Full would_be) events n follow k r stops = ap (λ (r : Re
 
 -- the event stopped, and the run with it
 pub counts_stopped : (ms : Monitors) (s : WorldStop) (world new : World) (k : Counts) (es : List Event) (n : ℕ) (e : Event) → drop n es ≡ e ∷ drop (n + 1) es
-    → Counted ms world k es n → ((c : Scene) → StandsFor ms world c → Does ms (Err s) new (step ms c e)) → StopsAs s (summary ms es).stop
+    → Counted ms world k es n → ((c : Scene) → RepresentsScene ms world c → Does ms (Err s) new (step ms c e)) → StopsAs s (summary ms es).stop
 counts_stopped ms s world new k es n e rest so_far does =
     let follow = λ (next : Scene) (more : Counts). counted_from ms next more (drop (n + 1) es) in
     let whole = so_far.same ∙ ap (counted_from ms so_far.next k) rest ∙ one_more ms so_far.next k e (drop (n + 1) es) in
@@ -85,7 +85,7 @@ counts_stopped ms s world new k es n e rest so_far does =
 
 -- all were
 pub counts_all : (ms : Monitors) (world : World) (k : Counts) (es : List Event) (n : ℕ) (line : List ℕ) → drop n es ≡ [] → Counted ms world k es n
-    → ((c : Scene) → StandsFor ms world c → line ≡ summary_line (length es) ms.count c k) → IsLine (summary ms es) line
+    → ((c : Scene) → RepresentsScene ms world c → line ≡ summary_line (length es) ms.count c k) → IsLine (summary ms es) line
 unfolding counted_from
 counts_all ms world k es n line none so_far is =
     let whole : counted_from ms first_scene no_counts es ≡ Ok (so_far.next, k) = so_far.same ∙ ap (counted_from ms so_far.next k) none in

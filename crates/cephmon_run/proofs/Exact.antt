@@ -9,20 +9,20 @@ use Rattle.cephmon_run.proofs.Schedules.{same_monitors}
 use Rattle.stopped_stores.proofs.Completing.{none_rose, read_of}
 use Rattle.stopped_stores.specs.declared.writing.StoreText.TheVariants as text
 use Rattle.cephmon_run.specs.Node.{Around, NodeCause, OpensTo, Served, Unopened}
-use Rattle.cephmon_run.specs.Run.{Completes, Ends, HasCause, HasStatus, Holds, IsCaused, IsServed, Made, MadeCause, NoneFailed, NothingFailed, OfRead, ReplayCause, Replayed, SummedAll, Tells, TellsLine, TellsRefusal, WroteAll, most_read, text_task}
+use Rattle.cephmon_run.specs.Run.{Completes, Ends, HasCause, HasStatus, Holds, IsCaused, IsServed, Made, MadeCause, NoneFailed, NothingFailed, OfRead, ReplayCause, Replayed, SummedAll, ReportsStop, ReportsLine, ReportsRefusal, WroteAll, most_read, text_task}
 use Rattle.cephmon_run.specs.Outside.{Outside}
 use Rattle.cephmon_run.specs.Summary.{summary}
 use Rattle.cephmon_run.specs.Trace.{Trace, trace}
 use Rattle.run_status.specs.declared.status.Status.TheVariants as status
 use Rattle.run_status.specs.declared.status.Status.{Status}
 use Rattle.mon_disk.specs.Calls.{DiskState}
-use Rattle.mon_link.specs.Whole.{ConsumesFront, ReadsWhole}
+use Rattle.mon_link.specs.Whole.{ConsumesPrefix, ReadsWhole}
 use Rattle.mon_msg.specs.declared.view.Me.{Me}
 use Rattle.mon_node.specs.declared.end.NodeEnd.TheVariants as end
 use Rattle.mon_node.specs.declared.end.NodeEnd.{NodeEnd}
-use Rattle.mon_store.specs.Opening.{Tells as Refuses}
+use Rattle.mon_store.specs.Opening.{IsStopOf as Refuses}
 use Rattle.mon_store.specs.Pair.{Refusal}
-use Rattle.mon_store.specs.Stood.{Stood, opens_as}
+use Rattle.mon_store.specs.StoreView.{StoreView, opens_as}
 use Rattle.mon_store.specs.declared.stop.OpenStop.TheVariants as open_stop
 use Rattle.mon_types.specs.Faults.{Rose, risen}
 use Rattle.mon_types.specs.declared.member.Member.{Member}
@@ -31,7 +31,7 @@ use Rattle.quorum_model.specs.Monitors.{Monitors}
 use Rattle.schedule_made.specs.Made.{made_schedule}
 use Rattle.schedule_text.proofs.ScheduleLaws.{schedule_again}
 use Rattle.schedule_text.specs.Schedule.{schedule_at}
-use Rattle.schedule_text.specs.Spelling.{HasText, most_bytes, schedule_text}
+use Rattle.schedule_text.specs.Encoding.{HasText, most_bytes, schedule_text}
 use Rattle.schedule_text.specs.declared.refusal.ScheduleKind.TheVariants as kind
 use Rattle.schedule_text.specs.declared.refusal.ScheduleKind.{ScheduleKind}
 use Rattle.schedule_text.specs.declared.refusal.ScheduleRefused.TheVariants.{At}
@@ -158,11 +158,11 @@ read_back bytes s h text = ap schedule_at text ∙ schedule_again s h
 
 -- ---- how a run ends
 
-tells_none : (stop : Option happens.Stop) → stop ≡ None → Tells stop status.Done
-tells_none stop is = subst (λ (o : Option happens.Stop). Tells o status.Done) (sym is) refl
+reports_none : (stop : Option happens.Stop) → stop ≡ None → ReportsStop stop status.Done
+reports_none stop is = subst (λ (o : Option happens.Stop). ReportsStop o status.Done) (sym is) refl
 
-tells_end : (stop : Option happens.Stop) (end : happens.Stop) (s : Status) → Tells (Some end) s → stop ≡ Some end → Tells stop s
-tells_end stop end s tells is = subst (λ (o : Option happens.Stop). Tells o s) (sym is) tells
+reports_end : (stop : Option happens.Stop) (end : happens.Stop) (s : Status) → ReportsStop (Some end) s → stop ≡ Some end → ReportsStop stop s
+reports_end stop end s reports is = subst (λ (o : Option happens.Stop). ReportsStop o s) (sym is) reports
 
 -- the trace of what was read ends so
 ends_so : (before after : Outside) (schedule : Schedule) (ms : Monitors) (stop : Option happens.Stop) → HasText schedule → before.left ≡ Some (schedule_text schedule)
@@ -189,8 +189,8 @@ not_replayed before after bytes line kind fact left refused did =
     never_both (schedule_at did.1.0) r.schedule (At line kind) (read_back did.1.0 r.schedule r.form r.text) (same_refusal before after did.1.0 bytes left did.1.2 ∙ refused)
 
 replayed_so : (s : Status) (before after : Outside) (schedule : Schedule) (ms : Monitors) → NothingFailed before after → HasText schedule → before.left ≡ Some (schedule_text schedule)
-    → ms.count ≡ schedule.monitors → ms.rule ≡ schedule.rule → ReplayCause before after s → Tells (trace ms schedule.events).stop s
-replayed_so status.Done before after schedule ms calm h left count rule did = tells_none _ (ends_so before after schedule ms None h left count rule did)
+    → ms.count ≡ schedule.monitors → ms.rule ≡ schedule.rule → ReplayCause before after s → ReportsStop (trace ms schedule.events).stop s
+replayed_so status.Done before after schedule ms calm h left count rule did = reports_none _ (ends_so before after schedule ms None h left count rule did)
 replayed_so status.Words before after schedule ms calm h left count rule did = absurd did
 replayed_so (status.Schedule line kind) before after schedule ms calm h left count rule did = absurd (not_refused before after schedule line kind h left did.0)
 replayed_so status.ReadFault before after schedule ms calm h left count rule did = absurd (calm.reads did.0)
@@ -204,13 +204,13 @@ replayed_so (status.NotAStore disk at) before after schedule ms calm h left coun
 replayed_so (status.Stranger kept member) before after schedule ms calm h left count rule did = absurd did
 replayed_so status.TurnsUsed before after schedule ms calm h left count rule did = absurd did
 replayed_so (status.Spent which) before after schedule ms calm h left count rule did =
-    tells_end _ (happens.Spent which) (status.Spent which) refl (ends_so before after schedule ms (Some (happens.Spent which)) h left count rule did)
+    reports_end _ (happens.Spent which) (status.Spent which) refl (ends_so before after schedule ms (Some (happens.Spent which)) h left count rule did)
 replayed_so (status.Full would_be) before after schedule ms calm h left count rule did =
-    tells_end _ (happens.Full would_be) (status.Full would_be) refl (ends_so before after schedule ms (Some (happens.Full would_be)) h left count rule did)
+    reports_end _ (happens.Full would_be) (status.Full would_be) refl (ends_so before after schedule ms (Some (happens.Full would_be)) h left count rule did)
 replayed_so status.OutOfMemory before after schedule ms calm h left count rule did = tt
 
 refused_so : (s : Status) (before after : Outside) (bytes : List ℕ) (line : ℕ) (kind : ScheduleKind) → NothingFailed before after → before.left ≡ Some bytes
-    → schedule_at bytes ≡ Err (At line kind) → ReplayCause before after s → TellsLine line kind s
+    → schedule_at bytes ≡ Err (At line kind) → ReplayCause before after s → ReportsLine line kind s
 refused_so status.Done before after bytes line kind calm left refused did = absurd (not_replayed before after bytes line kind _ left refused did)
 refused_so status.Words before after bytes line kind calm left refused did = absurd did
 refused_so (status.Schedule l k) before after bytes line kind calm left refused did =
@@ -237,8 +237,8 @@ sums_so number events before after ms stop count rule did =
     ap (λ (ms : Monitors). (summary ms (made_schedule number events).events).stop) monitors ∙ did.summed.0
 
 made_so : (s : Status) (number events : ℕ) (before after : Outside) (ms : Monitors) → NothingFailed before after → ms.count ≡ (made_schedule number events).monitors
-    → ms.rule ≡ (made_schedule number events).rule → MadeCause number events before after s → Tells (summary ms (made_schedule number events).events).stop s
-made_so status.Done number events before after ms calm count rule did = tells_none _ (sums_so number events before after ms None count rule did)
+    → ms.rule ≡ (made_schedule number events).rule → MadeCause number events before after s → ReportsStop (summary ms (made_schedule number events).events).stop s
+made_so status.Done number events before after ms calm count rule did = reports_none _ (sums_so number events before after ms None count rule did)
 made_so status.Words number events before after ms calm count rule did = absurd did
 made_so (status.Schedule line kind) number events before after ms calm count rule did = absurd did
 made_so status.ReadFault number events before after ms calm count rule did = absurd did
@@ -252,16 +252,16 @@ made_so (status.NotAStore disk at) number events before after ms calm count rule
 made_so (status.Stranger kept member) number events before after ms calm count rule did = absurd did
 made_so status.TurnsUsed number events before after ms calm count rule did = absurd did
 made_so (status.Spent which) number events before after ms calm count rule did =
-    tells_end _ (happens.Spent which) (status.Spent which) refl (sums_so number events before after ms (Some (happens.Spent which)) count rule did)
+    reports_end _ (happens.Spent which) (status.Spent which) refl (sums_so number events before after ms (Some (happens.Spent which)) count rule did)
 made_so (status.Full would_be) number events before after ms calm count rule did =
-    tells_end _ (happens.Full would_be) (status.Full would_be) refl (sums_so number events before after ms (Some (happens.Full would_be)) count rule did)
+    reports_end _ (happens.Full would_be) (status.Full would_be) refl (sums_so number events before after ms (Some (happens.Full would_be)) count rule did)
 made_so status.OutOfMemory number events before after ms calm count rule did = tt
 
 -- ---- and of a node
 
 module _ {D : Type 0} (state : D → DiskState) (around left : Around D) (calm : NoneFailed state around left) where
   -- two disks whose contents can be seen are opened in one way
-  opens_so : (member : Member) (read : Result Stood Refusal) (fact : Result Stood Refusal → Type 0) → Holds state member around read → OpensTo state member around.disks fact → fact read
+  opens_so : (member : Member) (read : Result StoreView Refusal) (fact : Result StoreView Refusal → Type 0) → Holds state member around read → OpensTo state member around.disks fact → fact read
   opens_so member read fact holds opens =
       let at_a = subst (λ (seen : Option (List ℕ)). IfSome seen (λ a. IfSome (state around.disks.b).content.seen (λ b. fact (opens_as member a b)))) holds.2 opens in
       let at_b = subst (λ (seen : Option (List ℕ)). IfSome seen (λ b. fact (opens_as member holds.0 b))) holds.3 at_a in
@@ -281,35 +281,35 @@ module _ {D : Type 0} (state : D → DiskState) (around left : Around D) (calm :
   ]
 
   -- a store that two disks represent is served
-  served_so : (me : Me) (turns : ℕ) (stood : Stood) → Holds state me.member around (Ok stood) → (s : Status) → NodeCause state me turns around left s → IsServed s
-  served_so me turns stood holds status.Done did = tt
-  served_so me turns stood holds status.Words did = absurd did
-  served_so me turns stood holds (status.Schedule line kind) did = absurd did
-  served_so me turns stood holds status.ReadFault did = absurd did
-  served_so me turns stood holds (status.Report line) did = absurd did
-  served_so me turns stood holds (status.NotEmpty disk) did = absurd did
-  served_so me turns stood holds (status.Export at) did = absurd did
-  served_so me turns stood holds status.WriteFault did = absurd did
-  served_so me turns stood holds status.DiskFault did = elim did [
+  served_so : (me : Me) (turns : ℕ) (store_view : StoreView) → Holds state me.member around (Ok store_view) → (s : Status) → NodeCause state me turns around left s → IsServed s
+  served_so me turns store_view holds status.Done did = tt
+  served_so me turns store_view holds status.Words did = absurd did
+  served_so me turns store_view holds (status.Schedule line kind) did = absurd did
+  served_so me turns store_view holds status.ReadFault did = absurd did
+  served_so me turns store_view holds (status.Report line) did = absurd did
+  served_so me turns store_view holds (status.NotEmpty disk) did = absurd did
+  served_so me turns store_view holds (status.Export at) did = absurd did
+  served_so me turns store_view holds status.WriteFault did = absurd did
+  served_so me turns store_view holds status.DiskFault did = elim did [
     | inl un ↦ absurd (no_failure me.member un)
     | inr it ↦ absurd (no_fault me turns it)
   ]
-  served_so me turns stood holds status.LinkFault did = absurd (none_rose _ _ calm.link did.link_counts)
-  served_so me turns stood holds (status.NotAStore disk at) did =
-      let read = opens_so me.member (Ok stood) (Refuses (open_stop.NotAStore disk at)) holds did.tells in absurd cc
-  served_so me turns stood holds (status.Stranger kept member) did =
-      let read = opens_so me.member (Ok stood) (Refuses (open_stop.Stranger kept member)) holds did.tells in absurd cc
-  served_so me turns stood holds (status.Spent which) did = tt
-  served_so me turns stood holds status.TurnsUsed did = tt
-  served_so me turns stood holds (status.Full would_be) did = tt
-  served_so me turns stood holds status.OutOfMemory did = tt
+  served_so me turns store_view holds status.LinkFault did = absurd (none_rose _ _ calm.link did.link_counts)
+  served_so me turns store_view holds (status.NotAStore disk at) did =
+      let read = opens_so me.member (Ok store_view) (Refuses (open_stop.NotAStore disk at)) holds did.is_stop in absurd cc
+  served_so me turns store_view holds (status.Stranger kept member) did =
+      let read = opens_so me.member (Ok store_view) (Refuses (open_stop.Stranger kept member)) holds did.is_stop in absurd cc
+  served_so me turns store_view holds (status.Spent which) did = tt
+  served_so me turns store_view holds status.TurnsUsed did = tt
+  served_so me turns store_view holds (status.Full would_be) did = tt
+  served_so me turns store_view holds status.OutOfMemory did = tt
 
   -- if they represent none, nothing is served
   not_served : (me : Me) (turns : ℕ) (refusal : Refusal) (e : NodeEnd) → Holds state me.member around (Err refusal) → Served state me turns around left e → ⊥
   not_served me turns refusal e holds it =
-      let read = opens_so me.member (Err refusal) (λ read. read ≡ Ok it.stood) holds it.opened in absurd cc
+      let read = opens_so me.member (Err refusal) (λ read. read ≡ Ok it.store_view) holds it.opened in absurd cc
 
-  unopened_so : (me : Me) (turns : ℕ) (refusal : Refusal) → Holds state me.member around (Err refusal) → (s : Status) → NodeCause state me turns around left s → TellsRefusal refusal s
+  unopened_so : (me : Me) (turns : ℕ) (refusal : Refusal) → Holds state me.member around (Err refusal) → (s : Status) → NodeCause state me turns around left s → ReportsRefusal refusal s
   unopened_so me turns refusal holds status.Done did = absurd (not_served me turns refusal end.Closed holds did)
   unopened_so me turns refusal holds status.Words did = absurd did
   unopened_so me turns refusal holds (status.Schedule line kind) did = absurd did
@@ -324,9 +324,9 @@ module _ {D : Type 0} (state : D → DiskState) (around left : Around D) (calm :
   ]
   unopened_so me turns refusal holds status.LinkFault did = absurd (not_served me turns refusal end.LinkFault holds did)
   unopened_so me turns refusal holds (status.NotAStore disk at) did =
-      let read = opens_so me.member (Err refusal) (Refuses (open_stop.NotAStore disk at)) holds did.tells in cc
+      let read = opens_so me.member (Err refusal) (Refuses (open_stop.NotAStore disk at)) holds did.is_stop in cc
   unopened_so me turns refusal holds (status.Stranger kept member) did =
-      let read = opens_so me.member (Err refusal) (Refuses (open_stop.Stranger kept member)) holds did.tells in cc
+      let read = opens_so me.member (Err refusal) (Refuses (open_stop.Stranger kept member)) holds did.is_stop in cc
   unopened_so me turns refusal holds (status.Spent which) did = absurd (not_served me turns refusal (end.Spent which) holds did)
   unopened_so me turns refusal holds status.TurnsUsed did = absurd (not_served me turns refusal end.TurnsUsed holds did)
   unopened_so me turns refusal holds (status.Full would_be) did = absurd (not_served me turns refusal (end.Full would_be) holds did)
@@ -334,7 +334,7 @@ module _ {D : Type 0} (state : D → DiskState) (around left : Around D) (calm :
 
 -- ---- memory that ran out before anything was done
 
-nothing_read : (old : Option (List ℕ)) → ConsumesFront most_read old old
+nothing_read : (old : Option (List ℕ)) → ConsumesPrefix most_read old old
 nothing_read None = ([], tt, omega arith)
 nothing_read (Some xs) = ([], refl, omega arith)
 
@@ -360,8 +360,8 @@ completes state words before after around left s has = record {
       refused_so s before after bytes line kind calm source refused (cause_of state words before after around left task.Replay s asks has).0;
   made = λ number events ms asks calm count rule.
       made_so s number events before after ms calm count rule (cause_of state words before after around left (task.Made number events) s asks has).0;
-  served = λ member rule addresses disk_a disk_b turns asks calm stood holds.
-      served_so state around left calm (record { member = member; rule = rule }) turns stood holds s (cause_of state words before after around left (task.Node member rule addresses disk_a disk_b turns) s asks has).0;
+  served = λ member rule addresses disk_a disk_b turns asks calm store_view holds.
+      served_so state around left calm (record { member = member; rule = rule }) turns store_view holds s (cause_of state words before after around left (task.Node member rule addresses disk_a disk_b turns) s asks has).0;
   unopened = λ member rule addresses disk_a disk_b turns asks calm refusal holds.
       unopened_so state around left calm (record { member = member; rule = rule }) turns refusal holds s (cause_of state words before after around left (task.Node member rule addresses disk_a disk_b turns) s asks has).0;
   followed = λ service addresses turns asks calm quiet.

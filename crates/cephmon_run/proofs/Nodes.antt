@@ -51,5 +51,5 @@ count_since e old_a old_b mid_a mid_b new_a new_b same_a same_b counts =
     subst (λ (a : ℕ). DisksCountAt e a old_b new_a new_b) same_a (subst (λ (b : ℕ). DisksCountAt e mid_a b new_a new_b) same_b counts)
 
 -- a disk's contents stay visible
-pub tells_still : (old new : Option (List ℕ)) → is_some new ≡ is_some old → IsTrue (is_some old) → IsTrue (is_some new)
-tells_still old new same tells = subst IsTrue (sym same) tells
+pub visible_still : (old new : Option (List ℕ)) → is_some new ≡ is_some old → IsTrue (is_some old) → IsTrue (is_some new)
+visible_still old new same visible = subst IsTrue (sym same) visible

@@ -6,7 +6,7 @@ use Rattle.mon_types.specs.Faults.{Rose}
 use Rattle.mon_types.specs.declared.names.Stop.{Stop}
 use Rattle.mon_types.specs.declared.names.Stop.TheVariants as outside
 use Rattle.mon_link.proofs.Wholes.{at_end, front_of}
-use Rattle.mon_link.specs.Whole.{ReadsWhole, AppendsFront}
+use Rattle.mon_link.specs.Whole.{ReadsWhole, AppendsPrefix}
 use Rattle.quorum_model.specs.Happens as happens
 use Rattle.quorum_model.specs.Monitors.{Monitors}
 use Rattle.quorum_model.specs.Scenes.{Scene, first_scene}
@@ -14,7 +14,7 @@ use Rattle.schedule_made.specs.Made.{made_schedule}
 use Rattle.schedule_made.proofs.MadeLaws.{made_has_text}
 use Rattle.schedule_text.specs.declared.event.Event.{Event}
 use Rattle.schedule_text.specs.declared.schedule.Schedule.{Schedule}
-use Rattle.schedule_text.specs.Spelling.{HasText, schedule_text}
+use Rattle.schedule_text.specs.Encoding.{HasText, schedule_text}
 use Rattle.mon_world.specs.declared.stop.WorldStop.{WorldStop}
 use Rattle.mon_world.specs.declared.stop.WorldStop.TheVariants as world_stop
 use Rattle.cephmon_run.specs.declared.replay.ReplayStop.{ReplayStop}
@@ -23,7 +23,7 @@ use Rattle.run_status.specs.declared.status.Status.{Status}
 use Rattle.run_status.specs.declared.status.Status.TheVariants as status
 use Rattle.cephmon_run.specs.declared.summary.Counts.{Counts}
 use Rattle.cephmon_run.specs.Replay.{StopsAs, Writes, fault_of, status_of}
-use Rattle.cephmon_run.specs.Run.{Made, MadeCause, ReplayCause, Replayed, Runs, SummedAll, TellsFault, most_read}
+use Rattle.cephmon_run.specs.Run.{Made, MadeCause, ReplayCause, Replayed, Runs, SummedAll, ReportsFault, most_read}
 use Rattle.cephmon_run.specs.Outside.{Outside, WroteNothing}
 use Rattle.cephmon_run.specs.Summary.{IsLine, Summary, counted_from, no_counts, summary, summed}
 use Rattle.cephmon_run.specs.Trace.{Trace, trace}
@@ -32,13 +32,13 @@ use Rattle.mon_world.proofs.Tracing.{traces_run}
 use Rattle.cephmon_run.proofs.Schedules.{all_fit, monitors_of}
 
 runs : (s : Schedule) (h : HasText s) → Runs s (monitors_of s h)
-runs s h = record { count = refl; rule = refl; safe = schedule_safe (monitors_of s h) s.events (all_fit s (monitors_of s h) h refl); told = traces_run (monitors_of s h) s.events }
+runs s h = record { count = refl; rule = refl; safe = schedule_safe (monitors_of s h) s.events (all_fit s (monitors_of s h) h refl); traces = traces_run (monitors_of s h) s.events }
 
 -- ---- of what was read
 
 -- this was read from the source, to its end or up to the most that is read
 pub record HasRead (before after : Outside) (bytes : List ℕ) : Type 0 where
-  pub tells : is_some after.left ≡ is_some before.left
+  pub visible : is_some after.left ≡ is_some before.left
   pub most : length bytes ≤ most_read
   pub whole : ReadsWhole most_read before.left after.left bytes
 
@@ -47,12 +47,12 @@ replayed : (before after : Outside) (bytes : List ℕ) (s : Schedule) (h : HasTe
     → fact (trace (monitors_of s h) s.events) → Replayed before after fact
 replayed before after bytes s h fact read text holds =
     let short : length bytes < most_read = omega (arith, h.bytes, ap length text) in (
-      at_end most_read before.left after.left bytes read.tells short read.whole,
+      at_end most_read before.left after.left bytes read.visible short read.whole,
       (bytes, read.most, read.whole, record { schedule = s; form = h; text = text; monitors = monitors_of s h; runs = runs s h; traced = holds }),
     )
 
 -- bytes of which no schedule was made
-pub faulty : (before after : Outside) (bytes : List ℕ) (s : Status) → HasRead before after bytes → WroteNothing before after → TellsFault bytes s → ReplayCause before after s
+pub faulty : (before after : Outside) (bytes : List ℕ) (s : Status) → HasRead before after bytes → WroteNothing before after → ReportsFault bytes s → ReplayCause before after s
 faulty before after bytes (status.Schedule line kind) read silent fault = ((bytes, read.most, read.whole, fault), silent)
 faulty before after bytes status.OutOfMemory read silent fault = inl (front_of most_read before.left after.left bytes read.most read.whole, silent)
 faulty before after bytes status.Done read silent fault = absurd fault
@@ -118,26 +118,26 @@ made_done number events before after line most unread is written =
 
 -- a prefix of the summary line was written
 pub made_fault : (e : Stop) (number events : ℕ) (before after : Outside) (line : List ℕ) → events ≤ 100000 → Unread before after → LineIsOf number events line
-    → AppendsFront before.held after.held line → (e ≡ outside.Failed → Rose before.write_faults after.write_faults)
+    → AppendsPrefix before.held after.held line → (e ≡ outside.Failed → Rose before.write_faults after.write_faults)
     → MadeCause number events before after (status_of (fault_of e))
 made_fault outside.Failed number events before after line most unread is written fault =
     let h = made_has_text number events most in
     let l = is (monitors_of (made_schedule number events) h) refl refl in
-    (fault refl, made number events before after _ h unread (l.goes, subst (AppendsFront before.held after.held) (sym l.text) written))
+    (fault refl, made number events before after _ h unread (l.goes, subst (AppendsPrefix before.held after.held) (sym l.text) written))
 made_fault outside.OutOfMemory number events before after line most unread is written fault =
     let h = made_has_text number events most in
     let l = is (monitors_of (made_schedule number events) h) refl refl in
-    ((unread.left, unread.faults), inr (made number events before after _ h unread (l.goes, subst (AppendsFront before.held after.held) (sym l.text) written)))
+    ((unread.left, unread.faults), inr (made number events before after _ h unread (l.goes, subst (AppendsPrefix before.held after.held) (sym l.text) written)))
 
 -- nothing is written of a run that stops
-nothing_told : (events n : ℕ) (r : Result (Scene × Counts) happens.Stop) (stop : happens.Stop) → (summed events n r).stop ≡ Some stop → (summed events n r).text ≡ []
-nothing_told events n (Ok done) stop is = absurd cc
-nothing_told events n (Err other) stop is = refl
+stopped_is_empty : (events n : ℕ) (r : Result (Scene × Counts) happens.Stop) (stop : happens.Stop) → (summed events n r).stop ≡ Some stop → (summed events n r).text ≡ []
+stopped_is_empty events n (Ok done) stop is = absurd cc
+stopped_is_empty events n (Err other) stop is = refl
 
 summed_none : (stop : happens.Stop) (ms : Monitors) (es : List Event) (before after : Outside) → WroteNothing before after → (summary ms es).stop ≡ Some stop
     → SummedAll before after (Some stop) (summary ms es)
 summed_none stop ms es before after silent is =
-    let none = nothing_told (length es) ms.count (counted_from ms first_scene no_counts es) stop is in
+    let none = stopped_is_empty (length es) ms.count (counted_from ms first_scene no_counts es) stop is in
     (is, subst (λ (new : Option (List ℕ)). Appends before.held new (summary ms es).text) (sym silent.0) (subst (Appends before.held before.held) (sym none) (Appends-nil before.held)))
 
 -- its run stopped, and nothing was written

@@ -8,8 +8,8 @@ use Rattle.mon_bytes.proofs.Ascii.{both}
 use Rattle.quorum_model.specs.Monitors.{Monitors}
 use Rattle.schedule_text.specs.declared.event.Event.{Event}
 use Rattle.schedule_text.specs.declared.schedule.Schedule.{Schedule}
-use Rattle.schedule_text.specs.Spelling.{HasText, event_fits, event_line, event_text, header, ended_line, most_bytes}
-use Rattle.mon_world.specs.Stands.{Fits}
+use Rattle.schedule_text.specs.Encoding.{HasText, event_fits, event_line, event_text, header, ended_line, most_bytes}
+use Rattle.mon_world.specs.Represented.{Fits}
 use Rattle.mon_world.proofs.Fitting.{line_fits}
 
 few : (n : ℕ) → IsTrue (leb n 15) → n ≤ 15

@@ -1,7 +1,7 @@
 -- The cause of each status of a client that follows, of the commands on a stopped store, and of a comparison.
 use Rattle.std.specs.Prelude.{◌≡◌, ℕ, List, []}
 use Rattle.map_follower.specs.Copies.{first}
-use Rattle.map_follower.specs.Turns.{Follows, course, faults_at}
+use Rattle.map_follower.specs.Iterations.{Follows, course, faults_at}
 use Rattle.map_follower.specs.declared.end.FollowEnd.{FollowEnd}
 use Rattle.map_follower.specs.declared.end.FollowEnd.TheVariants as end
 use Rattle.map_follower.specs.declared.follower.Follower.{Follower}
@@ -33,7 +33,7 @@ pub record Followed (service : Service) (n turns : ℕ) (before after : Stream) 
   pub copy : Follower
   pub parts : List Partial
   pub asks : ℕ
-  pub follows : Follows n turns (course (first service) [] 0 link.told before.bytes) (course copy parts asks new.told after.bytes) e
+  pub follows : Follows n turns (course (first service) [] 0 link.observed before.bytes) (course copy parts asks new.observed after.bytes) e
   pub link_counts : new.faults ≡ faults_at e link.faults
   pub sink_counts : e ≡ end.WriteFault → Rose before.faults after.faults
 

@@ -5,16 +5,16 @@ use Rattle.mon_disk.specs.declared.node.NodeDisks.{NodeDisks}
 use Rattle.mon_link.specs.Clocks.{Readings}
 use Rattle.mon_link.specs.Links.{LinkState}
 use Rattle.mon_msg.specs.declared.view.Me.{Me}
-use Rattle.mon_store.specs.Moments.{WhileOpening}
-use Rattle.mon_store.specs.Opening.{Alike, BothCount, Tells, stop_in}
+use Rattle.mon_store.specs.Times.{WhileOpening}
+use Rattle.mon_store.specs.Opening.{Alike, BothCount, IsStopOf, stop_in}
 use Rattle.mon_store.specs.Pair.{Refusal}
-use Rattle.mon_store.specs.Stood.{Stood, opens_as}
+use Rattle.mon_store.specs.StoreView.{StoreView, opens_as}
 use Rattle.mon_store.specs.declared.stop.OpenStop.{OpenStop}
 use Rattle.mon_store.specs.declared.stop.OpenStop.TheVariants as open_stop
 use Rattle.mon_types.specs.declared.member.Member.{Member}
 use Rattle.mon_node.specs.Hearing.{Given, faults_at}
 use Rattle.mon_node.specs.Keeping.{DisksCountAt}
-use Rattle.mon_node.specs.Lasting.{BothTell, StandsThrough}
+use Rattle.mon_node.specs.Lasting.{BothVisible, StandsThrough}
 use Rattle.mon_node.specs.Nodes.{Disks, unstarted, disks as disks_held}
 use Rattle.mon_node.specs.Serving.{Serves}
 use Rattle.mon_node.specs.declared.end.NodeEnd.{NodeEnd}
@@ -30,7 +30,7 @@ pub record Around (D : Type 0) : Type 0 where
 
 module _ {D : Type 0} (state : D → DiskState) where
   -- What a member opens on two disks has this property, if the contents of both can be seen.
-  abbrev pub OpensTo : Member → NodeDisks D → (Result Stood Refusal → Type 0) → Type 0
+  abbrev pub OpensTo : Member → NodeDisks D → (Result StoreView Refusal → Type 0) → Type 0
   OpensTo member disks fact =
       IfSome (state disks.a).content.seen (λ a. IfSome (state disks.b).content.seen (λ b. fact (opens_as member a b)))
 
@@ -43,8 +43,8 @@ module _ {D : Type 0} (state : D → DiskState) where
 
   -- No store was opened, for this reason. What the disks represent is unchanged, and the link and the clock were left alone.
   pub record Unopened (member : Member) (before after : Around D) (why : OpenStop) : Type 0 where
-    pub tells : OpensTo member before.disks (Tells why)
-    pub counts : BothCount (stop_in {T = Stood} (Err why)) (state before.disks.a) (state before.disks.b)
+    pub is_stop : OpensTo member before.disks (IsStopOf why)
+    pub counts : BothCount (stop_in {T = StoreView} (Err why)) (state before.disks.a) (state before.disks.b)
         (state after.disks.a) (state after.disks.b)
     pub alike : LeavesAlike member before.disks after.disks
     pub link : after.link ≡ before.link
@@ -59,16 +59,17 @@ module _ {D : Type 0} (state : D → DiskState) where
   -- opened left what they might have represented before, and from then on, at each iteration and at the end, it left what the
   -- store represented within that iteration.
   pub record Served (me : Me) (turns : ℕ) (before after : Around D) (e : NodeEnd) : Type 0 where
-    pub stood : Stood
-    pub opened : OpensTo me.member before.disks (λ read. read ≡ Ok stood)
+    pub store_view : StoreView
+    pub opened : OpensTo me.member before.disks (λ read. read ≡ Ok store_view)
     pub open_disks : NodeDisks D
     pub alike : LeavesAlike me.member before.disks open_disks
     pub begun : ℕ
     pub first : ℕ
     pub given : List Given
-    pub serves : Serves me (unstarted me.member.rank stood before.clock before.link.told) turns e begun after.clock after.link.told first given
-    pub stands : BothTell (contents before.disks)
-        → StandsThrough me first (unstarted me.member.rank stood before.clock before.link.told) given e after.link.told
+    pub serves : Serves me (unstarted me.member.rank store_view before.clock before.link.observed) turns e begun after.clock after.link.observed first given
+    pub stands : BothVisible (contents before.disks)
+        → StandsThrough me first (unstarted me.member.rank store_view before.clock before.link.observed) given e
+        after.link.observed
         (contents open_disks) (contents after.disks)
     pub link_counts : after.link.faults ≡ faults_at e before.link.faults
     pub disks_count : DisksCountAt e (state before.disks.a).faults (state before.disks.b).faults

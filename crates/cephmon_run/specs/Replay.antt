@@ -1,7 +1,7 @@
 -- What a replay writes.
 use Rattle.std.specs.Prelude.{◌≡◌, ℕ, List, Option, Some, None, Result, Ok, Err}
 use Rattle.std.specs.Io.KnownBytes.{Appends}
-use Rattle.mon_link.specs.Whole.{AppendsFront}
+use Rattle.mon_link.specs.Whole.{AppendsPrefix}
 use Rattle.schedule_text.specs.declared.event.Event as schedule
 use Rattle.trace_text.specs.declared.step.StepLine.{StepLine}
 use Rattle.trace_text.specs.Trace.{step_lines}
@@ -15,7 +15,7 @@ use Rattle.mon_types.specs.declared.names.Stop.{Stop}
 use Rattle.mon_types.specs.declared.names.Stop.TheVariants as outside
 use Rattle.cephmon_run.specs.declared.replay.ReplayStop.{ReplayStop}
 use Rattle.cephmon_run.specs.declared.replay.ReplayStop.TheVariants as stop
-use Rattle.mon_world.specs.Stands.{StandsFor}
+use Rattle.mon_world.specs.Represented.{RepresentsScene}
 use Rattle.run_status.specs.declared.status.Status.{Status}
 use Rattle.run_status.specs.declared.status.Status.TheVariants as status
 use Rattle.cephmon_run.specs.Trace.{Trace, goes_on}
@@ -26,15 +26,15 @@ Writes (Ok done) old new trace = (trace.stop ≡ None) × Appends old new trace.
 Writes (Err (stop.World (world_stop.Spent which))) old new trace = (trace.stop ≡ Some (happens.Spent which)) × Appends old new trace.text
 Writes (Err (stop.World (world_stop.Full would_be))) old new trace = (trace.stop ≡ Some (happens.Full would_be)) ×
     Appends old new trace.text
-Writes (Err stop.WriteFault) old new trace = AppendsFront old new trace.text
-Writes (Err (stop.World world_stop.OutOfMemory)) old new trace = AppendsFront old new trace.text
+Writes (Err stop.WriteFault) old new trace = AppendsPrefix old new trace.text
+Writes (Err (stop.World world_stop.OutOfMemory)) old new trace = AppendsPrefix old new trace.text
 
 -- What a call that does one event left, and wrote to the sink: the event's lines; or what is written of any trace that
 -- continues with it.
 abbrev pub Did : Monitors → Result Unit ReplayStop → World → Option (List ℕ) → Option (List ℕ) → ℕ → schedule.Event →
     Result (Scene × StepLine) happens.Stop → Type 0
 Did ms (Ok done) world old new number e wanted =
-    (next : Scene × StepLine) × (wanted ≡ Ok next) × StandsFor ms world next.0 ×
+    (next : Scene × StepLine) × (wanted ≡ Ok next) × RepresentsScene ms world next.0 ×
     Appends old new (step_lines number e next.1)
 Did ms (Err s) world old new number e wanted = (follow : Scene → Trace) →
     Writes (Err s) old new (goes_on number e follow wanted)

@@ -3,11 +3,11 @@ use Rattle.std.specs.Prelude.{◌≡◌, ℕ, ◌≤◌, ◌⊎◌, List, ◌++�
 use Rattle.std.specs.declared.alloc.Global.{Global}
 use Rattle.std.specs.Io.KnownBytes.{Appends, IsAtEnd}
 use Rattle.mon_types.specs.Faults.{Rose}
-use Rattle.mon_link.specs.Whole.{ReadsWhole, ConsumesFront, AppendsFront}
+use Rattle.mon_link.specs.Whole.{ReadsWhole, ConsumesPrefix, AppendsPrefix}
 use Rattle.schedule_text.specs.declared.schedule.Schedule.{Schedule}
 use Rattle.schedule_text.specs.declared.refusal.ScheduleKind.{ScheduleKind}
 use Rattle.schedule_text.specs.declared.refusal.ScheduleRefused.TheVariants.{At}
-use Rattle.schedule_text.specs.Spelling.{HasText, schedule_text}
+use Rattle.schedule_text.specs.Encoding.{HasText, schedule_text}
 use Rattle.schedule_made.specs.Made.{made_schedule}
 use Rattle.schedule_text.specs.Schedule.{schedule_at}
 use Rattle.election_rules.specs.declared.rule.Rule.{Rule}
@@ -15,7 +15,7 @@ use Rattle.mon_disk.specs.Calls.{DiskState}
 use Rattle.mon_journal.specs.Written.{owner_of}
 use Rattle.mon_link.specs.declared.udp.Address.{Address}
 use Rattle.mon_store.specs.Pair.{Refusal, NotAStore, Stranger}
-use Rattle.mon_store.specs.Stood.{Stood, opens_as}
+use Rattle.mon_store.specs.StoreView.{StoreView, opens_as}
 use Rattle.mon_types.specs.declared.member.Member.{Member}
 use Rattle.quorum_model.specs.Happens.{Stop}
 use Rattle.quorum_model.specs.Happens as happens
@@ -55,7 +55,7 @@ pub record Runs (schedule : Schedule) (ms : Monitors) : Type 0 where
   pub count : ms.count ≡ schedule.monitors
   pub rule : ms.rule ≡ schedule.rule
   pub safe : (before after : List Event) → before ++ after ≡ events_of ms (map scheduled_of schedule.events) → Safe ms before
-  pub told : TracesRun ms schedule.events
+  pub traces : TracesRun ms schedule.events
 
 -- the bytes are the text of a schedule, its run is safe, and its trace has this fact
 pub record Replays (bytes : List ℕ) (fact : Trace → Type 0) : Type 0 where
@@ -70,8 +70,8 @@ pub record Replays (bytes : List ℕ) (fact : Trace → Type 0) : Type 0 where
 abbrev pub WroteAll : Outside → Outside → Option Stop → Trace → Type 0
 WroteAll before after stop t = (t.stop ≡ stop) × Appends before.held after.held t.text
 
-abbrev pub WroteFront : Outside → Outside → Trace → Type 0
-WroteFront before after t = AppendsFront before.held after.held t.text
+abbrev pub WrotePrefix : Outside → Outside → Trace → Type 0
+WrotePrefix before after t = AppendsPrefix before.held after.held t.text
 
 -- The source was read to its end, if it is known what it has left. What was read is a schedule whose trace has this
 -- property.
@@ -88,8 +88,8 @@ pub record Made (number events : ℕ) (before after : Outside) (fact : Summary �
 abbrev pub SummedAll : Outside → Outside → Option Stop → Summary → Type 0
 SummedAll before after stop s = (s.stop ≡ stop) × Appends before.held after.held s.text
 
-abbrev pub SummedFront : Outside → Outside → Summary → Type 0
-SummedFront before after s = (s.stop ≡ None) × AppendsFront before.held after.held s.text
+abbrev pub SummedPrefix : Outside → Outside → Summary → Type 0
+SummedPrefix before after s = (s.stop ≡ None) × AppendsPrefix before.held after.held s.text
 
 -- ---- the cause of each status, by what the arguments ask for
 
@@ -99,25 +99,25 @@ abbrev pub ReplayCause : Outside → Outside → Status → Type 0
 ReplayCause before after status.Done = Replayed before after (WroteAll before after None)
 ReplayCause before after (status.Schedule line kind) = OfRead before after (λ bytes. schedule_at bytes ≡ Err (At line kind)) × WroteNothing before after
 ReplayCause before after status.ReadFault =
-    Rose before.read_faults after.read_faults × ConsumesFront most_read before.left after.left ×
+    Rose before.read_faults after.read_faults × ConsumesPrefix most_read before.left after.left ×
     WroteNothing before after
-ReplayCause before after status.WriteFault = Rose before.write_faults after.write_faults × Replayed before after (WroteFront before after)
+ReplayCause before after status.WriteFault = Rose before.write_faults after.write_faults × Replayed before after (WrotePrefix before after)
 ReplayCause before after (status.Spent which) = Replayed before after (WroteAll before after (Some (happens.Spent which)))
 ReplayCause before after (status.Full would_be) = Replayed before after (WroteAll before after (Some (happens.Full would_be)))
 ReplayCause before after status.OutOfMemory =
-    (ConsumesFront most_read before.left after.left × WroteNothing before after)
-    ⊎ Replayed before after (WroteFront before after)
+    (ConsumesPrefix most_read before.left after.left × WroteNothing before after)
+    ⊎ Replayed before after (WrotePrefix before after)
 ReplayCause before after other = ⊥
 
 -- the cause of the status of a made schedule's run
 abbrev pub MadeCause : (number events : ℕ) → Outside → Outside → Status → Type 0
 MadeCause number events before after status.Done = Made number events before after (SummedAll before after None)
 MadeCause number events before after status.WriteFault =
-    Rose before.write_faults after.write_faults × Made number events before after (SummedFront before after)
+    Rose before.write_faults after.write_faults × Made number events before after (SummedPrefix before after)
 MadeCause number events before after (status.Spent which) = Made number events before after (SummedAll before after (Some (happens.Spent which)))
 MadeCause number events before after (status.Full would_be) = Made number events before after (SummedAll before after (Some (happens.Full would_be)))
 MadeCause number events before after status.OutOfMemory =
-    ReadNothing before after × (WroteNothing before after ⊎ Made number events before after (SummedFront before after))
+    ReadNothing before after × (WroteNothing before after ⊎ Made number events before after (SummedPrefix before after))
 MadeCause number events before after other = ⊥
 
 -- Devices that a task doesn't use are left untouched.
@@ -148,10 +148,10 @@ HasStatus state words before after around left status.Words = AsksForNone words 
 HasStatus state words before after around left other = IsCaused state words before after around left other
 
 -- what the status says of bytes that are no schedule
-abbrev pub TellsFault : List ℕ → Status → Type 0
-TellsFault bytes (status.Schedule line kind) = schedule_at bytes ≡ Err (At line kind)
-TellsFault bytes status.OutOfMemory = Unit {0}
-TellsFault bytes other = ⊥
+abbrev pub ReportsFault : List ℕ → Status → Type 0
+ReportsFault bytes (status.Schedule line kind) = schedule_at bytes ≡ Err (At line kind)
+ReportsFault bytes status.OutOfMemory = Unit {0}
+ReportsFault bytes other = ⊥
 
 -- ---- and the converse: which status a run ends with
 
@@ -161,16 +161,16 @@ pub record NothingFailed (before after : Outside) : Type 0 where
   pub writes : ¬ (Rose before.write_faults after.write_faults)
 
 -- the status says what stopped a run, or that nothing did, unless memory ran out
-abbrev pub Tells : Option Stop → Status → Type 0
-Tells stop status.OutOfMemory = Unit {0}
-Tells None s = s ≡ status.Done
-Tells (Some (happens.Spent which)) s = s ≡ status.Spent which
-Tells (Some (happens.Full would_be)) s = s ≡ status.Full would_be
+abbrev pub ReportsStop : Option Stop → Status → Type 0
+ReportsStop stop status.OutOfMemory = Unit {0}
+ReportsStop None s = s ≡ status.Done
+ReportsStop (Some (happens.Spent which)) s = s ≡ status.Spent which
+ReportsStop (Some (happens.Full would_be)) s = s ≡ status.Full would_be
 
 -- the status says which line is faulty, unless memory ran out
-abbrev pub TellsLine : ℕ → ScheduleKind → Status → Type 0
-TellsLine line kind status.OutOfMemory = Unit {0}
-TellsLine line kind s = s ≡ status.Schedule line kind
+abbrev pub ReportsLine : ℕ → ScheduleKind → Status → Type 0
+ReportsLine line kind status.OutOfMemory = Unit {0}
+ReportsLine line kind s = s ≡ status.Schedule line kind
 
 -- no disk and no link counted a fault
 pub record NoneFailed {D : Type 0} (state : D → DiskState) (around left : Around D) : Type 0 where
@@ -188,14 +188,14 @@ IsServed (status.Full would_be) = Unit {0}
 IsServed other = ⊥
 
 -- the status says why the disks represent no store of the member, unless memory ran out
-abbrev pub TellsRefusal : Refusal → Status → Type 0
-TellsRefusal refusal status.OutOfMemory = Unit {0}
-TellsRefusal refusal (status.NotAStore disk at) = refusal ≡ NotAStore disk at
-TellsRefusal refusal (status.Stranger kept asked) = refusal ≡ Stranger (owner_of kept) (owner_of asked)
-TellsRefusal refusal other = ⊥
+abbrev pub ReportsRefusal : Refusal → Status → Type 0
+ReportsRefusal refusal status.OutOfMemory = Unit {0}
+ReportsRefusal refusal (status.NotAStore disk at) = refusal ≡ NotAStore disk at
+ReportsRefusal refusal (status.Stranger kept asked) = refusal ≡ Stranger (owner_of kept) (owner_of asked)
+ReportsRefusal refusal other = ⊥
 
 -- The contents of the two disks can be seen, and opening them returns this.
-abbrev pub Holds : {D : Type 0} → (D → DiskState) → Member → Around D → Result Stood Refusal → Type 0
+abbrev pub Holds : {D : Type 0} → (D → DiskState) → Member → Around D → Result StoreView Refusal → Type 0
 Holds state member around read =
     (a : List ℕ) × (b : List ℕ) × ((state around.disks.a).content.seen ≡ Some a) × ((state around.disks.b).content.seen ≡ Some b) × (opens_as member a b ≡ read)
 
@@ -222,18 +222,18 @@ pub record Completes {D : Type 0} (state : D → DiskState) (words : List (Strin
   pub faulty : AsksForNone words → s ≡ status.Words
   pub replayed : (schedule : Schedule) (ms : Monitors) → AsksFor task.Replay words → NothingFailed before after
       → HasText schedule → before.left ≡ Some (schedule_text schedule) → ms.count ≡ schedule.monitors → ms.rule ≡ schedule.rule
-      → Tells (trace ms schedule.events).stop s
+      → ReportsStop (trace ms schedule.events).stop s
   pub refused : (bytes : List ℕ) (line : ℕ) (kind : ScheduleKind) → AsksFor task.Replay words → NothingFailed before after
-      → before.left ≡ Some bytes → schedule_at bytes ≡ Err (At line kind) → TellsLine line kind s
+      → before.left ≡ Some bytes → schedule_at bytes ≡ Err (At line kind) → ReportsLine line kind s
   pub made : (number events : ℕ) (ms : Monitors) → AsksFor (task.Made number events) words → NothingFailed before after
       → ms.count ≡ (made_schedule number events).monitors → ms.rule ≡ (made_schedule number events).rule
-      → Tells (summary ms (made_schedule number events).events).stop s
+      → ReportsStop (summary ms (made_schedule number events).events).stop s
   pub served : (member : Member) (rule : Rule) (addresses : List Address) (disk_a disk_b : List ℕ) (turns : ℕ)
       → AsksFor (task.Node member rule addresses disk_a disk_b turns) words → NoneFailed state around left
-      → (stood : Stood) → Holds state member around (Ok stood) → IsServed s
+      → (store_view : StoreView) → Holds state member around (Ok store_view) → IsServed s
   pub unopened : (member : Member) (rule : Rule) (addresses : List Address) (disk_a disk_b : List ℕ) (turns : ℕ)
       → AsksFor (task.Node member rule addresses disk_a disk_b turns) words → NoneFailed state around left
-      → (refusal : Refusal) → Holds state member around (Err refusal) → TellsRefusal refusal s
+      → (refusal : Refusal) → Holds state member around (Err refusal) → ReportsRefusal refusal s
   pub followed : (service : Service) (addresses : List Address) (turns : ℕ) → AsksFor (task.Follow service addresses turns) words → NothingFailed before after
       → NoneFailed state around left → IsFollowed s
   pub written : (what : StoreText) (member : Member) (disk_a disk_b : List ℕ) → AsksFor (text_task what member disk_a disk_b) words → NothingFailed before after

@@ -4,8 +4,8 @@ ghost use Rattle.std.specs.Prelude.{◌≡◌, ◌≤◌, Err, length};
 ghost use Rattle.mon_types.specs.Faults.{Rose};
 ghost use Rattle.quorum_model.specs.Monitors.{Monitors};
 ghost use Rattle.quorum_model.specs.Scenes.{Scene, first_scene};
-ghost use Rattle.schedule_text.specs.Spelling.{HasText};
-ghost use Rattle.mon_world.specs.Stands.{Fits, IsWorld, StandsFor};
+ghost use Rattle.schedule_text.specs.Encoding.{HasText};
+ghost use Rattle.mon_world.specs.Represented.{Fits, IsWorld, RepresentsScene};
 ghost use Rattle.mon_world.specs.Step.{step};
 ghost use Rattle.cephmon_run.specs.Replay.{Did, Writes};
 ghost use Rattle.cephmon_run.specs.Trace.{trace, trace_from};
@@ -73,7 +73,7 @@ fn do_event<K: Sink>(
 ) -> Result<(), ReplayStop>
     requires fits { Fits (length world.old.monitors.items) event.now }
     requires world { IsWorld world.old }
-    ensures writes { (ms : Monitors) (c : Scene) → StandsFor ms world.old c
+    ensures writes { (ms : Monitors) (c : Scene) → RepresentsScene ms world.old c
         → Did ms result world.new (K.held sink.old) (K.held sink.new) number event.now (step ms c event.now) }
     ensures later { K.faults sink.old ≤ K.faults sink.new }
     ensures fault { result ≡ Err ReplayStop.WriteFault → Rose (K.faults sink.old) (K.faults sink.new) }

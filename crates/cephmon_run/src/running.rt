@@ -4,9 +4,9 @@ ghost use Rattle.std.specs.Prelude.{◌≡◌, ◌≤◌, ℕ, List, Option, Err
 ghost use Rattle.mon_types.specs.Faults.{Rose};
 ghost use Rattle.quorum_model.specs.Monitors.{Monitors};
 ghost use Rattle.schedule_made.specs.Made.{made_schedule};
-ghost use Rattle.schedule_text.specs.Spelling.{HasText, schedule_text};
+ghost use Rattle.schedule_text.specs.Encoding.{HasText, schedule_text};
 ghost use Rattle.task_words.specs.Task.{HasWords};
-ghost use Rattle.cephmon_run.specs.Run.{Ends, HasCause, MadeCause, ReplayCause, TellsFault};
+ghost use Rattle.cephmon_run.specs.Run.{Ends, HasCause, MadeCause, ReplayCause, ReportsFault};
 ghost use Rattle.cephmon_run.specs.Replay.{StopsAs, status_of};
 ghost use Rattle.cephmon_run.specs.Summary.{IsLine, summary};
 
@@ -32,7 +32,7 @@ const MOST_SCHEDULE_READ: usize = 16_777_217;
 /// The schedule that the bytes encode, or the status that says why there is none.
 fn schedule_of(alloc: Global, bytes: &[u8]) -> Result<Schedule, Status>
     ensures found { IfOk result (λ s. HasText s × (bytes.now ≡ schedule_text s)) }
-    ensures fault { IfErr result (TellsFault bytes.now) }
+    ensures fault { IfErr result (ReportsFault bytes.now) }
 {
     match parse(alloc, bytes) {
         Ok(schedule) => Ok(schedule),

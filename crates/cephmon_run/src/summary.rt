@@ -5,8 +5,8 @@ ghost use Rattle.serde_json.specs.Data.{put};
 ghost use Rattle.serde_json.specs.View.{items_view, members_view, view};
 ghost use Rattle.quorum_model.specs.Monitors.{Monitors};
 ghost use Rattle.quorum_model.specs.Scenes.{Scene};
-ghost use Rattle.schedule_text.specs.Spelling.{HasText};
-ghost use Rattle.mon_world.specs.Stands.{StandsFor};
+ghost use Rattle.schedule_text.specs.Encoding.{HasText};
+ghost use Rattle.mon_world.specs.Represented.{RepresentsScene};
 ghost use Rattle.cephmon_run.specs.Replay.{StopsAs};
 ghost use Rattle.cephmon_run.specs.Summary.{AreNumbers, IsLine, and_step, last_versions, line_text, no_counts, object_of, summary};
 
@@ -64,7 +64,7 @@ fn sum(a: u64, b: u64) -> Result<u64, OutOfMemory>
 fn last_versions(alloc: Global, world: &World, monitors: u8) -> Result<Vec<Value>, OutOfMemory>
     requires there { monitors ≤ length world.now.monitors.items }
     requires most { monitors ≤ 15 }
-    ensures { (ms : Monitors) (c : Scene) → StandsFor ms world.now c →
+    ensures { (ms : Monitors) (c : Scene) → RepresentsScene ms world.now c →
         IfOk result (λ list. AreNumbers list.items (last_versions c monitors)) }
 {
     let mut last = Vec::new(alloc);

@@ -14,7 +14,7 @@ fn followed(
     failing: Vec<u64>,
 ) -> Result<(Status, usize, usize), Fail> {
     let words = words_of(alloc, "follow kv 127.0.0.1:6789 1")?;
-    let left = run_over(
+    let ended = run_over(
         alloc,
         &words,
         MemorySource::new(Vec::new(alloc), Vec::new(alloc)),
@@ -22,13 +22,13 @@ fn followed(
         empty_disks(alloc),
         MemoryLink::new(alloc, got, failing, Vec::new(alloc)),
     );
-    let told = (
-        left.status,
-        left.link.sent().len(),
-        left.sink.written().len(),
+    let result_of = (
+        ended.status,
+        ended.link.sent().len(),
+        ended.sink.written().len(),
     );
-    drop(left);
-    Ok(told)
+    drop(ended);
+    Ok(result_of)
 }
 
 #[test]

@@ -36,7 +36,12 @@ pub fn asked(alloc: Global, datagrams: &[&[u8]]) -> Result<Vec<Got>, Fail> {
 }
 
 /// Serves over a link that gives these, and then is closed.
-pub fn serve(alloc: Global, words: &[String], disks: NodeDisks<MemoryDisk>, got: Vec<Got>) -> Left {
+pub fn serve(
+    alloc: Global,
+    words: &[String],
+    disks: NodeDisks<MemoryDisk>,
+    got: Vec<Got>,
+) -> RunResult {
     run_over(
         alloc,
         words,
@@ -49,21 +54,21 @@ pub fn serve(alloc: Global, words: &[String], disks: NodeDisks<MemoryDisk>, got:
 
 /// The status of a node that ended, whether all that it sent is this answer to the client, and how often it asked its
 /// link.
-fn told(left: &Left, answer: &[u8]) -> (Status, bool, usize) {
-    let is_answer = match left.link.sent() {
+fn result_of(ended: &RunResult, answer: &[u8]) -> (Status, bool, usize) {
+    let is_answer = match ended.link.sent() {
         [one] => one.to == Peer::Client(3) && one.bytes.as_slice() == answer,
         _ => false,
     };
-    (left.status, is_answer, left.link.waits().len())
+    (ended.status, is_answer, ended.link.waits().len())
 }
 
-pub fn disks_of(left: Left) -> NodeDisks<MemoryDisk> {
-    let Left {
+pub fn disks_of(ended: RunResult) -> NodeDisks<MemoryDisk> {
+    let RunResult {
         sink,
         disks,
         link,
         ..
-    } = left;
+    } = ended;
     drop(sink);
     drop(link);
     disks
@@ -76,9 +81,9 @@ fn what_was_answered_is_shown_by_the_next_node(rt: HostRuntime) -> Result<(), Fa
     let set = asked(alloc, &[SET])?;
     let show = asked(alloc, &[SHOW])?;
     let first = serve(alloc, &words, empty_disks(alloc), set);
-    assert_eq!(rt; told(&first, DONE), (Status::Done, true, 2));
+    assert_eq!(rt; result_of(&first, DONE), (Status::Done, true, 2));
     let second = serve(alloc, &words, disks_of(first), show);
-    assert_eq!(rt; told(&second, SHOWN), (Status::Done, true, 2));
+    assert_eq!(rt; result_of(&second, SHOWN), (Status::Done, true, 2));
     drop(second);
     Ok(())
 }

@@ -29,7 +29,7 @@ fn replayed(alloc: Global, read: u64, write: u64, wanted: &str) -> Result<(Statu
     let bytes = SCHEDULE.as_bytes().to_vec(alloc)?;
     let reads = vec![in alloc; read]?;
     let writes = vec![in alloc; write]?;
-    let left = run_over(
+    let ended = run_over(
         alloc,
         &words,
         MemorySource::new(bytes, reads),
@@ -37,9 +37,9 @@ fn replayed(alloc: Global, read: u64, write: u64, wanted: &str) -> Result<(Statu
         empty_disks(alloc),
         MemoryLink::new(alloc, Vec::new(alloc), Vec::new(alloc), Vec::new(alloc)),
     );
-    let told = (left.status, left.sink.written() == wanted.as_bytes());
-    drop(left);
-    Ok(told)
+    let result_of = (ended.status, ended.sink.written() == wanted.as_bytes());
+    drop(ended);
+    Ok(result_of)
 }
 
 #[test]

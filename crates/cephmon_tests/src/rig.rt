@@ -9,7 +9,7 @@ use std::test::Fail;
 
 /// What a run left, and how it ended.
 #[derive(Drop)]
-pub struct Left {
+pub struct RunResult {
     pub status: Status,
     pub sink: MemorySink,
     pub disks: NodeDisks<MemoryDisk>,
@@ -24,7 +24,7 @@ pub fn run_over(
     mut sink: MemorySink,
     disks: NodeDisks<MemoryDisk>,
     mut link: MemoryLink,
-) -> Left {
+) -> RunResult {
     let mut clock = ListClock::new(Vec::new(alloc));
     let ended = run(
         alloc,
@@ -37,7 +37,7 @@ pub fn run_over(
     );
     drop(source);
     drop(clock);
-    Left {
+    RunResult {
         status: ended.status,
         sink,
         disks: ended.disks,

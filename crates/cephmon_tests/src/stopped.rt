@@ -56,7 +56,12 @@ const VERSIONS: &str = "1 4
 /// Does what the arguments ask for, from this input, on these disks.
 // It can't fail, and each test builds its arguments and inputs before its first run. So while the result of a run is in
 // scope, no call may end the test, at which all parts of the result would be dropped.
-fn done(alloc: Global, words: &[String], input: Vec<u8>, disks: NodeDisks<MemoryDisk>) -> Left {
+fn done(
+    alloc: Global,
+    words: &[String],
+    input: Vec<u8>,
+    disks: NodeDisks<MemoryDisk>,
+) -> RunResult {
     let source = MemorySource::new(input, Vec::new(alloc));
     let sink = MemorySink::new(alloc, Vec::new(alloc));
     let link = MemoryLink::new(alloc, Vec::new(alloc), Vec::new(alloc), Vec::new(alloc));
@@ -64,9 +69,9 @@ fn done(alloc: Global, words: &[String], input: Vec<u8>, disks: NodeDisks<Memory
 }
 
 /// How a run ended, whether it wrote this, and that it asked nothing of its link.
-fn told(left: &Left, wanted: &[u8]) -> (Status, bool) {
-    let is_silent = left.link.sent().is_empty() && left.link.waits().is_empty();
-    (left.status, left.sink.written() == wanted && is_silent)
+fn result_of(ended: &RunResult, wanted: &[u8]) -> (Status, bool) {
+    let is_silent = ended.link.sent().is_empty() && ended.link.waits().is_empty();
+    (ended.status, ended.sink.written() == wanted && is_silent)
 }
 
 #[test]
@@ -76,12 +81,15 @@ fn a_store_is_looked_into(rt: HostRuntime) -> Result<(), Fail> {
     let scrub = words_of(alloc, "scrub 0 1 a b")?;
     let dump = words_of(alloc, "dump-paxos 0 1 a b 1 9")?;
     let set = asked(alloc, &[SET])?;
-    let left = serve(alloc, &node, empty_disks(alloc), set);
-    let left = done(alloc, &scrub, Vec::new(alloc), disks_of(left));
-    assert_eq!(rt; told(&left, REPORT.as_bytes()), (Status::Done, true));
-    let left = done(alloc, &dump, Vec::new(alloc), disks_of(left));
-    assert_eq!(rt; told(&left, VERSIONS.as_bytes()), (Status::Done, true));
-    drop(left);
+    let ended = serve(alloc, &node, empty_disks(alloc), set);
+    let ended = done(alloc, &scrub, Vec::new(alloc), disks_of(ended));
+    assert_eq!(rt; result_of(&ended, REPORT.as_bytes()), (Status::Done, true));
+    let ended = done(alloc, &dump, Vec::new(alloc), disks_of(ended));
+    assert_eq!(rt;
+        result_of(&ended, VERSIONS.as_bytes()),
+        (Status::Done, true)
+    );
+    drop(ended);
     Ok(())
 }
 
@@ -93,18 +101,18 @@ fn an_export_is_imported_once(rt: HostRuntime) -> Result<(), Fail> {
     let export = words_of(alloc, "store-export 0 1 a b")?;
     let input = EXPORT.to_vec(alloc)?;
     let again = EXPORT.to_vec(alloc)?;
-    let left = done(alloc, &import, input, empty_disks(alloc));
-    assert_eq!(rt; told(&left, b""), (Status::Done, true));
-    let left = done(alloc, &keys, Vec::new(alloc), disks_of(left));
-    assert_eq!(rt; told(&left, b"kv / a\n"), (Status::Done, true));
-    let left = done(alloc, &export, Vec::new(alloc), disks_of(left));
-    assert_eq!(rt; told(&left, EXPORT), (Status::Done, true));
-    let left = done(alloc, &import, again, disks_of(left));
+    let ended = done(alloc, &import, input, empty_disks(alloc));
+    assert_eq!(rt; result_of(&ended, b""), (Status::Done, true));
+    let ended = done(alloc, &keys, Vec::new(alloc), disks_of(ended));
+    assert_eq!(rt; result_of(&ended, b"kv / a\n"), (Status::Done, true));
+    let ended = done(alloc, &export, Vec::new(alloc), disks_of(ended));
+    assert_eq!(rt; result_of(&ended, EXPORT), (Status::Done, true));
+    let ended = done(alloc, &import, again, disks_of(ended));
     assert_eq!(rt;
-        told(&left, b""),
+        result_of(&ended, b""),
         (Status::NotEmpty { disk: Side::A }, true)
     );
-    drop(left);
+    drop(ended);
     Ok(())
 }
 
@@ -119,9 +127,9 @@ fn what_is_no_export_of_the_member_is_refused(rt: HostRuntime) -> Result<(), Fai
         (ANOTHERS, Status::Stranger { kept, asked }),
     ] {
         let input = input.to_vec(alloc)?;
-        let left = done(alloc, &words, input, empty_disks(alloc));
-        assert_eq!(rt; told(&left, b""), (status, true));
-        drop(left);
+        let ended = done(alloc, &words, input, empty_disks(alloc));
+        assert_eq!(rt; result_of(&ended, b""), (status, true));
+        drop(ended);
     }
     Ok(())
 }
@@ -136,9 +144,9 @@ fn two_reports_are_compared(rt: HostRuntime) -> Result<(), Fail> {
         (REPORT, CUT_REPORT, Status::Report { line: 8 }, ""),
     ] {
         let input = format!(in alloc; "{a}{b}")?.into_bytes();
-        let left = done(alloc, &words, input, empty_disks(alloc));
-        assert_eq!(rt; told(&left, written.as_bytes()), (status, true));
-        drop(left);
+        let ended = done(alloc, &words, input, empty_disks(alloc));
+        assert_eq!(rt; result_of(&ended, written.as_bytes()), (status, true));
+        drop(ended);
     }
     Ok(())
 }

@@ -21,10 +21,10 @@ use Rattle.mon_wire.specs.declared.body.Body.TheVariants as body
 use Rattle.mon_wire.specs.declared.reply.Reply.{Reply}
 use Rattle.mon_wire.specs.declared.reply.Reply.TheVariants as reply
 use Rattle.log_model.specs.Windows.{Keeps}
-use Rattle.log_copies.proofs.Sending.{ReplyTells, BodyTells, AllTell, more_tell, each_tells, all_commits_tell, keeps_own, keeps_noted}
+use Rattle.log_copies.proofs.Sending.{ReplyMatches, BodyMatches, AllMatch, more_tell, each_tells, all_commits_tell, keeps_own, keeps_noted}
 use Rattle.std.specs.Prelude.{flat_map}
 use Rattle.mon_msg.specs.declared.view.Me.{Me}
-use Rattle.mon_msg.specs.Protocol.Changes.{Change, Boot, Epoch, Numbers, Promise, Vote, Record, Learn, Last, Copy, Mark, Unmark, spelled}
+use Rattle.mon_msg.specs.Protocol.Changes.{Change, Boot, Epoch, Numbers, Promise, Vote, Record, Learn, Last, Copy, Mark, Unmark, encoded}
 use Rattle.mon_msg.specs.Protocol.Collecting.{commits_to, begin_found, settle, collect_with, collect, reign}
 use Rattle.mon_msg.specs.Protocol.Course.{Course, ◌>>=◌, checked, change, change_if}
 use Rattle.mon_msg.specs.Protocol.Entering.{is_even, in_next_epoch, in_odd_epoch, own_table, bootstrap, elect, win, adopt}
@@ -37,14 +37,14 @@ use Rattle.mon_msg.specs.Protocol.Sets.{is_empty}
 use Rattle.mon_msg.specs.Protocol.Synchronizing.{recent_sync}
 use Rattle.mon_msg.proofs.Afterwards.{apply-append}
 use Rattle.mon_msg.proofs.Joining.{apply-joined}
-use Rattle.log_copies.specs.Versions.{HasVersions, behind, IsOwnChange}
+use Rattle.log_copies.specs.Versions.{HasVersions, store_after, IsOwnChange}
 use Rattle.log_copies.proofs.Learning.{learned}
 use Rattle.mon_tx.specs.declared.key.Area.TheVariants as area
 use Rattle.mon_tx.specs.declared.key.Key.TheVariants as key
 use Rattle.mon_tx.specs.Keys.{cell}
 use Rattle.log_copies.proofs.Leaving.{still_has, mark_kept, mark_learned}
-use Rattle.log_copies.proofs.Taken.{spelled_append}
-use Rattle.log_copies.proofs.Telling.{versions_within}
+use Rattle.log_copies.proofs.Taken.{encoded_append}
+use Rattle.log_copies.proofs.Matching.{versions_within}
 use Rattle.log_model.specs.LogOfValues.{AllValues}
 use Rattle.log_model.proofs.Records.{IsVersion, AreVersions}
 
@@ -71,18 +71,18 @@ by_test Q b x y h k = cond_both b x y (Then Q) h k
 
 -- ---- what is written in parts
 
-pub behind_append : (a b : List Change) (m : Store) → behind (a ++ b) m ≡ behind b (behind a m)
+pub behind_append : (a b : List Change) (m : Store) → store_after (a ++ b) m ≡ store_after b (store_after a m)
 behind_append a b m =
-    apply-joined (spelled (a ++ b)) m ∙ ap (λ (ops : List Op). apply ops m) (spelled_append a b) ∙ apply-append (spelled a) (spelled b) m
-    ∙ ap (apply (spelled b)) (sym (apply-joined (spelled a) m)) ∙ sym (apply-joined (spelled b) (behind a m))
+    apply-joined (encoded (a ++ b)) m ∙ ap (λ (ops : List Op). apply ops m) (encoded_append a b) ∙ apply-append (encoded a) (encoded b) m
+    ∙ ap (apply (encoded b)) (sym (apply-joined (encoded a) m)) ∙ sym (apply-joined (encoded b) (store_after a m))
 
 module _ (log : List (List ℕ)) (fits : length log ≤ 2 ^ 62) (all : AllValues log) (m : Store) where
   -- the monitor has the log up to its last version, once these changes are written; and so it reports
   pub record HasAt (w : Readings) (cs : List Change) (out : List Sent) : Type 0 where
-    pub has : HasVersions log w.last (behind cs m)
+    pub has : HasVersions log w.last (store_after cs m)
     pub keeps : Keeps log w.last w
-    pub mark : cell (behind cs m) area.Sync key.InSync ≡ cell m area.Sync key.InSync
-    pub tells : AllTell log out
+    pub mark : cell (store_after cs m) area.Sync key.InSync ≡ cell m area.Sync key.InSync
+    pub tells : AllMatch log out
 
   abbrev pub Has : Course → Type 0
   Has x = HasAt x.readings x.changes x.out
@@ -92,26 +92,26 @@ module _ (log : List (List ℕ)) (fits : length log ≤ 2 ^ 62) (all : AllValues
 
   -- ---- what is sent
 
-  pub says : {w : Readings} {cs : List Change} {out : List Sent} (sends : List Sent) → AllTell log sends → HasAt w cs out → HasAt w cs (out ++ sends)
+  pub says : {w : Readings} {cs : List Change} {out : List Sent} (sends : List Sent) → AllMatch log sends → HasAt w cs out → HasAt w cs (out ++ sends)
   says {out = out} sends h H = record { has = H.has; keeps = H.keeps; mark = H.mark; tells = more_tell log out sends H.tells h }
 
-  pub says_each : {w : Readings} {cs : List Change} {out : List Sent} (me : Me) (e : ℕ) (b : Body) (ks : List ℕ) → BodyTells log b → HasAt w cs out → HasAt w cs (out ++ map (message_to me e b) ks)
+  pub says_each : {w : Readings} {cs : List Change} {out : List Sent} (me : Me) (e : ℕ) (b : Body) (ks : List ℕ) → BodyMatches log b → HasAt w cs out → HasAt w cs (out ++ map (message_to me e b) ks)
   says_each me e b ks h H = says (map (message_to me e b) ks) (each_tells log me e b ks h) H
 
-  pub says_one : {w : Readings} {cs : List Change} {out : List Sent} (me : Me) (e : ℕ) (b : Body) (to : ℕ) → BodyTells log b → HasAt w cs out → HasAt w cs (out ++ message_to me e b to ∷ [])
+  pub says_one : {w : Readings} {cs : List Change} {out : List Sent} (me : Me) (e : ℕ) (b : Body) (to : ℕ) → BodyMatches log b → HasAt w cs out → HasAt w cs (out ++ message_to me e b to ∷ [])
   says_one me e b to h H = says (message_to me e b to ∷ []) (h, tt) H
 
-  answers_tell : (me : Me) (e : ℕ) (o : Origin) (r : Reply) → ReplyTells log r → AllTell log (answer_to me e o r ∷ [])
+  answers_tell : (me : Me) (e : ℕ) (o : Origin) (r : Reply) → ReplyMatches log r → AllMatch log (answer_to me e o r ∷ [])
   answers_tell me e (origin.Session session) r h = (h, tt)
   answers_tell me e (origin.Forwarded rank seq) r h = (h, tt)
 
-  pub says_answer : {w : Readings} {cs : List Change} {out : List Sent} (me : Me) (e : ℕ) (o : Origin) (r : Reply) → ReplyTells log r → HasAt w cs out → HasAt w cs (out ++ answer_to me e o r ∷ [])
+  pub says_answer : {w : Readings} {cs : List Change} {out : List Sent} (me : Me) (e : ℕ) (o : Origin) (r : Reply) → ReplyMatches log r → HasAt w cs out → HasAt w cs (out ++ answer_to me e o r ∷ [])
   says_answer me e o r h H = says (answer_to me e o r ∷ []) (answers_tell me e o r h) H
 
-  pub says_reply : {w : Readings} {cs : List Change} {out : List Sent} (session : Session) (r : Reply) → ReplyTells log r → HasAt w cs out → HasAt w cs (out ++ sent.Reply session r ∷ [])
+  pub says_reply : {w : Readings} {cs : List Change} {out : List Sent} (session : Session) (r : Reply) → ReplyMatches log r → HasAt w cs out → HasAt w cs (out ++ sent.Reply session r ∷ [])
   says_reply session r h H = says (sent.Reply session r ∷ []) (h, tt) H
 
-  any_tell : (me : Me) (e : ℕ) (o : Option Origin) (r : Reply) → ReplyTells log r → AllTell log (answers_to me e o r)
+  any_tell : (me : Me) (e : ℕ) (o : Option Origin) (r : Reply) → ReplyMatches log r → AllMatch log (answers_to me e o r)
   any_tell me e None r h = tt
   any_tell me e (Some o) r h = answers_tell me e o r h
 
@@ -133,15 +133,15 @@ module _ (log : List (List ℕ)) (fits : length log ≤ 2 ^ 62) (all : AllValues
   pub changes : (c : Change) (w : Readings) (cs : List Change) {out : List Sent} → IsOwnChange w.last c → HasAt w cs out → HasAt (play c w) (cs ++ c ∷ []) out
   changes c w cs own H = record {
     keeps = keeps_own log fits all c w own H.keeps;
-    mark = ap (λ (n : Store). cell n area.Sync key.InSync) (behind_append cs (c ∷ []) m) ∙ mark_kept w.last (c ∷ []) (own, tt) (behind cs m) ∙ H.mark;
+    mark = ap (λ (n : Store). cell n area.Sync key.InSync) (behind_append cs (c ∷ []) m) ∙ mark_kept w.last (c ∷ []) (own, tt) (store_after cs m) ∙ H.mark;
     tells = H.tells;
-    has = subst (λ (n : ℕ). HasVersions log n (behind (cs ++ c ∷ []) m)) (sym (last_stays c w w.last own))
-        (subst (HasVersions log w.last) (sym (behind_append cs (c ∷ []) m)) (still_has log w.last (behind cs m) H.has (c ∷ []) (own, tt)));
+    has = subst (λ (n : ℕ). HasVersions log n (store_after (cs ++ c ∷ []) m)) (sym (last_stays c w w.last own))
+        (subst (HasVersions log w.last) (sym (behind_append cs (c ∷ []) m)) (still_has log w.last (store_after cs m) H.has (c ∷ []) (own, tt)));
   }
 
   pub changes_if : (b : Bool) (c : Change) (x : Course) → IsOwnChange x.readings.last c → Has x → Has (change_if b c x)
   changes_if true c x own H = changes c x.readings x.changes own H
-  changes_if false c x own H = record { keeps = H.keeps; tells = H.tells; mark = ap (λ (cs : List Change). cell (behind cs m) area.Sync key.InSync) (append-nil x.changes) ∙ H.mark; has = subst (λ (cs : List Change). HasVersions log x.readings.last (behind cs m)) (sym (append-nil x.changes)) H.has }
+  changes_if false c x own H = record { keeps = H.keeps; tells = H.tells; mark = ap (λ (cs : List Change). cell (store_after cs m) area.Sync key.InSync) (append-nil x.changes) ∙ H.mark; has = subst (λ (cs : List Change). HasVersions log x.readings.last (store_after cs m)) (sym (append-nil x.changes)) H.has }
 
   pub learns : (v : ℕ) (values : List (List Op)) (x : Course) → v ≡ suc x.readings.last → AreVersions log v values → Has x → Then Has (learn v values x)
   unfolding learn
@@ -154,10 +154,10 @@ module _ (log : List (List ℕ)) (fits : length log ≤ 2 ^ 62) (all : AllValues
       W : AreVersions log (suc x.readings.last) (value ∷ values)
       W = subst (λ (u : ℕ). AreVersions log u (value ∷ values)) is V
 
-      next : HasVersions log (v + length values) (behind (learn_changes v (value ∷ values) ++ Last (v + length values) ∷ []) (behind x.changes m))
+      next : HasVersions log (v + length values) (store_after (learn_changes v (value ∷ values) ++ Last (v + length values) ∷ []) (store_after x.changes m))
       next =
-          subst (λ (u : ℕ). HasVersions log (u + length values) (behind (learn_changes u (value ∷ values) ++ Last (u + length values) ∷ []) (behind x.changes m))) (sym is)
-          (learned log fits all x.readings.last (behind x.changes m) H.has value values W (let r = versions_within log values x.readings.last value W in omega arith))
+          subst (λ (u : ℕ). HasVersions log (u + length values) (store_after (learn_changes u (value ∷ values) ++ Last (u + length values) ∷ []) (store_after x.changes m))) (sym is)
+          (learned log fits all x.readings.last (store_after x.changes m) H.has value values W (let r = versions_within log values x.readings.last value W in omega arith))
 
       known : x.readings.last + length (value ∷ values) ≤ length log
       known = versions_within log values x.readings.last value W
@@ -167,14 +167,14 @@ module _ (log : List (List ℕ)) (fits : length log ≤ 2 ^ 62) (all : AllValues
           subst (λ (u : ℕ). Keeps log (u + length values) (record (played (learn_changes u (value ∷ values)) x.readings) { last = u + length values })) (sym is)
           (keeps_noted log fits all (value ∷ values) x.readings.last (suc x.readings.last + length values) (omega arith) (let r = known in omega arith) W x.readings H.keeps)
 
-      wrote : behind ((x.changes ++ learn_changes v (value ∷ values)) ++ Last (v + length values) ∷ []) m ≡ behind (learn_changes v (value ∷ values) ++ Last (v + length values) ∷ []) (behind x.changes m)
-      wrote = ap (λ (cs : List Change). behind cs m) (append_assoc x.changes (learn_changes v (value ∷ values)) (Last (v + length values) ∷ [])) ∙ behind_append x.changes _ m
+      wrote : store_after ((x.changes ++ learn_changes v (value ∷ values)) ++ Last (v + length values) ∷ []) m ≡ store_after (learn_changes v (value ∷ values) ++ Last (v + length values) ∷ []) (store_after x.changes m)
+      wrote = ap (λ (cs : List Change). store_after cs m) (append_assoc x.changes (learn_changes v (value ∷ values)) (Last (v + length values) ∷ [])) ∙ behind_append x.changes _ m
 
-      still_marked : cell (behind ((x.changes ++ learn_changes v (value ∷ values)) ++ Last (v + length values) ∷ []) m) area.Sync key.InSync ≡ cell m area.Sync key.InSync
+      still_marked : cell (store_after ((x.changes ++ learn_changes v (value ∷ values)) ++ Last (v + length values) ∷ []) m) area.Sync key.InSync ≡ cell m area.Sync key.InSync
       still_marked =
           ap (λ (n : Store). cell n area.Sync key.InSync) wrote
-          ∙ subst (λ (u : ℕ). cell (behind (learn_changes u (value ∷ values) ++ Last (v + length values) ∷ []) (behind x.changes m)) area.Sync key.InSync ≡ cell (behind x.changes m) area.Sync key.InSync) (sym is)
-          (mark_learned log fits all (value ∷ values) x.readings.last (v + length values) known W (behind x.changes m)) ∙ H.mark
+          ∙ subst (λ (u : ℕ). cell (store_after (learn_changes u (value ∷ values) ++ Last (v + length values) ∷ []) (store_after x.changes m)) area.Sync key.InSync ≡ cell (store_after x.changes m) area.Sync key.InSync) (sym is)
+          (mark_learned log fits all (value ∷ values) x.readings.last (v + length values) known W (store_after x.changes m)) ∙ H.mark
 
   -- ---- acts
 

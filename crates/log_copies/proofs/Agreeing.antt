@@ -18,7 +18,7 @@ use Rattle.mon_wire.specs.declared.body.Body.{Body}
 use Rattle.mon_wire.specs.declared.body.Body.TheVariants as body
 use Rattle.mon_msg.specs.declared.plan.Sent.TheVariants as sent
 use Rattle.mon_msg.specs.declared.clients.Asked.{Asked}
-use Rattle.log_copies.proofs.Sending.{ReplyTells, BodyTells, AllTell, chunk_tells}
+use Rattle.log_copies.proofs.Sending.{ReplyMatches, BodyMatches, AllMatch, chunk_tells}
 use Rattle.log_copies.proofs.Given.{given}
 use Rattle.log_copies.specs.Versions.{HasVersions}
 use Rattle.mon_msg.specs.Protocol.Sending.{message_to, reply_to}
@@ -69,7 +69,7 @@ module _ (log : List (List ℕ)) (fits : length log ≤ 2 ^ 62) (all : AllValues
   pub stay : {x : Course} → Here x → Then Here (Ok x)
   stay {x} H = done Here x H
 
-  tells : (x : Course) (e : ℕ) (b : Body) (to : ℕ) → BodyTells log b → Here x → Then Here (Ok (say (message_to me e b to ∷ []) x))
+  tells : (x : Course) (e : ℕ) (b : Body) (to : ℕ) → BodyMatches log b → Here x → Then Here (Ok (say (message_to me e b to ∷ []) x))
   tells x e b to h H = done Here (say (message_to me e b to ∷ []) x) (sends log fits all m me several now e b to h H)
 
   pub again : (x : Course) → Here x → Then Here (bootstrap me now x)
@@ -91,14 +91,14 @@ module _ (log : List (List ℕ)) (fits : length log ≤ 2 ^ 62) (all : AllValues
   unfolding hear_lease_ack
   lease_ack_comes f e last x H = branch {b = not (of_member (phase.Active ∷ []) f e x && eqb last x.readings.last)} (λ t. stay H) (λ t. stay H)
 
-  pub route_comes : (f e seq : ℕ) (r : Reply) (x : Course) → ReplyTells log r → Here x → Then Here (hear_route f e seq r x)
+  pub route_comes : (f e seq : ℕ) (r : Reply) (x : Course) → ReplyMatches log r → Here x → Then Here (hear_route f e seq r x)
   unfolding hear_route
   route_comes f e seq r x told H = branch {b = not (of_leader f e x)} (λ t. stay H) (λ t. done Here _ (says log fits all m (map (λ a. sent.Reply a.session r) asked) (replied asked) H))
     where
       asked : List Asked
       asked = filter (λ a. eqb a.seq seq) x.state.clients.sessions
 
-      replied : (asked : List Asked) → AllTell log (map (λ a. sent.Reply a.session r) asked)
+      replied : (asked : List Asked) → AllMatch log (map (λ a. sent.Reply a.session r) asked)
       replied [] = tt
       replied (a ∷ asked) = (told, replied asked)
 
@@ -126,7 +126,7 @@ module _ (log : List (List ℕ)) (fits : length log ≤ 2 ^ 62) (all : AllValues
       branch {b = x.readings.marked} (λ t. stay H)
       (λ t. branch {b = not (is_cookie c (slice_index_or x.state.provider.cookies f None)) || ltb (suc p.version) x.readings.first} (λ u. tells x (epoch_of x.readings) (body.NoCookie c) f tt H)
       (λ u. tells x (epoch_of x.readings) (chunk x.readings.last c p left n x.readings.record_of) f
-      (subst (λ (w : Readings). BodyTells log (chunk x.readings.last c p left n w.record_of)) (sym is) (chunk_tells log x.readings.last c p left n (let w = readings_of m in w.record_of) (given log fits all x.readings.last V.within m V.folded V.last p low c n))) H))
+      (subst (λ (w : Readings). BodyMatches log (chunk x.readings.last c p left n w.record_of)) (sym is) (chunk_tells log x.readings.last c p left n (let w = readings_of m in w.record_of) (given log fits all x.readings.last V.within m V.folded V.last p low c n))) H))
 
   pub cookie_comes : (f : ℕ) (full : Bool) (c : Cookie) (last : ℕ) (x : Course) → Here x → Then Here (hear_cookie me now f full c last x)
   unfolding hear_cookie
@@ -209,10 +209,10 @@ module _ (log : List (List ℕ)) (fits : length log ≤ 2 ^ 62) (all : AllValues
 
   -- ---- clients that read
 
-  pub reads : (s : Session) (reading : Readings → Reply) (x : Course) → ReplyTells log (reading x.readings) → Here x → Then Here (read me now s reading x)
+  pub reads : (s : Session) (reading : Readings → Reply) (x : Course) → ReplyMatches log (reading x.readings) → Here x → Then Here (read me now s reading x)
   reads s reading x told H =
       branch {b = not (is_member x.state.phase)} (λ t. replied reply.Unavailable tt) (λ t. branch {b = not (readable x.readings.last me.member.monitors (lease_of x.state) now)}
       (λ u. replied (reply.NotReadable x.readings.last (is_standing me now x.state)) tt) (λ u. replied (reading x.readings) told))
     where
-      replied : (r : Reply) → ReplyTells log r → Then Here (Ok (reply_to s r x))
+      replied : (r : Reply) → ReplyMatches log r → Then Here (Ok (reply_to s r x))
       replied r h = done Here (reply_to s r x) (tells_reply log fits all m me several now s r h H)

@@ -56,189 +56,189 @@ use Rattle.mon_msg.specs.Protocol.Timers.{end_of}
 use Rattle.log_copies.proofs.Acts.{Then, done, and_then, where_fits}
 use Rattle.log_copies.proofs.Aside.{IsAside}
 use Rattle.log_copies.proofs.Rows.{branch}
-use Rattle.log_copies.proofs.Sending.{ReplyTells, BodyTells, AllTell, more_tell, each_tells}
+use Rattle.log_copies.proofs.Sending.{ReplyMatches, BodyMatches, AllMatch, more_tell, each_tells}
 
 module _ (log : List (List ℕ)) (me : Me) (several : 1 < me.member.monitors) (now : ℕ) where
   -- the parts of the log in what was sent so far are the log's
-  record TellsAll (out : List Sent) : Type 0 where
-    tells : AllTell log out
+  record MatchesAll (out : List Sent) : Type 0 where
+    tells : AllMatch log out
 
-  abbrev Tells : Course → Type 0
-  Tells x = TellsAll x.out
+  abbrev Matches : Course → Type 0
+  Matches x = MatchesAll x.out
 
-  nothing : TellsAll []
+  nothing : MatchesAll []
   nothing = record { tells = tt }
 
-  more : {out : List Sent} (sends : List Sent) → AllTell log sends → TellsAll out → TellsAll (out ++ sends)
+  more : {out : List Sent} (sends : List Sent) → AllMatch log sends → MatchesAll out → MatchesAll (out ++ sends)
   more {out} sends h H = record { tells = more_tell log out sends H.tells h }
 
-  says : {out : List Sent} (e : ℕ) (b : Body) (to : ℕ) → BodyTells log b → TellsAll out → TellsAll (out ++ message_to me e b to ∷ [])
+  says : {out : List Sent} (e : ℕ) (b : Body) (to : ℕ) → BodyMatches log b → MatchesAll out → MatchesAll (out ++ message_to me e b to ∷ [])
   says e b to h H = more (message_to me e b to ∷ []) (h, tt) H
 
-  says_each : {out : List Sent} (e : ℕ) (b : Body) (ks : List ℕ) → BodyTells log b → TellsAll out → TellsAll (out ++ map (message_to me e b) ks)
+  says_each : {out : List Sent} (e : ℕ) (b : Body) (ks : List ℕ) → BodyMatches log b → MatchesAll out → MatchesAll (out ++ map (message_to me e b) ks)
   says_each e b ks h H = more (map (message_to me e b) ks) (each_tells log me e b ks h) H
 
-  replies : {out : List Sent} (s : Session) (r : Reply) → ReplyTells log r → TellsAll out → TellsAll (out ++ sent.Reply s r ∷ [])
+  replies : {out : List Sent} (s : Session) (r : Reply) → ReplyMatches log r → MatchesAll out → MatchesAll (out ++ sent.Reply s r ∷ [])
   replies s r h H = more (sent.Reply s r ∷ []) (h, tt) H
 
-  stay : (x : Course) → Tells x → Then Tells (Ok x)
-  stay x H = done Tells x H
+  stay : (x : Course) → Matches x → Then Matches (Ok x)
+  stay x H = done Matches x H
 
-  stay_if : (b : Bool) (x : Course) (r : Result Course Which) → b ≡ true → Tells x → Then Tells (cond b (Ok x) r)
+  stay_if : (b : Bool) (x : Course) (r : Result Course Which) → b ≡ true → Matches x → Then Matches (cond b (Ok x) r)
   stay_if true x r h H = stay x H
   stay_if false x r h H = absurd cc
 
-  anew : (x : Course) → Tells x → Then Tells (bootstrap me now x)
+  anew : (x : Course) → Matches x → Then Matches (bootstrap me now x)
   unfolding bootstrap
-  anew x H = rw (lt-ltb 1 me.member.monitors several) (done Tells _ (says_each (epoch_of x.readings) body.Probe (others me) tt H))
+  anew x H = rw (lt-ltb 1 me.member.monitors several) (done Matches _ (says_each (epoch_of x.readings) body.Probe (others me) tt H))
 
-  asks_copy : (f : ℕ) (x : Course) → Tells x → Tells (full_sync me now f x)
+  asks_copy : (f : ℕ) (x : Course) → Matches x → Matches (full_sync me now f x)
   unfolding full_sync
   asks_copy f x H = says (epoch_of x.readings) body.GetCookieFull f tt H
 
   -- ---- its own copy
 
-  cookie_comes : (f : ℕ) (full : Bool) (c : Cookie) (last : ℕ) (x : Course) → Tells x → Then Tells (hear_cookie me now f full c last x)
+  cookie_comes : (f : ℕ) (full : Bool) (c : Cookie) (last : ℕ) (x : Course) → Matches x → Then Matches (hear_cookie me now f full c last x)
   unfolding hear_cookie
   cookie_comes f full c last x H =
       branch {b = not (of_provider f x && awaits_cookie x.state.requester.stage && same_flag full x.state.requester.full) || (full && ltb last x.readings.floor)} (λ t. stay x H)
-      (λ t. done Tells _ (says (epoch_of x.readings) (body.GetChunk c (first_place full last x.readings.last)) x.state.requester.provider tt H))
+      (λ t. done Matches _ (says (epoch_of x.readings) (body.GetChunk c (first_place full last x.readings.last)) x.state.requester.provider tt H))
 
-  learns : (v : ℕ) (values : List (List Op)) (x : Course) → Tells x → Then Tells (learn v values x)
+  learns : (v : ℕ) (values : List (List Op)) (x : Course) → Matches x → Then Matches (learn v values x)
   unfolding learn
   learns v [] x H = stay x H
-  learns v (value ∷ values) x H = where_fits Tells which.Version (v + length values) _ (done Tells _ H)
+  learns v (value ∷ values) x H = where_fits Matches which.Version (v + length values) _ (done Matches _ H)
 
-  copies : (b : Bool) (v : ℕ) (values : List (List Op)) (entries : List Entry) (x : Course) → Tells x → Then Tells (copy b v values entries x)
-  copies true v values entries x H = done Tells _ H
+  copies : (b : Bool) (v : ℕ) (values : List (List Op)) (entries : List Entry) (x : Course) → Matches x → Then Matches (copy b v values entries x)
+  copies true v values entries x H = done Matches _ H
   copies false v values entries x H = learns v values x H
 
-  takes : (p : ChunkPlace) (values : List (List Op)) (entries : List Entry) (end : Bool) (x : Course) → Tells x → Then Tells (take p values entries end x)
+  takes : (p : ChunkPlace) (values : List (List Op)) (entries : List Entry) (end : Bool) (x : Course) → Matches x → Then Matches (take p values entries end x)
   takes p values entries end x H =
-      where_fits Tells which.Version (p.version + length values) _
-      (and_then Tells Tells (copy x.state.requester.full (suc p.version) values entries x) (λ y. Ok (y ▸ requester_is (record y.state.requester { place = next_place p (p.version + length values) entries end })))
-      (copies x.state.requester.full (suc p.version) values entries x H) (λ y K. done Tells _ K))
+      where_fits Matches which.Version (p.version + length values) _
+      (and_then Matches Matches (copy x.state.requester.full (suc p.version) values entries x) (λ y. Ok (y ▸ requester_is (record y.state.requester { place = next_place p (p.version + length values) entries end })))
+      (copies x.state.requester.full (suc p.version) values entries x H) (λ y K. done Matches _ K))
 
-  chunk_comes : (f : ℕ) (c : Cookie) (p : ChunkPlace) (values : List (List Op)) (entries : List Entry) (end : Bool) (x : Course) → Tells x → Then Tells (hear_chunk me now f c p values entries end x)
+  chunk_comes : (f : ℕ) (c : Cookie) (p : ChunkPlace) (values : List (List Op)) (entries : List Entry) (end : Bool) (x : Course) → Matches x → Then Matches (hear_chunk me now f c p values entries end x)
   unfolding hear_chunk
   chunk_comes f c p values entries end x H =
       branch {b = is_ours f c p x}
-      (λ t. and_then Tells Tells (take p values entries end x) (λ y. Ok (ask_chunk me now c y.state.requester.place y)) (takes p values entries end x H)
-      (λ y K. done Tells _ (says (epoch_of y.readings) (body.GetChunk c y.state.requester.place) y.state.requester.provider tt K))) (λ t. stay x H)
+      (λ t. and_then Matches Matches (take p values entries end x) (λ y. Ok (ask_chunk me now c y.state.requester.place y)) (takes p values entries end x H)
+      (λ y K. done Matches _ (says (epoch_of y.readings) (body.GetChunk c y.state.requester.place) y.state.requester.provider tt K))) (λ t. stay x H)
 
-  last_chunk_comes : (f : ℕ) (c : Cookie) (p : ChunkPlace) (values : List (List Op)) (entries : List Entry) (own : ℕ) (x : Course) → Tells x → Then Tells (hear_last_chunk me now f c p values entries own x)
+  last_chunk_comes : (f : ℕ) (c : Cookie) (p : ChunkPlace) (values : List (List Op)) (entries : List Entry) (own : ℕ) (x : Course) → Matches x → Then Matches (hear_last_chunk me now f c p values entries own x)
   unfolding hear_last_chunk
   last_chunk_comes f c p values entries own x H =
-      branch {b = is_ours f c p x} (λ t. and_then Tells Tells (take p values entries true x) (replay_or_end me now own) (takes p values entries true x H) (λ y K.
-      branch {b = y.state.requester.full} (λ u. where_fits Tells which.Version (suc y.state.requester.start) _ (done Tells _ K)) (λ u. anew y K))) (λ t. stay x H)
+      branch {b = is_ours f c p x} (λ t. and_then Matches Matches (take p values entries true x) (replay_or_end me now own) (takes p values entries true x H) (λ y K.
+      branch {b = y.state.requester.full} (λ u. where_fits Matches which.Version (suc y.state.requester.start) _ (done Matches _ K)) (λ u. anew y K))) (λ t. stay x H)
 
-  no_cookie : (f : ℕ) (c : Cookie) (x : Course) → Tells x → Then Tells (hear_no_cookie me now f c x)
+  no_cookie : (f : ℕ) (c : Cookie) (x : Course) → Matches x → Then Matches (hear_no_cookie me now f c x)
   unfolding hear_no_cookie
   no_cookie f c x H =
       branch {b = of_provider f x && (is_cookie c x.state.requester.cookie || (awaits_cookie x.state.requester.stage && not x.state.requester.full && same_cookie c places.no_cookie))}
       (λ t. anew x H) (λ t. stay x H)
 
-  replays : (next end : ℕ) (values : List (List Op)) (x : Course) → Tells x → Then Tells (replay me now next end values x)
-  replays next end values x H = branch {b = ltb end (next + length values)} (λ t. anew _ H) (λ t. done Tells _ H)
+  replays : (next end : ℕ) (values : List (List Op)) (x : Course) → Matches x → Then Matches (replay me now next end values x)
+  replays next end values x H = branch {b = ltb end (next + length values)} (λ t. anew _ H) (λ t. done Matches _ H)
 
-  steps_in : (g : SyncStage) (x : Course) → Tells x → Then Tells (step_in me now g x)
+  steps_in : (g : SyncStage) (x : Course) → Matches x → Then Matches (step_in me now g x)
   steps_in sync.Cookie x H = stay x H
   steps_in sync.Chunks x H = stay x H
   steps_in (sync.Replay next end) x H = any (step_of x.readings.record_of (suc end - next) next)
     where
-      any : (values : Option (List (List Op))) → Then Tells (replay_any me now next end values x)
+      any : (values : Option (List (List Op))) → Then Matches (replay_any me now next end values x)
       any None = anew x H
       any (Some values) = replays next end values x H
 
-  steps : (x : Course) → Tells x → Then Tells (replay_step me now x)
+  steps : (x : Course) → Matches x → Then Matches (replay_step me now x)
   unfolding replay_step
   steps x H = branch {b = same_phase x.state.phase phase.Synchronizing} (λ t. steps_in x.state.requester.stage x H) (λ t. stay x H)
 
-  pings : (f : ℕ) (table : Option Scores) (x : Course) → Tells x → Then Tells (hear_ping me f table x)
+  pings : (f : ℕ) (table : Option Scores) (x : Course) → Matches x → Then Matches (hear_ping me f table x)
   unfolding hear_ping
   pings f None x H = stay x H
-  pings f (Some table) x H = done Tells _ (says (epoch_of x.readings) (body.PingReply (own_table me (note_table f table x))) f tt H)
+  pings f (Some table) x H = done Matches _ (says (epoch_of x.readings) (body.PingReply (own_table me (note_table f table x))) f tt H)
 
-  ping_reply : (f : ℕ) (table : Option Scores) (x : Course) → Tells x → Then Tells (hear_ping_reply f table x)
+  ping_reply : (f : ℕ) (table : Option Scores) (x : Course) → Matches x → Then Matches (hear_ping_reply f table x)
   unfolding hear_ping_reply
   ping_reply f None x H = stay x H
-  ping_reply f (Some table) x H = done Tells _ H
+  ping_reply f (Some table) x H = done Matches _ H
 
   -- ---- whatever else comes
 
-  module _ (x : Course) (A : IsAside x.state.phase) (marked : x.readings.marked ≡ true) (H : Tells x) where
-    probe_comes : (f : ℕ) → Then Tells (hear_probe me f x)
+  module _ (x : Course) (A : IsAside x.state.phase) (marked : x.readings.marked ≡ true) (H : Matches x) where
+    probe_comes : (f : ℕ) → Then Matches (hear_probe me f x)
     unfolding hear_probe
     probe_comes f = stay_if x.readings.marked x _ marked H
 
-    probe_reply : (f : ℕ) (quorum : List Bool) (first last : ℕ) → Then Tells (hear_probe_reply me now f quorum first last x)
+    probe_reply : (f : ℕ) (quorum : List Bool) (first last : ℕ) → Then Matches (hear_probe_reply me now f quorum first last x)
     unfolding hear_probe_reply
     probe_reply f quorum first last =
         branch {b = not (same_phase x.state.phase phase.Probing)} (λ t. stay x H)
-        (λ t. branch {b = x.readings.marked} (λ u. branch {b = leb 1 last && leb x.readings.floor last} (λ v. done Tells _ (asks_copy f x H)) (λ v. stay x H))
+        (λ t. branch {b = x.readings.marked} (λ u. branch {b = leb 1 last && leb x.readings.floor last} (λ v. done Matches _ (asks_copy f x H)) (λ v. stay x H))
         (λ u. let g : true ≡ false = sym marked ∙ u in absurd cc))
 
-    propose : (f t : ℕ) (table : Option Scores) → Then Tells (hear_propose me now f t table x)
+    propose : (f t : ℕ) (table : Option Scores) → Then Matches (hear_propose me now f t table x)
     unfolding hear_propose
     propose f t table = rw A.votes (stay x H)
 
-    ack : (f t : ℕ) → Then Tells (hear_ack me now f t x)
+    ack : (f t : ℕ) → Then Matches (hear_ack me now f t x)
     unfolding hear_ack
     ack f t = rw A.votes (stay x H)
 
-    victory : (f t : ℕ) (q : List Bool) → Then Tells (hear_victory me now f t q x)
+    victory : (f t : ℕ) (q : List Bool) → Then Matches (hear_victory me now f t q x)
     unfolding hear_victory
     victory f t q = rw A.votes (stay x H)
 
-    collect : (f t pn first last : ℕ) → Then Tells (hear_collect me now f t pn first last x)
+    collect : (f t pn first last : ℕ) → Then Matches (hear_collect me now f t pn first last x)
     unfolding hear_collect
     collect f t pn first last = rw A.peon (stay x H)
 
-    last : (f t pn first own : ℕ) (whole : Bool) (from : ℕ) (values : List (List Op)) (told : Option Told) → Then Tells (hear_last me now f t pn first own whole from values told x)
+    last : (f t pn first own : ℕ) (whole : Bool) (from : ℕ) (values : List (List Op)) (told : Option Told) → Then Matches (hear_last me now f t pn first own whole from values told x)
     unfolding hear_last
     last f t pn first own whole from values told = rw A.collecting (stay x H)
 
-    begin : (f t pn v : ℕ) (value : List Op) → Then Tells (hear_begin me f t pn v value x)
+    begin : (f t pn v : ℕ) (value : List Op) → Then Matches (hear_begin me f t pn v value x)
     unfolding hear_begin
     begin f t pn v value = rw A.peon (stay x H)
 
-    accept : (f t pn v : ℕ) → Then Tells (hear_accept me now f t pn v x)
+    accept : (f t pn v : ℕ) → Then Matches (hear_accept me now f t pn v x)
     unfolding hear_accept
     accept f t pn v = rw (A.previous, A.updating) (stay x H)
 
-    commit : (f t from : ℕ) (values : List (List Op)) → Then Tells (hear_commit f t from values x)
+    commit : (f t from : ℕ) (values : List (List Op)) → Then Matches (hear_commit f t from values x)
     unfolding hear_commit
     commit f t from values = rw A.peon (stay x H)
 
-    lease : (f t own : ℕ) → Then Tells (hear_lease me now f t own x)
+    lease : (f t own : ℕ) → Then Matches (hear_lease me now f t own x)
     unfolding hear_lease
     lease f t own = rw A.peon (stay x H)
 
-    lease_ack : (f t own : ℕ) → Then Tells (hear_lease_ack me f t own x)
+    lease_ack : (f t own : ℕ) → Then Matches (hear_lease_ack me f t own x)
     unfolding hear_lease_ack
     lease_ack f t own = rw A.active (stay x H)
 
-    forward : (f t seq : ℕ) (c : Command) → Then Tells (hear_forward me now f t seq c x)
+    forward : (f t seq : ℕ) (c : Command) → Then Matches (hear_forward me now f t seq c x)
     unfolding hear_forward
     forward f t seq c = rw (A.collecting, A.previous, A.active, A.updating) (stay x H)
 
-    route : (f t seq : ℕ) (r : Reply) → Then Tells (hear_route f t seq r x)
+    route : (f t seq : ℕ) (r : Reply) → Then Matches (hear_route f t seq r x)
     unfolding hear_route
     route f t seq r = rw A.peon (stay x H)
 
-    get_cookie_full : (f : ℕ) → Then Tells (hear_get_cookie_full me f x)
+    get_cookie_full : (f : ℕ) → Then Matches (hear_get_cookie_full me f x)
     unfolding hear_get_cookie_full
     get_cookie_full f = stay_if x.readings.marked x _ marked H
 
-    get_cookie_recent : (f own : ℕ) → Then Tells (hear_get_cookie_recent me f own x)
+    get_cookie_recent : (f own : ℕ) → Then Matches (hear_get_cookie_recent me f own x)
     unfolding hear_get_cookie_recent
     get_cookie_recent f own = stay_if x.readings.marked x _ marked H
 
-    get_chunk : (shared : List Entry) (f : ℕ) (c : Cookie) (p : ChunkPlace) → Then Tells (hear_get_chunk me shared f c p x)
+    get_chunk : (shared : List Entry) (f : ℕ) (c : Cookie) (p : ChunkPlace) → Then Matches (hear_get_chunk me shared f c p x)
     unfolding hear_get_chunk
     get_chunk shared f c p = stay_if x.readings.marked x _ marked H
 
-    hears : (shared : List Entry) (f t : ℕ) (b : Body) → Then Tells (hear me shared now f t b x)
+    hears : (shared : List Entry) (f t : ℕ) (b : Body) → Then Matches (hear me shared now f t b x)
     hears shared f t body.Probe = probe_comes f
     hears shared f t (body.ProbeReply quorum first own) = probe_reply f quorum first own
     hears shared f t (body.Propose table) = propose f t table
@@ -265,14 +265,14 @@ module _ (log : List (List ℕ)) (me : Me) (several : 1 < me.member.monitors) (n
     hears shared f t (body.Request id r) = stay x H
     hears shared f t (body.Reply id r) = stay x H
 
-    asks : (s : Session) (c : Command) → Then Tells (ask me now s c x)
+    asks : (s : Session) (c : Command) → Then Matches (ask me now s c x)
     unfolding ask
-    asks s c = rw (A.leading, A.peon) (done Tells _ (replies s reply.Unavailable tt H))
+    asks s c = rw (A.leading, A.peon) (done Matches _ (replies s reply.Unavailable tt H))
 
-    reads : (s : Session) (reading : Readings → Reply) → Then Tells (read me now s reading x)
-    reads s reading = rw (A.leading, A.peon) (done Tells _ (replies s reply.Unavailable tt H))
+    reads : (s : Session) (reading : Readings → Reply) → Then Matches (read me now s reading x)
+    reads s reading = rw (A.leading, A.peon) (done Matches _ (replies s reply.Unavailable tt H))
 
-    clients : (s : Session) (r : Request) → Then Tells (hear_client me now s r x)
+    clients : (s : Session) (r : Request) → Then Matches (hear_client me now s r x)
     unfolding hear_client
     clients s (request.Set key value) = asks s (command.Set key value)
     clients s (request.Remove key) = asks s (command.Remove key)
@@ -280,7 +280,7 @@ module _ (log : List (List ℕ)) (me : Me) (several : 1 < me.member.monitors) (n
     clients s (request.Show service) = reads s (λ w. shown w service)
     clients s (request.Since service v) = reads s (λ w. since w service v)
 
-    rings : (t : Timer) → Then Tells (timer_comes me now t x)
+    rings : (t : Timer) → Then Matches (timer_comes me now t x)
     unfolding election_ends renew propose_due ping
     rings timer.Probe = anew x H
     rings timer.Election = rw A.electing (stay x H)
@@ -292,23 +292,23 @@ module _ (log : List (List ℕ)) (me : Me) (several : 1 < me.member.monitors) (n
     rings timer.Sync = anew x H
     rings timer.Step = steps x H
     rings timer.Propose = rw A.active (stay x H)
-    rings timer.Ping = done Tells _ (says_each (epoch_of x.readings) (body.Ping (own_table me (elector_is (measure me now x.state.elector) x))) (others me) tt H)
+    rings timer.Ping = done Matches _ (says_each (epoch_of x.readings) (body.Ping (own_table me (elector_is (measure me now x.state.elector) x))) (others me) tt H)
 
   -- ---- one that starts
 
-  starts : (x : Course) → Tells x → Then Tells (start me now x)
+  starts : (x : Course) → Matches x → Then Matches (start me now x)
   unfolding start
-  starts x H = where_fits Tells which.Boot (suc x.readings.boot) _ (anew _ H)
+  starts x H = where_fits Matches which.Boot (suc x.readings.boot) _ (anew _ H)
 
-  starting : (came : Input) (x : Course) → Tells x → Then Tells (before_start me now came x)
+  starting : (came : Input) (x : Course) → Matches x → Then Matches (before_start me now came x)
   starting input.Start x H = starts x H
   starting (input.Deliver d) x H = stay x H
   starting (input.Timer t) x H = stay x H
-  starting (input.Client session r) x H = done Tells _ (replies session reply.Unavailable tt H)
+  starting (input.Client session r) x H = done Matches _ (replies session reply.Unavailable tt H)
 
   -- ---- whatever comes
 
-  pub asks_only : (shared : List Entry) (w : Readings) (s : State) → w.marked ≡ true → IsAside s.phase ⊎ (s.phase ≡ phase.Booting) → (came : Input) (y : Course) → react me shared now w s came ≡ Ok y → AllTell log y.out
+  pub asks_only : (shared : List Entry) (w : Readings) (s : State) → w.marked ≡ true → IsAside s.phase ⊎ (s.phase ≡ phase.Booting) → (came : Input) (y : Course) → react me shared now w s came ≡ Ok y → AllMatch log y.out
   unfolding react
   asks_only shared w s marked A came y e = let h = (walked).holds y e in h.tells
     where
@@ -319,11 +319,11 @@ module _ (log : List (List ℕ)) (me : Me) (several : 1 < me.member.monitors) (n
           by (inl a) = a
           by (inr is) = let g : true ≡ false = subst (λ (p : Phase). same_phase p phase.Booting ≡ false) is running in absurd cc
 
-      runs : IsAside s.phase → (came : Input) → Then Tells (running me shared now came (at_rest w s))
+      runs : IsAside s.phase → (came : Input) → Then Matches (running me shared now came (at_rest w s))
       runs B input.Start = stay (at_rest w s) nothing
       runs B (input.Deliver d) = branch {b = is_heard me d} (λ t. hears (at_rest w s) B marked nothing shared d.from d.epoch d.body) (λ t. stay (at_rest w s) nothing)
       runs B (input.Timer t) = branch {b = is_some (end_of t s.timers)} (λ u. rings (disarm t (at_rest w s)) B marked nothing t) (λ u. stay (at_rest w s) nothing)
       runs B (input.Client session r) = clients (at_rest w s) B marked nothing session r
 
-      walked : Then Tells (cond (same_phase s.phase phase.Booting) (before_start me now came (at_rest w s)) (running me shared now came (at_rest w s)))
+      walked : Then Matches (cond (same_phase s.phase phase.Booting) (before_start me now came (at_rest w s)) (running me shared now came (at_rest w s)))
       walked = branch {b = same_phase s.phase phase.Booting} (λ t. starting came (at_rest w s) nothing) (λ t. runs (aside t) came)

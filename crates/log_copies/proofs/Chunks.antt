@@ -14,7 +14,7 @@ use Rattle.mon_wire.specs.declared.body.Body.{Body}
 use Rattle.mon_wire.specs.declared.body.Body.TheVariants as body
 use Rattle.mon_wire.specs.declared.parts.Place.{Place as ChunkPlace}
 use Rattle.mon_msg.specs.Fold.{fold}
-use Rattle.mon_msg.specs.Protocol.Changes.{spelled}
+use Rattle.mon_msg.specs.Protocol.Changes.{encoded}
 use Rattle.mon_msg.specs.Protocol.Chunks.{copy_changes}
 use Rattle.mon_msg.specs.Protocol.Places.{after_entries}
 use Rattle.log_copies.specs.Copies.{is_past}
@@ -29,7 +29,7 @@ pub record Continues (log : List (List ℕ)) (p : ChunkPlace) (y : KeyPlace) (va
   pub within : p.version + length values ≤ length log
   pub versions : AreVersions log (suc p.version) values
   pub onward : (at : Place) → is_past y at ≡ true → is_past p.key at ≡ true
-  pub made : apply (spelled (copy_changes entries)) empty ≡ retain_keys (fold log (p.version + length values)) (between p.key y)
+  pub made : apply (encoded (copy_changes entries)) empty ≡ retain_keys (fold log (p.version + length values)) (between p.key y)
 
 -- the key of the log's first version comes after the place
 abbrev pub IsOpen : KeyPlace → Type 0

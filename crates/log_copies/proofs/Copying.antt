@@ -23,7 +23,7 @@ use Rattle.mon_msg.specs.declared.synchronisation.SyncStage.{SyncStage}
 use Rattle.mon_msg.specs.declared.synchronisation.SyncStage.TheVariants as sync
 use Rattle.mon_msg.specs.declared.view.Me.{Me}
 use Rattle.mon_msg.specs.Joined.{joined}
-use Rattle.mon_msg.specs.Protocol.Changes.{Change, Mark, spelled}
+use Rattle.mon_msg.specs.Protocol.Changes.{Change, Mark, encoded}
 use Rattle.mon_msg.specs.Protocol.Chunks.{takes_chunks, is_ours, record_changes, copy_changes, next_place, take, begin_replay, take_and_ask, hear_chunk, replay_or_end, take_last, hear_last_chunk}
 use Rattle.mon_msg.specs.Protocol.Copying.{awaits_cookie, of_provider, same_flag, first_place, ask_chunk, start_chunks, hear_cookie}
 use Rattle.mon_msg.specs.Protocol.Course.{Course, ◌▸◌, ◌>>=◌, change_all, requester_is, arm, disarm}
@@ -59,7 +59,7 @@ module _ (log : List (List ℕ)) (fits : length log ≤ 2 ^ 62) (all : AllValues
     abbrev mark : List Change
     mark = Mark (floor_of w) w.last_pn w.promise ∷ []
 
-    told : readings_of (apply (joined (spelled mark)) m) ≡ play (Mark (floor_of w) w.last_pn w.promise) w
+    told : readings_of (apply (joined (encoded mark)) m) ≡ play (Mark (floor_of w) w.last_pn w.promise) w
     unfolding readings_of
     told = readings-joined mark ((floor_short m, there_short (cell m area.Paxos key.LastPn), there_short (cell m area.Paxos key.AcceptedPn)), tt) m
 
@@ -77,7 +77,7 @@ module _ (log : List (List ℕ)) (fits : length log ≤ 2 ^ 62) (all : AllValues
         kept_floor = omega (arith, ap (λ (v : Readings). v.floor) told);
         marked = ap (λ (v : Readings). v.marked) told;
       };
-      stage = ap shared_with_records (apply-joined (spelled mark) m) ∙ nothing_shared (floor_of w) w.last_pn w.promise m shaped;
+      stage = ap shared_with_records (apply-joined (encoded mark) m) ∙ nothing_shared (floor_of w) w.last_pn w.promise m shaped;
     }
 
   -- ---- a row at a monitor
@@ -197,7 +197,7 @@ module _ (log : List (List ℕ)) (fits : length log ≤ 2 ^ 62) (all : AllValues
       copied = let K = chunked in carried_on log p y values entries C s.requester.start start_low m K.copy
 
       wrote : written m moved ≡ taken log p y values entries C s.requester.start start_low m (let K = chunked in K.copy)
-      wrote = apply-joined (spelled (record_changes (suc p.version) values ++ copy_changes entries)) m
+      wrote = apply-joined (encoded (record_changes (suc p.version) values ++ copy_changes entries)) m
 
       pub copied_written : IsFuzzyCopy log s.requester.start version y (written m moved)
       copied_written = subst (λ (n : Store). IsFuzzyCopy log s.requester.start version y n) (sym wrote) copied

@@ -16,7 +16,7 @@ use Rattle.mon_tx.proofs.Named.{decided-put, decided-erase}
 use Rattle.mon_tx.proofs.Places.{places_total, exact_places, number_in-bytes}
 use Rattle.mon_msg.specs.Fold.{fold}
 use Rattle.mon_msg.specs.Puts.{put_number}
-use Rattle.mon_msg.specs.Protocol.Changes.{erase, Last, Unmark, spelled}
+use Rattle.mon_msg.specs.Protocol.Changes.{erase, Last, Unmark, encoded}
 use Rattle.log_copies.specs.Copies.{is_own, IsFuzzyCopy, shared_with_records}
 use Rattle.log_copies.proofs.Own.{own_number, own_local}
 use Rattle.log_copies.proofs.Versions.{copy_is}
@@ -46,10 +46,10 @@ module _ (a : Area) (k : Key) (own : is_number a k ≡ true) (at : Place) (not_o
 
 module _ (log : List (List ℕ)) (fits : length log ≤ 2 ^ 62) (all : AllValues log) (e : ℕ) (le : e ≤ length log) (m : Store) (copy : IsFuzzyCopy log e e key_place.Done m) where
   abbrev pub ended : Store
-  ended = apply (spelled (Last e ∷ Unmark ∷ [])) m
+  ended = apply (encoded (Last e ∷ Unmark ∷ [])) m
 
   abbrev ops : List Op
-  ops = spelled (Last e ∷ Unmark ∷ [])
+  ops = encoded (Last e ∷ Unmark ∷ [])
 
   pub ended_last : number ended area.Paxos key.LastCommitted ≡ e
   ended_last = ap number_in (get-apply ops m (place area.Paxos key.LastCommitted) ∙ ap (λ (d : Decision). or_before d (get m (place area.Paxos key.LastCommitted))) decides) ∙ number_in-bytes e (omega arith)

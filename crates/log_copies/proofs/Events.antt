@@ -21,7 +21,7 @@ use Rattle.mon_msg.specs.declared.synchronisation.Requester.{Requester}
 use Rattle.mon_msg.specs.declared.view.Me.{Me}
 use Rattle.mon_bytes.specs.declared.entry.Entry.{Entry}
 use Rattle.mon_msg.specs.Joined.{joined}
-use Rattle.mon_msg.specs.Protocol.Changes.{Change, Boot, Epoch, spelled}
+use Rattle.mon_msg.specs.Protocol.Changes.{Change, Boot, Epoch, encoded}
 use Rattle.mon_msg.specs.Protocol.Course.{Course, ◌▸◌, ◌>>=◌, change, change_if, elector_is, arm_if, disarm}
 use Rattle.mon_msg.specs.Protocol.Entering.{bootstrap, scores_count}
 use Rattle.mon_msg.specs.Protocol.Hearing.{is_heard, hear, deliver}
@@ -70,7 +70,7 @@ module _ (log : List (List ℕ)) (fits : length log ≤ 2 ^ 62) (all : AllValues
 
   module _ (s : State) (I : Marked log before floor m s) (y : Course) where
     unchanged : y.changes ≡ [] → m ≡ written m y
-    unchanged none = sym (ap (λ (cs : List Change). apply (joined (spelled cs)) m) none ∙ apply-joined [] m)
+    unchanged none = sym (ap (λ (cs : List Change). apply (joined (encoded cs)) m) none ∙ apply-joined [] m)
 
     waits : y.changes ≡ [] → (y.state.phase ≡ phase.Probing) ⊎ (y.state.phase ≡ phase.Booting) → Stands log before floor (written m y) y.state
     waits none p =
@@ -215,20 +215,20 @@ module _ (log : List (List ℕ)) (fits : length log ≤ 2 ^ 62) (all : AllValues
     starts short y changes probing = inl (inr (record { in_phase = inl probing; noted = subst (Noted log before floor) wrote noted; shaped = subst IsShaped wrote shaped }))
       where
         after : Store
-        after = apply (joined (spelled (Boot (suc (readings_of m).boot) ∷ cond (not (is_some (readings_of m).epoch)) (Epoch 1 ∷ []) []))) m
+        after = apply (joined (encoded (Boot (suc (readings_of m).boot) ∷ cond (not (is_some (readings_of m).epoch)) (Epoch 1 ∷ []) []))) m
 
-        wrote : apply (joined (spelled (Boot (suc (readings_of m).boot) ∷ cond (not (is_some (readings_of m).epoch)) (Epoch 1 ∷ []) []))) m ≡ written m y
-        wrote = ap (λ (cs : List Change). apply (joined (spelled cs)) m) (sym changes)
+        wrote : apply (joined (encoded (Boot (suc (readings_of m).boot) ∷ cond (not (is_some (readings_of m).epoch)) (Epoch 1 ∷ []) []))) m ≡ written m y
+        wrote = ap (λ (cs : List Change). apply (joined (encoded cs)) m) (sym changes)
 
-        noted : Noted log before floor (apply (joined (spelled (Boot (suc (readings_of m).boot) ∷ cond (not (is_some (readings_of m).epoch)) (Epoch 1 ∷ []) []))) m)
+        noted : Noted log before floor (apply (joined (encoded (Boot (suc (readings_of m).boot) ∷ cond (not (is_some (readings_of m).epoch)) (Epoch 1 ∷ []) []))) m)
         noted = by (readings_of m).epoch refl
           where
             N : Noted log before floor m
             N = marked_is s I
 
-            of_told : (cs : List Change) → readings_of (apply (joined (spelled cs)) m) ≡ played cs (readings_of m) → (played cs (readings_of m)).last_pn ≡ (readings_of m).last_pn
+            of_told : (cs : List Change) → readings_of (apply (joined (encoded cs)) m) ≡ played cs (readings_of m) → (played cs (readings_of m)).last_pn ≡ (readings_of m).last_pn
                 → (played cs (readings_of m)).promise ≡ (readings_of m).promise → epoch_of (played cs (readings_of m)) ≡ epoch_of (readings_of m) → (played cs (readings_of m)).floor ≡ (readings_of m).floor
-                → (played cs (readings_of m)).marked ≡ (readings_of m).marked → Noted log before floor (apply (joined (spelled cs)) m)
+                → (played cs (readings_of m)).marked ≡ (readings_of m).marked → Noted log before floor (apply (joined (encoded cs)) m)
             of_told cs told pn promise epoch low mark =
                 let numbers = (N).numbers in
                 record {
@@ -241,23 +241,23 @@ module _ (log : List (List ℕ)) (fits : length log ≤ 2 ^ 62) (all : AllValues
                   marked = ap (λ (v : Readings). v.marked) told ∙ mark ∙ (N).marked;
                 }
 
-            by : (o : Option ℕ) → (readings_of m).epoch ≡ o → Noted log before floor (apply (joined (spelled (Boot (suc (readings_of m).boot) ∷ cond (not (is_some (readings_of m).epoch)) (Epoch 1 ∷ []) []))) m)
+            by : (o : Option ℕ) → (readings_of m).epoch ≡ o → Noted log before floor (apply (joined (encoded (Boot (suc (readings_of m).boot) ∷ cond (not (is_some (readings_of m).epoch)) (Epoch 1 ∷ []) []))) m)
             by (Some e) is =
                 let none : cond (not (is_some (readings_of m).epoch)) (Epoch 1 ∷ []) [] ≡ [] = ap (λ (p : Option ℕ). cond (not (is_some p)) (Epoch 1 ∷ []) []) is in
-                subst (λ (cs : List Change). Noted log before floor (apply (joined (spelled (Boot (suc (readings_of m).boot) ∷ cs))) m)) (sym none)
+                subst (λ (cs : List Change). Noted log before floor (apply (joined (encoded (Boot (suc (readings_of m).boot) ∷ cs))) m)) (sym none)
                 (of_told (Boot (suc (readings_of m).boot) ∷ []) (readings-joined (Boot (suc (readings_of m).boot) ∷ []) (short, tt) m) refl refl refl refl refl)
             by None is =
                 let one : cond (not (is_some (readings_of m).epoch)) (Epoch 1 ∷ []) [] ≡ Epoch 1 ∷ [] = ap (λ (p : Option ℕ). cond (not (is_some p)) (Epoch 1 ∷ []) []) is in
-                subst (λ (cs : List Change). Noted log before floor (apply (joined (spelled (Boot (suc (readings_of m).boot) ∷ cs))) m)) (sym one)
+                subst (λ (cs : List Change). Noted log before floor (apply (joined (encoded (Boot (suc (readings_of m).boot) ∷ cs))) m)) (sym one)
                 (of_told (Boot (suc (readings_of m).boot) ∷ Epoch 1 ∷ []) (readings-joined (Boot (suc (readings_of m).boot) ∷ Epoch 1 ∷ []) (short, (lit≤ tt, tt)) m) refl refl
                 (sym (ap epoch_or_first is)) refl refl)
 
-        shaped : IsShaped (apply (joined (spelled (Boot (suc (readings_of m).boot) ∷ cond (not (is_some (readings_of m).epoch)) (Epoch 1 ∷ []) []))) m)
-        shaped = subst IsShaped (sym (apply-joined (spelled (Boot (suc (readings_of m).boot) ∷ cond (not (is_some (readings_of m).epoch)) (Epoch 1 ∷ []) [])) m)) (by (not (is_some (readings_of m).epoch)))
+        shaped : IsShaped (apply (joined (encoded (Boot (suc (readings_of m).boot) ∷ cond (not (is_some (readings_of m).epoch)) (Epoch 1 ∷ []) []))) m)
+        shaped = subst IsShaped (sym (apply-joined (encoded (Boot (suc (readings_of m).boot) ∷ cond (not (is_some (readings_of m).epoch)) (Epoch 1 ∷ []) [])) m)) (by (not (is_some (readings_of m).epoch)))
           where
-            by : (b : Bool) → IsShaped (apply (spelled (Boot (suc (readings_of m).boot) ∷ cond b (Epoch 1 ∷ []) [])) m)
-            by true = still_shaped (spelled (Boot (suc (readings_of m).boot) ∷ Epoch 1 ∷ [])) m (inl (own_number area.Monitor key.BootCount refl), (inl (own_number area.Monitor key.ElectionEpoch refl), tt)) (marked_shaped s I)
-            by false = still_shaped (spelled (Boot (suc (readings_of m).boot) ∷ [])) m (inl (own_number area.Monitor key.BootCount refl), tt) (marked_shaped s I)
+            by : (b : Bool) → IsShaped (apply (encoded (Boot (suc (readings_of m).boot) ∷ cond b (Epoch 1 ∷ []) [])) m)
+            by true = still_shaped (encoded (Boot (suc (readings_of m).boot) ∷ Epoch 1 ∷ [])) m (inl (own_number area.Monitor key.BootCount refl), (inl (own_number area.Monitor key.ElectionEpoch refl), tt)) (marked_shaped s I)
+            by false = still_shaped (encoded (Boot (suc (readings_of m).boot) ∷ [])) m (inl (own_number area.Monitor key.BootCount refl), tt) (marked_shaped s I)
 
     begins : (y : Course) → start me now (at_rest w s) ≡ Ok y → Stands log before floor (written m y) y.state
     unfolding start bootstrap

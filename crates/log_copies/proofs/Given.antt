@@ -20,7 +20,7 @@ use Rattle.mon_wire.specs.declared.body.Body.TheVariants as body
 use Rattle.mon_wire.specs.declared.parts.Cookie.{Cookie}
 use Rattle.mon_wire.specs.declared.parts.Place.{Place as ChunkPlace}
 use Rattle.mon_msg.specs.Fold.{fold}
-use Rattle.mon_msg.specs.Protocol.Changes.{spelled}
+use Rattle.mon_msg.specs.Protocol.Changes.{encoded}
 use Rattle.mon_msg.specs.Protocol.Chunks.{copy_changes}
 use Rattle.mon_msg.specs.Protocol.Length.{fits}
 use Rattle.mon_msg.specs.Protocol.Places.{is_after, is_done, after_entries}
@@ -128,7 +128,7 @@ module _ (log : List (List ℕ)) (short : length log ≤ 2 ^ 62) (all : AllValue
     past_all : AllPast p.key (fs ++ rs)
     past_all = subst (AllPast p.key) (sym whole) past
 
-    front_made : (at : Place) → get (apply (spelled (copy_changes (map entry_of fs))) empty) at ≡ cond (between p.key y at) (get (fold log c) at) None
+    front_made : (at : Place) → get (apply (encoded (copy_changes (map entry_of fs))) empty) at ≡ cond (between p.key y at) (get (fold log c) at) None
     front_made at =
         made_of fs (sorted_front fs rs sorted_all) at ∙ find_front rs fs p.key sorted_all past_all at
         ∙ ap (λ (x : Cell). cond (between p.key y at) x None) (ap (find place_cmp at) whole ∙ found_in at) ∙ once (is_past p.key at) (not (is_past y at)) (get (fold log c) at)

@@ -13,7 +13,7 @@ use Rattle.mon_wire.specs.declared.body.Body.{Body}
 use Rattle.mon_wire.specs.declared.body.Body.TheVariants as body
 use Rattle.mon_wire.specs.declared.parts.Place.{Place as ChunkPlace}
 use Rattle.mon_msg.specs.Joined.{joined}
-use Rattle.mon_msg.specs.Protocol.Changes.{Learn, Last, spelled}
+use Rattle.mon_msg.specs.Protocol.Changes.{Learn, Last, encoded}
 use Rattle.mon_msg.specs.Protocol.Readings.{Readings}
 use Rattle.mon_msg.specs.Protocol.State.{State}
 use Rattle.mon_msg.specs.declared.synchronisation.SyncStage.{SyncStage}
@@ -27,10 +27,10 @@ use Rattle.log_model.specs.LogOfValues.{AllValues, IsValue}
 use Rattle.log_model.specs.Windows.{Keeps}
 use Rattle.log_model.proofs.Committed.{grown, ops_again, texts}
 use Rattle.log_model.proofs.Lists.{length_push}
-use Rattle.log_model.proofs.Logs.{Fronts, fronts_push, entry_push, entry_stays, fold_stays}
+use Rattle.log_model.proofs.Logs.{IsPrefixOf, log_prefix_push, entry_push, entry_stays, fold_stays}
 use Rattle.log_model.proofs.Records.{IsVersion, AreVersions}
 
-module _ {log more : List (List ℕ)} (F : Fronts log more) where
+module _ {log more : List (List ℕ)} (F : IsPrefixOf log more) where
   pub versions_stay : (c : ℕ) (m : Store) → HasVersions log c m → HasVersions more c m
   versions_stay c m V = record { within = (let w = V.within in let s = F.short in omega arith); last = V.last; folded = V.folded ∙ sym (fold_stays F c V.within) }
 
@@ -39,7 +39,7 @@ module _ {log more : List (List ℕ)} (F : Fronts log more) where
   values_stay (x ∷ xs) v le h =
       let one = h.0 in
       let same = entry_stays F (suc v) (omega arith) in
-      (record { spells = same ∙ one.spells; reads = ap ops_in same ∙ one.reads }, values_stay xs (suc v) (omega arith) h.1)
+      (record { encodes = same ∙ one.encodes; reads = ap ops_in same ∙ one.reads }, values_stay xs (suc v) (omega arith) h.1)
 
   folded_stays : (s e : ℕ) → e ≤ length log → (at : Place) (c : Cell) → IsFolded log s e at c → IsFolded more s e at c
   folded_stays s e le at c h =
@@ -113,11 +113,11 @@ module _ (log : List (List ℕ)) (room : length log < 2 ^ 62) (all : AllValues l
   more_values = grown log room all w K at x value
 
   pub new_version : IsVersion more (suc (length log)) x
-  new_version = record { spells = entry_push log (text x); reads = ap ops_in (entry_push log (text x)) ∙ ops_again x (texts log room all w K at x value) }
+  new_version = record { encodes = entry_push log (text x); reads = ap ops_in (entry_push log (text x)) ∙ ops_again x (texts log room all w K at x value) }
 
-  pub committed : (m : Store) → HasVersions log (length log) m → HasVersions more (suc (length log)) (apply (joined (spelled (Learn (suc (length log)) x ∷ Last (suc (length log)) ∷ []))) m)
+  pub committed : (m : Store) → HasVersions log (length log) m → HasVersions more (suc (length log)) (apply (joined (encoded (Learn (suc (length log)) x ∷ Last (suc (length log)) ∷ []))) m)
   committed m V =
       let long = length_push log (text x) in
       let same : suc (length log) + 0 ≡ suc (length log) = omega arith in
-      subst (λ (e : ℕ). HasVersions more e (apply (joined (spelled (Learn (suc (length log)) x ∷ Last e ∷ []))) m)) same
-      (learned more (omega (arith, long)) more_values (length log) m (versions_stay (fronts_push log (text x)) (length log) m V) x [] (new_version, tt) (omega (arith, long)))
+      subst (λ (e : ℕ). HasVersions more e (apply (joined (encoded (Learn (suc (length log)) x ∷ Last e ∷ []))) m)) same
+      (learned more (omega (arith, long)) more_values (length log) m (versions_stay (log_prefix_push log (text x)) (length log) m V) x [] (new_version, tt) (omega (arith, long)))

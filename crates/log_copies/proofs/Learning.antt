@@ -14,7 +14,7 @@ use Rattle.mon_tx.proofs.Named.{decided-put}
 use Rattle.mon_tx.proofs.Places.{places_total, exact_places, number_in-bytes}
 use Rattle.mon_msg.specs.Fold.{fold}
 use Rattle.mon_msg.specs.Joined.{joined}
-use Rattle.mon_msg.specs.Protocol.Changes.{Learn, Last, ops_of, spelled}
+use Rattle.mon_msg.specs.Protocol.Changes.{Learn, Last, ops_of, encoded}
 use Rattle.mon_msg.specs.Protocol.Learning.{learn_changes}
 use Rattle.mon_msg.proofs.Afterwards.{apply-append}
 use Rattle.mon_msg.proofs.Joining.{apply-joined}
@@ -23,7 +23,7 @@ use Rattle.log_copies.specs.Versions.{HasVersions}
 use Rattle.log_copies.proofs.Ends.{number_put}
 use Rattle.log_copies.proofs.Own.{own_number, own_local}
 use Rattle.log_copies.proofs.Replayed.{learned_version, replayed}
-use Rattle.log_copies.proofs.Taken.{spelled_append, folded_more, record_more}
+use Rattle.log_copies.proofs.Taken.{encoded_append, folded_more, record_more}
 use Rattle.log_copies.proofs.Versions.{version, fold_next, record_decided, copy_is}
 use Rattle.log_model.specs.LogOfValues.{AllValues}
 use Rattle.log_model.proofs.Committed.{holds}
@@ -92,22 +92,22 @@ module _ (log : List (List ℕ)) where
 
   module _ (fits : length log ≤ 2 ^ 62) (all : AllValues log) (e : ℕ) (le : e ≤ length log) (m : Store) (copy : IsFuzzyCopy log e e key_place.Done m) where
     noted : Store
-    noted = apply (spelled (Last e ∷ [])) m
+    noted = apply (encoded (Last e ∷ [])) m
 
     noted_last : number noted area.Paxos key.LastCommitted ≡ e
     unfolding noted
     noted_last =
-        ap number_in (get-apply (spelled (Last e ∷ [])) m (place area.Paxos key.LastCommitted)
+        ap number_in (get-apply (encoded (Last e ∷ [])) m (place area.Paxos key.LastCommitted)
         ∙ ap (λ (d : Decision). or_before d (get m (place area.Paxos key.LastCommitted))) (decided-put area.Paxos key.LastCommitted (number_bytes e) area.Paxos key.LastCommitted))
         ∙ number_in-bytes e (omega arith)
 
     as_copied : (at : Place) → is_own at ≡ false → get noted at ≡ get (fold log e) at
     unfolding noted
     as_copied at not_own =
-        get-apply (spelled (Last e ∷ [])) m at ∙ ap (λ (d : Decision). or_before d (get m at)) (number_put area.Paxos key.LastCommitted refl at not_own e)
+        get-apply (encoded (Last e ∷ [])) m at ∙ ap (λ (d : Decision). or_before d (get m at)) (number_put area.Paxos key.LastCommitted refl at not_own e)
         ∙ ap (λ b. cond (not b) (get m at) None) (sym not_own) ∙ sym (get_kept m (λ q. not (is_own q)) at) ∙ ap (λ (n : Store). get n at) (copy_is log fits all e le m copy)
 
-    has_noted : HasVersions log e (apply (spelled (Last e ∷ [])) m)
+    has_noted : HasVersions log e (apply (encoded (Last e ∷ [])) m)
     unfolding noted
     has_noted = record {
       within = le;
@@ -115,7 +115,7 @@ module _ (log : List (List ℕ)) where
       folded = shared_is noted e noted_last ∙ same_map places_total exact_places _ _ (λ at. get_kept noted (is_shared e) at ∙ by at (is_local e at) refl);
     }
       where
-        by : (at : Place) (b : Bool) → is_local e at ≡ b → cond (not b) (get (apply (spelled (Last e ∷ [])) m) at) None ≡ get (fold log e) at
+        by : (at : Place) (b : Bool) → is_local e at ≡ b → cond (not b) (get (apply (encoded (Last e ∷ [])) m) at) None ≡ get (fold log e) at
         by at true t = sym (no_local log e (holds log fits all e le) at t)
         by at false t = as_copied at (other (is_own at) refl)
           where
@@ -127,14 +127,14 @@ module _ (log : List (List ℕ)) where
 
   pub learned : length log ≤ 2 ^ 62 → AllValues log → (c : ℕ) (m : Store) → HasVersions log c m → (x : List Op) (values : List (List Op)) → AreVersions log (suc c) (x ∷ values)
       → suc c + length values ≤ length log
-      → HasVersions log (suc c + length values) (apply (joined (spelled (learn_changes (suc c) (x ∷ values) ++ Last (suc c + length values) ∷ []))) m)
+      → HasVersions log (suc c + length values) (apply (joined (encoded (learn_changes (suc c) (x ∷ values) ++ Last (suc c + length values) ∷ []))) m)
   learned fits all c m V x values W le = subst (HasVersions log e) (sym wrote) (has_noted fits all e le m1 copied)
     where
       e : ℕ
       e = suc c + length values
 
       m1 : Store
-      m1 = apply (spelled (learn_changes (suc c) (x ∷ values))) m
+      m1 = apply (encoded (learn_changes (suc c) (x ∷ values))) m
 
       first : Store
       first = apply (ops_of (Learn (suc c) x)) m
@@ -142,14 +142,14 @@ module _ (log : List (List ℕ)) where
       one : IsFuzzyCopy log (suc c) (suc c) key_place.Done (apply (ops_of (Learn (suc c) x)) m)
       one = subst (λ (n : Store). IsFuzzyCopy log (suc c) (suc c) key_place.Done n) (sym (learned_version log (suc c) x W.0 m)) (exact c (omega arith) m V)
 
-      copied : IsFuzzyCopy log (suc c + length values) (suc c + length values) key_place.Done (apply (spelled (learn_changes (suc c) (x ∷ values))) m)
+      copied : IsFuzzyCopy log (suc c + length values) (suc c + length values) key_place.Done (apply (encoded (learn_changes (suc c) (x ∷ values))) m)
       copied =
-          subst (λ (n : Store). IsFuzzyCopy log (suc c + length values) (suc c + length values) key_place.Done n) (sym (apply-append (ops_of (Learn (suc c) x)) (spelled (learn_changes (suc (suc c)) values)) m))
+          subst (λ (n : Store). IsFuzzyCopy log (suc c + length values) (suc c + length values) key_place.Done n) (sym (apply-append (ops_of (Learn (suc c) x)) (encoded (learn_changes (suc (suc c)) values)) m))
           (replayed log values (suc c) (suc c + length values) W.1 (omega arith) (apply (ops_of (Learn (suc c) x)) m)
           (later_copy log (suc c) (suc c) (suc c + length values) key_place.Done (apply (ops_of (Learn (suc c) x)) m) (omega arith) one))
 
-      wrote : apply (joined (spelled (learn_changes (suc c) (x ∷ values) ++ Last (suc c + length values) ∷ []))) m ≡ apply (spelled (Last (suc c + length values) ∷ [])) (apply (spelled (learn_changes (suc c) (x ∷ values))) m)
+      wrote : apply (joined (encoded (learn_changes (suc c) (x ∷ values) ++ Last (suc c + length values) ∷ []))) m ≡ apply (encoded (Last (suc c + length values) ∷ [])) (apply (encoded (learn_changes (suc c) (x ∷ values))) m)
       wrote =
-          apply-joined (spelled (learn_changes (suc c) (x ∷ values) ++ Last (suc c + length values) ∷ [])) m
-          ∙ ap (λ (ops : List Op). apply ops m) (spelled_append (learn_changes (suc c) (x ∷ values)) (Last (suc c + length values) ∷ []))
-          ∙ apply-append (spelled (learn_changes (suc c) (x ∷ values))) (spelled (Last (suc c + length values) ∷ [])) m
+          apply-joined (encoded (learn_changes (suc c) (x ∷ values) ++ Last (suc c + length values) ∷ [])) m
+          ∙ ap (λ (ops : List Op). apply ops m) (encoded_append (learn_changes (suc c) (x ∷ values)) (Last (suc c + length values) ∷ []))
+          ∙ apply-append (encoded (learn_changes (suc c) (x ∷ values))) (encoded (Last (suc c + length values) ∷ [])) m

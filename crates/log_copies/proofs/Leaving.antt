@@ -18,13 +18,13 @@ use Rattle.mon_tx.proofs.Named.{decided-put}
 use Rattle.mon_tx.proofs.Places.{places_total, exact_places}
 use Rattle.mon_msg.specs.Joined.{joined}
 use Rattle.mon_msg.specs.Puts.{put}
-use Rattle.mon_msg.specs.Protocol.Changes.{Change, Boot, Epoch, Numbers, Promise, Vote, Record, Learn, Last, Copy, Mark, Unmark, ops_of, spelled}
+use Rattle.mon_msg.specs.Protocol.Changes.{Change, Boot, Epoch, Numbers, Promise, Vote, Record, Learn, Last, Copy, Mark, Unmark, ops_of, encoded}
 use Rattle.mon_msg.proofs.Joining.{apply-joined}
 use Rattle.mon_msg.specs.Protocol.Learning.{learn_changes}
-use Rattle.log_copies.proofs.Taken.{spelled_append}
+use Rattle.log_copies.proofs.Taken.{encoded_append}
 use Rattle.log_model.specs.LogOfValues.{AllValues}
 use Rattle.log_model.proofs.Records.{AreVersions, versions_spare}
-use Rattle.log_copies.specs.Versions.{HasVersions, behind, IsOwnChange}
+use Rattle.log_copies.specs.Versions.{HasVersions, store_after, IsOwnChange}
 use Rattle.log_model.proofs.Places.{same_place, get_kept, is_shared, shared_is, local_named, tied}
 
 -- changes that leave the keys that a monitor with c versions shares, its last version and its mark
@@ -80,9 +80,9 @@ change_leaves c (Copy e) h = absurd h
 change_leaves c (Mark floor a b) h = absurd h
 change_leaves c Unmark h = absurd h
 
-changes_leave : (c : ℕ) (cs : List Change) → AllByRecursion (IsOwnChange c) cs → Leaves c (spelled cs)
+changes_leave : (c : ℕ) (cs : List Change) → AllByRecursion (IsOwnChange c) cs → Leaves c (encoded cs)
 changes_leave c [] h = leaves_none c
-changes_leave c (x ∷ cs) h = leaves_append c (ops_of x) (spelled cs) (change_leaves c x h.0) (changes_leave c cs h.1)
+changes_leave c (x ∷ cs) h = leaves_append c (ops_of x) (encoded cs) (change_leaves c x h.0) (changes_leave c cs h.1)
 
 module _ (log : List (List ℕ)) (c : ℕ) (m : Store) (V : HasVersions log c m) where
   left : (ops : List Op) → Leaves c ops → HasVersions log c (apply ops m)
@@ -102,23 +102,23 @@ module _ (log : List (List ℕ)) (c : ℕ) (m : Store) (V : HasVersions log c m)
       by at false t = ap (λ (x : Option (List ℕ)). cond (not (is_local c at)) x None) (get-apply ops m at ∙ ap (λ (d : Decision). or_before d (get m at)) (L.shared at t))
 
   -- the versions stay
-  pub still_has : (cs : List Change) → AllByRecursion (IsOwnChange c) cs → HasVersions log c (apply (joined (spelled cs)) m)
-  still_has cs h = subst (HasVersions log c) (sym (apply-joined (spelled cs) m)) (left (spelled cs) (changes_leave c cs h))
+  pub still_has : (cs : List Change) → AllByRecursion (IsOwnChange c) cs → HasVersions log c (apply (joined (encoded cs)) m)
+  still_has cs h = subst (HasVersions log c) (sym (apply-joined (encoded cs) m)) (left (encoded cs) (changes_leave c cs h))
 
 -- ---- the mark
 
 -- a monitor's own changes leave its mark
-pub mark_kept : (c : ℕ) (cs : List Change) → AllByRecursion (IsOwnChange c) cs → (m : Store) → cell (behind cs m) area.Sync key.InSync ≡ cell m area.Sync key.InSync
+pub mark_kept : (c : ℕ) (cs : List Change) → AllByRecursion (IsOwnChange c) cs → (m : Store) → cell (store_after cs m) area.Sync key.InSync ≡ cell m area.Sync key.InSync
 mark_kept c cs h m =
     let L = changes_leave c cs h in
-    ap (λ (n : Store). cell n area.Sync key.InSync) (apply-joined (spelled cs) m) ∙ get-apply (spelled cs) m (place area.Sync key.InSync) ∙ ap (λ (d : Decision). or_before d (get m (place area.Sync key.InSync))) L.mark
+    ap (λ (n : Store). cell n area.Sync key.InSync) (apply-joined (encoded cs) m) ∙ get-apply (encoded cs) m (place area.Sync key.InSync) ∙ ap (λ (d : Decision). or_before d (get m (place area.Sync key.InSync))) L.mark
 
 -- and so do the next versions
 pub mark_learned : (log : List (List ℕ)) → length log ≤ 2 ^ 62 → AllValues log → (values : List (List Op)) (c e : ℕ) → c + length values ≤ length log → AreVersions log (suc c) values → (m : Store)
-    → cell (behind (learn_changes (suc c) values ++ Last e ∷ []) m) area.Sync key.InSync ≡ cell m area.Sync key.InSync
+    → cell (store_after (learn_changes (suc c) values ++ Last e ∷ []) m) area.Sync key.InSync ≡ cell m area.Sync key.InSync
 mark_learned log fits all values c e le W m =
     let changes = learn_changes (suc c) values in
     let S = versions_spare log fits all values c le W in
-    ap (λ (n : Store). cell n area.Sync key.InSync) (apply-joined (spelled (changes ++ Last e ∷ [])) m) ∙ get-apply (spelled (changes ++ Last e ∷ [])) m (place area.Sync key.InSync)
-    ∙ ap (λ (d : Decision). or_before d (get m (place area.Sync key.InSync))) (ap (λ (ops : List Op). decision ops (place area.Sync key.InSync)) (spelled_append changes (Last e ∷ []))
-    ∙ decision-append (spelled changes) (spelled (Last e ∷ [])) (place area.Sync key.InSync) ∙ (λ i. later (decided-put area.Paxos key.LastCommitted (number_bytes e) area.Sync key.InSync i) (S.mark i)))
+    ap (λ (n : Store). cell n area.Sync key.InSync) (apply-joined (encoded (changes ++ Last e ∷ [])) m) ∙ get-apply (encoded (changes ++ Last e ∷ [])) m (place area.Sync key.InSync)
+    ∙ ap (λ (d : Decision). or_before d (get m (place area.Sync key.InSync))) (ap (λ (ops : List Op). decision ops (place area.Sync key.InSync)) (encoded_append changes (Last e ∷ []))
+    ∙ decision-append (encoded changes) (encoded (Last e ∷ [])) (place area.Sync key.InSync) ∙ (λ i. later (decided-put area.Paxos key.LastCommitted (number_bytes e) area.Sync key.InSync i) (S.mark i)))

@@ -13,7 +13,7 @@ pub mod Replaying
 pub mod Whole
 pub mod Learning
 pub mod Growing
-pub mod Telling
+pub mod Matching
 pub mod Aside
 pub mod Events
 pub mod Leaving

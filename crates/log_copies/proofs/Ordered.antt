@@ -13,7 +13,7 @@ use Rattle.mon_tx.specs.Map.{Place, place_cmp, apply}
 use Rattle.mon_tx.proofs.After.{get-apply}
 use Rattle.mon_tx.proofs.Places.{places_total, exact_places}
 use Rattle.map_kv.proofs.Pairs.{first, second}
-use Rattle.mon_msg.specs.Protocol.Changes.{spelled}
+use Rattle.mon_msg.specs.Protocol.Changes.{encoded}
 use Rattle.mon_msg.specs.Protocol.Chunks.{copy_changes}
 use Rattle.mon_msg.specs.Protocol.Places.{is_after, after_entries}
 use Rattle.log_copies.specs.Copies.{is_past}
@@ -122,20 +122,20 @@ module _ (rest : List Pair) where
 
 -- ---- what entries in order make of an empty map
 
-pub made_of : (ps : List Pair) → T (is_sorted place_cmp ps) → (at : Place) → get (apply (spelled (copy_changes (map entry_of ps))) empty) at ≡ find place_cmp at ps
-made_of ps sorted at = get-apply (spelled (copy_changes (map entry_of ps))) empty at ∙ ap (or_before (decision (spelled (copy_changes (map entry_of ps))) at)) (get-empty place_cmp at) ∙ decides ps sorted
+pub made_of : (ps : List Pair) → T (is_sorted place_cmp ps) → (at : Place) → get (apply (encoded (copy_changes (map entry_of ps))) empty) at ≡ find place_cmp at ps
+made_of ps sorted at = get-apply (encoded (copy_changes (map entry_of ps))) empty at ∙ ap (or_before (decision (encoded (copy_changes (map entry_of ps))) at)) (get-empty place_cmp at) ∙ decides ps sorted
   where
-    decides_none : (qs : List Pair) → or_before (decision (spelled (copy_changes (map entry_of qs))) at) None ≡ None → decision (spelled (copy_changes (map entry_of qs))) at ≡ None
-    decides_none qs = by (decision (spelled (copy_changes (map entry_of qs))) at) (copies_put (map entry_of qs) at)
+    decides_none : (qs : List Pair) → or_before (decision (encoded (copy_changes (map entry_of qs))) at) None ≡ None → decision (encoded (copy_changes (map entry_of qs))) at ≡ None
+    decides_none qs = by (decision (encoded (copy_changes (map entry_of qs))) at) (copies_put (map entry_of qs) at)
       where
         by : (d : Decision) → (d ≡ Some None → ⊥) → or_before d None ≡ None → d ≡ None
         by None n h = refl
         by (Some None) n h = absurd (n refl)
         by (Some (Some x)) n h = absurd cc
 
-    decides : (qs : List Pair) → T (is_sorted place_cmp qs) → or_before (decision (spelled (copy_changes (map entry_of qs))) at) None ≡ find place_cmp at qs
+    decides : (qs : List Pair) → T (is_sorted place_cmp qs) → or_before (decision (encoded (copy_changes (map entry_of qs))) at) None ≡ find place_cmp at qs
     decides [] h = refl
-    decides (q ∷ qs) h = by (eq_by_cmp place_cmp at q.0) refl (decision (spelled (copy_changes (map entry_of qs))) at) refl (decides qs (second _ _ h))
+    decides (q ∷ qs) h = by (eq_by_cmp place_cmp at q.0) refl (decision (encoded (copy_changes (map entry_of qs))) at) refl (decides qs (second _ _ h))
       where
         absent : at ≡ q.0 → find place_cmp at qs ≡ None
         absent is = none_below [] at qs (subst (λ (p : Place). AllByRecursion (λ (e : Pair). place_cmp p e.0 ≡ Less) qs) (sym is) (below_each q.0 qs (first _ _ h)))
@@ -148,8 +148,8 @@ made_of ps sorted at = get-apply (spelled (copy_changes (map entry_of ps))) empt
             equal Equal e = refl
             equal Greater e = absurd cc
 
-        by : (b : Bool) → eq_by_cmp place_cmp at q.0 ≡ b → (d : Decision) → decision (spelled (copy_changes (map entry_of qs))) at ≡ d → or_before d None ≡ find place_cmp at qs
-            → or_before (later (decision (spelled (copy_changes (map entry_of qs))) at) (decided (Put q.0.0 q.0.1 q.1) at)) None ≡ find place_cmp at (q ∷ qs)
+        by : (b : Bool) → eq_by_cmp place_cmp at q.0 ≡ b → (d : Decision) → decision (encoded (copy_changes (map entry_of qs))) at ≡ d → or_before d None ≡ find place_cmp at qs
+            → or_before (later (decision (encoded (copy_changes (map entry_of qs))) at) (decided (Put q.0.0 q.0.1 q.1) at)) None ≡ find place_cmp at (q ∷ qs)
         by true t d u ih =
             let none = decides_none qs (ap (λ (c : Decision). or_before c None) u ∙ ih ∙ absent (exact t)) in
             rw (none, t) refl

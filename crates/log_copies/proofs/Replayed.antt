@@ -11,7 +11,7 @@ use Rattle.mon_tx.specs.Map.{Store, apply}
 use Rattle.mon_tx.proofs.Ties.{decimal_text_injective}
 use Rattle.mon_msg.specs.Fold.{entry, fold}
 use Rattle.mon_msg.specs.Puts.{put}
-use Rattle.mon_msg.specs.Protocol.Changes.{Learn, ops_of, spelled}
+use Rattle.mon_msg.specs.Protocol.Changes.{Learn, ops_of, encoded}
 use Rattle.mon_msg.specs.Protocol.Learning.{learn_changes}
 use Rattle.mon_msg.specs.Protocol.Readings.{readings_of}
 use Rattle.mon_msg.specs.Protocol.Replay.{step_of}
@@ -59,14 +59,14 @@ module _ (log : List (List ℕ)) (fits : length log ≤ 2 ^ 62) (all : AllValues
 module _ (log : List (List ℕ)) where
   -- a learned version is one of the log's
   pub learned_version : (v : ℕ) (x : List Op) → IsVersion log v x → (m : Store) → apply (ops_of (Learn v x)) m ≡ with_version log v m
-  learned_version v x V m = λ i. apply (put area.Paxos (key.Version v) (sym V.spells i) ∷ sym V.reads i) m
+  learned_version v x V m = λ i. apply (put area.Paxos (key.Version v) (sym V.encodes i) ∷ sym V.reads i) m
 
   pub replayed : (values : List (List Op)) (u e : ℕ) → AreVersions log (suc u) values → u + length values ≤ e → (m : Store) → IsFuzzyCopy log u e key_place.Done m
-      → IsFuzzyCopy log (u + length values) e key_place.Done (apply (spelled (learn_changes (suc u) values)) m)
+      → IsFuzzyCopy log (u + length values) e key_place.Done (apply (encoded (learn_changes (suc u) values)) m)
   replayed [] u e V le m copy = subst (λ (w : ℕ). IsFuzzyCopy log w e key_place.Done m) (omega arith) copy
   replayed (x ∷ values) u e V le m copy =
       let one = next_version log u e (omega arith) m copy in
       let same : suc u + length values ≡ u + length (x ∷ values) = omega arith in
-      subst (λ (w : ℕ). IsFuzzyCopy log w e key_place.Done (apply (spelled (learn_changes (suc u) (x ∷ values))) m)) same
-      (subst (λ (n : Store). IsFuzzyCopy log (suc u + length values) e key_place.Done n) (sym (apply-append (ops_of (Learn (suc u) x)) (spelled (learn_changes (suc (suc u)) values)) m))
+      subst (λ (w : ℕ). IsFuzzyCopy log w e key_place.Done (apply (encoded (learn_changes (suc u) (x ∷ values))) m)) same
+      (subst (λ (n : Store). IsFuzzyCopy log (suc u + length values) e key_place.Done n) (sym (apply-append (ops_of (Learn (suc u) x)) (encoded (learn_changes (suc (suc u)) values)) m))
       (replayed values (suc u) e V.1 (omega arith) (apply (ops_of (Learn (suc u) x)) m) (subst (λ (n : Store). IsFuzzyCopy log (suc u) e key_place.Done n) (sym (learned_version (suc u) x V.0 m)) one)))

@@ -16,7 +16,7 @@ use Rattle.mon_msg.specs.declared.synchronisation.SyncStage.{SyncStage}
 use Rattle.mon_msg.specs.declared.synchronisation.SyncStage.TheVariants as sync
 use Rattle.mon_msg.specs.declared.view.Me.{Me}
 use Rattle.mon_msg.specs.Joined.{joined}
-use Rattle.mon_msg.specs.Protocol.Changes.{Change, Last, Unmark, spelled}
+use Rattle.mon_msg.specs.Protocol.Changes.{Change, Last, Unmark, encoded}
 use Rattle.mon_msg.specs.Protocol.Course.{Course, ◌▸◌, change, change_all, requester_is, arm}
 use Rattle.mon_msg.specs.Protocol.Entering.{bootstrap}
 use Rattle.mon_msg.specs.Protocol.Learning.{learn_changes}
@@ -34,7 +34,7 @@ use Rattle.log_copies.specs.Synchronizing.{IsShaped, written, IsSynchronized}
 use Rattle.log_copies.proofs.Ends.{ended, ended_last, ended_shared}
 use Rattle.log_copies.proofs.Replayed.{step_is, replayed}
 use Rattle.log_copies.proofs.Shape.{copy_shaped, nothing_shaped}
-use Rattle.log_copies.proofs.Taken.{spelled_append}
+use Rattle.log_copies.proofs.Taken.{encoded_append}
 use Rattle.log_copies.proofs.UnderWay.{SameCells, Noted, still_noted, Replaying, InStage, UnderWay, Waits, Marked, Stands, stays}
 use Rattle.log_model.specs.LogOfValues.{AllValues}
 use Rattle.log_model.proofs.Records.{IsStep, versions_spare}
@@ -67,17 +67,17 @@ module _ (log : List (List ℕ)) (fits : length log ≤ 2 ^ 62) (all : AllValues
     below : upto ≤ end
     below = let f = S.few in let o = R.order in omega arith
 
-    copied : IsFuzzyCopy log upto end key_place.Done (apply (spelled changes) m)
-    copied = subst (λ (v : ℕ). IsFuzzyCopy log upto end key_place.Done (apply (spelled (learn_changes v values)) m)) (sym R.is) (replayed log values R.done end S.versions below m R.copy)
+    copied : IsFuzzyCopy log upto end key_place.Done (apply (encoded changes) m)
+    copied = subst (λ (v : ℕ). IsFuzzyCopy log upto end key_place.Done (apply (encoded (learn_changes v values)) m)) (sym R.is) (replayed log values R.done end S.versions below m R.copy)
 
-    spare : Spares (spelled changes)
-    spare = subst (λ (v : ℕ). Spares (spelled (learn_changes v values))) (sym R.is) (versions_spare log fits all values R.done (let w = R.within in let b = below in omega arith) S.versions)
+    spare : Spares (encoded changes)
+    spare = subst (λ (v : ℕ). Spares (encoded (learn_changes v values))) (sym R.is) (versions_spare log fits all values R.done (let w = R.within in let b = below in omega arith) S.versions)
 
-    noted : Noted log before floor (apply (spelled changes) m)
-    noted = let N = U.noted in still_noted log before floor m (apply (spelled changes) m) same N
+    noted : Noted log before floor (apply (encoded changes) m)
+    noted = let N = U.noted in still_noted log before floor m (apply (encoded changes) m) same N
       where
-        same : SameCells m (apply (spelled changes) m)
-        same a k own = get-apply (spelled changes) m (place a k) ∙ ap (λ (d : Decision). or_before d (cell m a k)) (at_name (spelled changes) spare a k own)
+        same : SameCells m (apply (encoded changes) m)
+        same a k own = get-apply (encoded changes) m (place a k) ∙ ap (λ (d : Decision). or_before d (cell m a k)) (at_name (encoded changes) spare a k own)
 
     stepped : Course
     stepped = x0 ▸ change_all changes
@@ -86,7 +86,7 @@ module _ (log : List (List ℕ)) (fits : length log ≤ 2 ^ 62) (all : AllValues
     goes_on : (now : ℕ) → next + length values ≤ end → UnderWay log before floor (written m stepped) ((stepped ▸ requester_is (record s.requester { stage = sync.Replay (next + length values) end }) ▸ arm now timer.Step).state)
     unfolding stepped
     goes_on now more =
-        subst (λ (n : Store). UnderWay log before floor n ((x0 ▸ change_all changes ▸ requester_is (record s.requester { stage = sync.Replay (next + length values) end }) ▸ arm now timer.Step).state)) (sym (apply-joined (spelled changes) m))
+        subst (λ (n : Store). UnderWay log before floor n ((x0 ▸ change_all changes ▸ requester_is (record s.requester { stage = sync.Replay (next + length values) end }) ▸ arm now timer.Step).state)) (sym (apply-joined (encoded changes) m))
         (record {
           in_phase = U.in_phase;
           full = U.full;
@@ -100,18 +100,18 @@ module _ (log : List (List ℕ)) (fits : length log ≤ 2 ^ 62) (all : AllValues
       at_end = let b = below in let i = R.is in omega arith
 
       m1 : Store
-      m1 = apply (spelled changes) m
+      m1 = apply (encoded changes) m
 
       copy_at_end : IsFuzzyCopy log end end key_place.Done m1
       unfolding m1
-      copy_at_end = subst (λ (v : ℕ). IsFuzzyCopy log v end key_place.Done (apply (spelled changes) m)) at_end copied
+      copy_at_end = subst (λ (v : ℕ). IsFuzzyCopy log v end key_place.Done (apply (encoded changes) m)) at_end copied
 
       over : Store
       over = ended log fits all end R.within m1 copy_at_end
 
       told : readings_of over ≡ played (Last end ∷ Unmark ∷ []) (readings_of m1)
       unfolding over
-      told = ap readings_of (sym (apply-joined (spelled (Last end ∷ Unmark ∷ [])) m1)) ∙ readings-joined (Last end ∷ Unmark ∷ []) ((let w = R.within in omega arith), (tt, tt)) m1
+      told = ap readings_of (sym (apply-joined (encoded (Last end ∷ Unmark ∷ [])) m1)) ∙ readings-joined (Last end ∷ Unmark ∷ []) ((let w = R.within in omega arith), (tt, tt)) m1
 
       synchronized : IsSynchronized log before floor over
       unfolding over m1
@@ -129,18 +129,18 @@ module _ (log : List (List ℕ)) (fits : length log ≤ 2 ^ 62) (all : AllValues
             };
           }
 
-      wrote : apply (joined (spelled ((changes ++ Last end ∷ []) ++ Unmark ∷ []))) m ≡ over
+      wrote : apply (joined (encoded ((changes ++ Last end ∷ []) ++ Unmark ∷ []))) m ≡ over
       unfolding over m1
       wrote =
-          apply-joined (spelled ((changes ++ Last end ∷ []) ++ Unmark ∷ [])) m
-          ∙ ap (λ (cs : List Change). apply (spelled cs) m) (append_assoc changes (Last end ∷ []) (Unmark ∷ []))
-          ∙ ap (λ (ops : List Op). apply ops m) (spelled_append changes (Last end ∷ Unmark ∷ []))
-          ∙ apply-append (spelled changes) (spelled (Last end ∷ Unmark ∷ [])) m
+          apply-joined (encoded ((changes ++ Last end ∷ []) ++ Unmark ∷ [])) m
+          ∙ ap (λ (cs : List Change). apply (encoded cs) m) (append_assoc changes (Last end ∷ []) (Unmark ∷ []))
+          ∙ ap (λ (ops : List Op). apply ops m) (encoded_append changes (Last end ∷ Unmark ∷ []))
+          ∙ apply-append (encoded changes) (encoded (Last end ∷ Unmark ∷ [])) m
 
       ends : (now : ℕ) (x : Course) → bootstrap me now (x0 ▸ change_all changes ▸ change (Last end) ▸ change Unmark) ≡ Ok x → IsSynchronized log before floor (written m x)
       ends now x e =
           let P = probes now (x0 ▸ change_all changes ▸ change (Last end) ▸ change Unmark) x e in
-          subst (IsSynchronized log before floor) (sym (ap (λ (cs : List Change). apply (joined (spelled cs)) m) P.changes ∙ wrote)) synchronized
+          subst (IsSynchronized log before floor) (sym (ap (λ (cs : List Change). apply (joined (encoded cs)) m) P.changes ∙ wrote)) synchronized
 
     replays : (now : ℕ) (x : Course) → replay me now next end values x0 ≡ Ok x → Stands log before floor (written m x) x.state
     unfolding stepped
@@ -167,7 +167,7 @@ module _ (log : List (List ℕ)) (fits : length log ≤ 2 ^ 62) (all : AllValues
   gives_up : UnderWay log before floor m s → (now : ℕ) (x : Course) → bootstrap me now x0 ≡ Ok x → Waits log before floor (written m x) x.state
   gives_up U now x e =
       let P = probes now x0 x e in
-      let same : m ≡ written m x = sym (ap (λ (cs : List Change). apply (joined (spelled cs)) m) P.changes ∙ apply-joined [] m) in
+      let same : m ≡ written m x = sym (ap (λ (cs : List Change). apply (joined (encoded cs)) m) P.changes ∙ apply-joined [] m) in
       record { in_phase = inl P.phase; noted = subst (Noted log before floor) same U.noted; shaped = subst IsShaped same (under_way_shaped U) }
 
   pub steps : (now : ℕ) (x : Course) → replay_step me now x0 ≡ Ok x → Marked log before floor m s → Stands log before floor (written m x) x.state

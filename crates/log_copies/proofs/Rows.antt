@@ -23,7 +23,7 @@ use Rattle.mon_msg.specs.Protocol.Changes.{Change, Epoch, Promise, Vote}
 use Rattle.mon_msg.specs.Protocol.Commands.{is_too_long, too_long, wait_under, hand_on, may_propose, at_leader, at_peon, ask, hear_forward, propose_due}
 use Rattle.mon_msg.specs.Protocol.Course.{Course, change, elector_is, clients_are, leader_is}
 use Rattle.mon_msg.specs.Protocol.Elections.{is_allowed, stands_before, may_defer, table_or, merge, is_whole, weigh, hear_propose, count_ack, hear_ack, election_ends, hear_victory}
-use Rattle.mon_msg.specs.Protocol.Leader.{all_answered, is_one_of, of_member, note_told, note, hear_whole, hear_answer, hear_last, commit_any, hear_accept}
+use Rattle.mon_msg.specs.Protocol.Leader.{all_answered, is_one_of, of_member, note_pending, note, hear_whole, hear_answer, hear_last, commit_any, hear_accept}
 use Rattle.mon_msg.specs.Protocol.Leading.{has_queue}
 use Rattle.mon_msg.specs.Protocol.Learning.{learn, news, news_from}
 use Rattle.mon_msg.specs.Protocol.Peon.{of_leader, cancel, promise, answer_collect, hear_collect, hear_begin, hear_commit}
@@ -43,14 +43,14 @@ use Rattle.mon_wire.specs.declared.reply.Reply.{Reply}
 use Rattle.mon_wire.specs.declared.reply.Reply.TheVariants as reply
 use Rattle.mon_msg.specs.declared.plan.Sent.{Sent}
 use Rattle.mon_msg.specs.declared.plan.Sent.TheVariants as sent
-use Rattle.log_copies.proofs.Sending.{ReplyTells, BodyTells, answer_tells}
+use Rattle.log_copies.proofs.Sending.{ReplyMatches, BodyMatches, answer_tells}
 use Rattle.mon_msg.specs.Protocol.Entering.{is_even, bootstrap, elect, adopt}
 use Rattle.mon_msg.specs.Protocol.Sets.{is_empty, are_within}
 use Rattle.mon_msg.specs.Protocol.State.{State, quorum_of}
 use Rattle.mon_msg.specs.Protocol.Value.{service_of, value}
 use Rattle.mon_msg.specs.declared.limits.TheConstants.{MOST_WAITING}
 use Rattle.log_copies.proofs.Acts.{Then, done, and_then, where_fits, by_test, HasAt, Has, within, says_one, says_answer, says_reply, changes, changes_if, learns, commits, begins, settles, collects, bootstraps, elects, wins, adopts}
-use Rattle.log_copies.proofs.Telling.{news_versions, news_begin}
+use Rattle.log_copies.proofs.Matching.{news_versions, news_begin}
 use Rattle.log_model.specs.LogOfValues.{AllValues}
 use Rattle.log_model.proofs.Records.{IsVersion, AreVersions}
 
@@ -95,13 +95,13 @@ module _ (log : List (List ℕ)) (fits : length log ≤ 2 ^ 62) (all : AllValues
 
   -- ---- and something is sent
 
-  pub sends : {w : Readings} {cs : List Change} {out : List Sent} (e : ℕ) (b : Body) (to : ℕ) → BodyTells log b → HasAt log fits all m w cs out → HasAt log fits all m w cs (out ++ message_to me e b to ∷ [])
+  pub sends : {w : Readings} {cs : List Change} {out : List Sent} (e : ℕ) (b : Body) (to : ℕ) → BodyMatches log b → HasAt log fits all m w cs out → HasAt log fits all m w cs (out ++ message_to me e b to ∷ [])
   sends e b to h H = says_one log fits all m me e b to h H
 
-  tells_answer : {w : Readings} {cs : List Change} {out : List Sent} (e : ℕ) (o : Origin) (r : Reply) → ReplyTells log r → HasAt log fits all m w cs out → HasAt log fits all m w cs (out ++ answer_to me e o r ∷ [])
+  tells_answer : {w : Readings} {cs : List Change} {out : List Sent} (e : ℕ) (o : Origin) (r : Reply) → ReplyMatches log r → HasAt log fits all m w cs out → HasAt log fits all m w cs (out ++ answer_to me e o r ∷ [])
   tells_answer e o r h H = says_answer log fits all m me e o r h H
 
-  pub tells_reply : {w : Readings} {cs : List Change} {out : List Sent} (session : Session) (r : Reply) → ReplyTells log r → HasAt log fits all m w cs out → HasAt log fits all m w cs (out ++ sent.Reply session r ∷ [])
+  pub tells_reply : {w : Readings} {cs : List Change} {out : List Sent} (session : Session) (r : Reply) → ReplyMatches log r → HasAt log fits all m w cs out → HasAt log fits all m w cs (out ++ sent.Reply session r ∷ [])
   tells_reply session r h H = says_reply log fits all m session r h H
 
   pub boots : (x : Course) → OnLog x → Then OnLog (bootstrap me now x)
@@ -211,7 +211,7 @@ module _ (log : List (List ℕ)) (fits : length log ≤ 2 ^ 62) (all : AllValues
   learn_state v [] x = done (λ y. y.state ≡ x.state) x refl
   learn_state v (value ∷ values) x = where_fits (λ y. y.state ≡ x.state) which.Version (v + length values) _ (done (λ y. y.state ≡ x.state) _ refl)
 
-  notes : (f last : ℕ) (told : Option Told) (x : Course) → Leads x → Then Leads (note_told f last told x)
+  notes : (f last : ℕ) (told : Option Told) (x : Course) → Leads x → Then Leads (note_pending f last told x)
   notes f last None x H = done Leads _ (H.0, H.1)
   notes f last (Some told) x H = where_fits Leads which.Version (suc last) _ (done Leads _ (H.0, H.1))
 
@@ -262,7 +262,7 @@ module _ (log : List (List ℕ)) (fits : length log ≤ 2 ^ 62) (all : AllValues
   made_value o (Ok value) x others H = begins log fits all m me several now stage.Updating value (Some o) x others H
   made_value o (Err e) x others H = done OnLog _ (tells_answer (epoch_of x.readings) o (refusal e) (is_told e) H)
     where
-      is_told : (e : CommandRefused) → ReplyTells log (refusal e)
+      is_told : (e : CommandRefused) → ReplyMatches log (refusal e)
       is_told refused.NoSuch = tt
       is_told (refused.TooLong len most) = tt
       is_told (refused.MapFull would_be) = tt

@@ -16,7 +16,7 @@ use Rattle.mon_msg.specs.Protocol.Providing.{reach, is_finished, chunk_with, giv
 use Rattle.mon_msg.specs.declared.plan.Sent.{Sent}
 use Rattle.mon_msg.specs.declared.plan.Sent.TheVariants as sent
 use Rattle.mon_msg.specs.declared.view.Me.{Me}
-use Rattle.mon_msg.specs.Protocol.Answers.{told_of, told_values, tells_all, answer_with, answer_of, last_answer}
+use Rattle.mon_msg.specs.Protocol.Answers.{told_of, sent_values, is_complete, answer_with, answer_of, last_answer}
 use Rattle.mon_msg.specs.Protocol.Changes.{Change, Boot, Epoch, Numbers, Promise, Vote, Record, Learn, Last, Copy, Mark, Unmark}
 use Rattle.mon_msg.specs.Protocol.Collecting.{missed, commits_with, commits_to}
 use Rattle.mon_msg.specs.Protocol.Learning.{learn_changes}
@@ -33,7 +33,7 @@ use Rattle.log_copies.specs.Versions.{IsOwnChange}
 use Rattle.mon_wire.specs.declared.reply.Reply.{Reply}
 use Rattle.mon_wire.specs.declared.reply.Reply.TheVariants as reply
 use Rattle.log_copies.proofs.Chunks.{ChunkOf}
-use Rattle.log_copies.proofs.Telling.{IsTold}
+use Rattle.log_copies.proofs.Matching.{IsTold}
 use Rattle.log_model.specs.LogOfValues.{AllValues}
 use Rattle.log_model.specs.Windows.{Keeps}
 use Rattle.log_model.proofs.Committed as committed
@@ -47,52 +47,52 @@ pub record ToldOf (log : List (List ℕ)) (r : Reply) : Type 0 where
   pub within : version ≤ length log
   pub told : IsTold log version r
 
-abbrev pub ReplyTells : List (List ℕ) → Reply → Type 0
-ReplyTells log (reply.Shown s paxos version map) = ToldOf log (reply.Shown s paxos version map)
-ReplyTells log (reply.Since s from told more) = ToldOf log (reply.Since s from told more)
-ReplyTells log other = Unit {0}
+abbrev pub ReplyMatches : List (List ℕ) → Reply → Type 0
+ReplyMatches log (reply.Shown s paxos version map) = ToldOf log (reply.Shown s paxos version map)
+ReplyMatches log (reply.Since s from told more) = ToldOf log (reply.Since s from told more)
+ReplyMatches log other = Unit {0}
 
-pub reply_tells : (log : List (List ℕ)) (r : Reply) → ToldOf log r → ReplyTells log r
+pub reply_tells : (log : List (List ℕ)) (r : Reply) → ToldOf log r → ReplyMatches log r
 reply_tells log (reply.Shown s paxos version map) h = h
 reply_tells log (reply.Since s from told more) h = h
 reply_tells log other h = tt
 
 -- Sent values are the log's, in order, and so are the values of chunks. No sent last version is beyond the log.
-abbrev pub BodyTells : List (List ℕ) → Body → Type 0
-BodyTells log (body.Last pn first last whole from values pending) = (last ≤ length log) × AreVersions log from values
-BodyTells log (body.Commit from values) = AreVersions log from values
-BodyTells log (body.ProbeReply quorum first last) = last ≤ length log
-BodyTells log (body.Collect pn first last) = last ≤ length log
-BodyTells log (body.Lease last) = last ≤ length log
-BodyTells log (body.LeaseAck last) = last ≤ length log
-BodyTells log (body.GetCookieRecent last) = last ≤ length log
-BodyTells log (body.Route seq r) = ReplyTells log r
-BodyTells log (body.Cookie full cookie last) = last ≤ length log
-BodyTells log (body.Chunk cookie p values entries done) = ChunkOf log (body.Chunk cookie p values entries done)
-BodyTells log (body.LastChunk cookie p values entries last) = ChunkOf log (body.LastChunk cookie p values entries last)
-BodyTells log other = Unit {0}
+abbrev pub BodyMatches : List (List ℕ) → Body → Type 0
+BodyMatches log (body.Last pn first last whole from values pending) = (last ≤ length log) × AreVersions log from values
+BodyMatches log (body.Commit from values) = AreVersions log from values
+BodyMatches log (body.ProbeReply quorum first last) = last ≤ length log
+BodyMatches log (body.Collect pn first last) = last ≤ length log
+BodyMatches log (body.Lease last) = last ≤ length log
+BodyMatches log (body.LeaseAck last) = last ≤ length log
+BodyMatches log (body.GetCookieRecent last) = last ≤ length log
+BodyMatches log (body.Route seq r) = ReplyMatches log r
+BodyMatches log (body.Cookie full cookie last) = last ≤ length log
+BodyMatches log (body.Chunk cookie p values entries done) = ChunkOf log (body.Chunk cookie p values entries done)
+BodyMatches log (body.LastChunk cookie p values entries last) = ChunkOf log (body.LastChunk cookie p values entries last)
+BodyMatches log other = Unit {0}
 
-abbrev pub SentTells : List (List ℕ) → Sent → Type 0
-SentTells log (sent.Message to m) = BodyTells log m.body
-SentTells log (sent.Reply session r) = ReplyTells log r
+abbrev pub SentMatches : List (List ℕ) → Sent → Type 0
+SentMatches log (sent.Message to m) = BodyMatches log m.body
+SentMatches log (sent.Reply session r) = ReplyMatches log r
 
-abbrev pub AllTell : List (List ℕ) → List Sent → Type 0
-AllTell log sends = AllByRecursion (SentTells log) sends
+abbrev pub AllMatch : List (List ℕ) → List Sent → Type 0
+AllMatch log sends = AllByRecursion (SentMatches log) sends
 
-pub more_tell : (log : List (List ℕ)) (a b : List Sent) → AllTell log a → AllTell log b → AllTell log (a ++ b)
-more_tell log a b h k = all_append (SentTells log) a b h k
+pub more_tell : (log : List (List ℕ)) (a b : List Sent) → AllMatch log a → AllMatch log b → AllMatch log (a ++ b)
+more_tell log a b h k = all_append (SentMatches log) a b h k
 
 -- the chunk that is given
-pub chunk_tells : (log : List (List ℕ)) (last : ℕ) (c : Cookie) (p : ChunkPlace) (left : List Entry) (n : ℕ) (records : ℕ → Cell) → ChunkOf log (chunk last c p left n records) → BodyTells log (chunk last c p left n records)
+pub chunk_tells : (log : List (List ℕ)) (last : ℕ) (c : Cookie) (p : ChunkPlace) (left : List Entry) (n : ℕ) (records : ℕ → Cell) → ChunkOf log (chunk last c p left n records) → BodyMatches log (chunk last c p left n records)
 unfolding chunk
 chunk_tells log last c p left n records = with_entries (given_values last c p left n records) (given_entries last c p left n (given_values last c p left n records))
   where
-    with_entries : (values : List (List Op)) (es : List Entry) → ChunkOf log (chunk_with last c p left values es) → BodyTells log (chunk_with last c p left values es)
+    with_entries : (values : List (List Op)) (es : List Entry) → ChunkOf log (chunk_with last c p left values es) → BodyMatches log (chunk_with last c p left values es)
     with_entries values es =
-        cond_both (reach last p values && is_finished p left es) (body.LastChunk c p values es last) (body.Chunk c p values es (is_finished p left es)) (λ b. ChunkOf log b → BodyTells log b) (λ t h. h) (λ t h. h)
+        cond_both (reach last p values && is_finished p left es) (body.LastChunk c p values es last) (body.Chunk c p values es (is_finished p left es)) (λ b. ChunkOf log b → BodyMatches log b) (λ t h. h) (λ t h. h)
 
 -- one body to some monitors
-pub each_tells : (log : List (List ℕ)) (me : Me) (e : ℕ) (b : Body) (ks : List ℕ) → BodyTells log b → AllTell log (map (message_to me e b) ks)
+pub each_tells : (log : List (List ℕ)) (me : Me) (e : ℕ) (b : Body) (ks : List ℕ) → BodyMatches log b → AllMatch log (map (message_to me e b) ks)
 each_tells log me e b [] h = tt
 each_tells log me e b (k ∷ ks) h = (h, each_tells log me e b ks h)
 
@@ -114,35 +114,35 @@ module _ (log : List (List ℕ)) (short : length log ≤ 2 ^ 62) (all : AllValue
   longest_versions test v xs h = let L = longest_is test xs in first_versions log (longest test xs) L.rest v (subst (AreVersions log v) (sym L.begins) h)
 
   -- a member gets the versions that it lacks
-  commits_tell : (me : Me) (w : Readings) (lasts : List ℕ) → w.last ≤ length log → Keeps log w.last w → (to : ℕ) → AllTell log (commits_to me w lasts to)
+  commits_tell : (me : Me) (w : Readings) (lasts : List ℕ) → w.last ≤ length log → Keeps log w.last w → (to : ℕ) → AllMatch log (commits_to me w lasts to)
   unfolding missed
   commits_tell me w lasts le K to =
       let told = slice_index_or lasts to 0 in
       let W = longest_versions (λ values. fits me.member.monitors (body.Commit (suc told) values)) (suc told) (run_from w.record_of w.last (suc told)) (run_keeps w.last le w K told) in
-      cond_both (ltb told w.last) (commits_with me (epoch_of w) told (missed me.member.monitors w.record_of w.last told) to) [] (AllTell log)
+      cond_both (ltb told w.last) (commits_with me (epoch_of w) told (missed me.member.monitors w.record_of w.last told) to) [] (AllMatch log)
       (λ t. by told (longest (λ values. fits me.member.monitors (body.Commit (suc told) values)) (run_from w.record_of w.last (suc told))) W) (λ t. tt)
     where
-      by : (told : ℕ) (values : List (List Op)) → AreVersions log (suc told) values → AllTell log (commits_with me (epoch_of w) told values to)
+      by : (told : ℕ) (values : List (List Op)) → AreVersions log (suc told) values → AllMatch log (commits_with me (epoch_of w) told values to)
       by told [] h = tt
       by told (x ∷ values) h = (h, tt)
 
-  pub all_commits_tell : (me : Me) (w : Readings) (lasts : List ℕ) → w.last ≤ length log → Keeps log w.last w → (ks : List ℕ) → AllTell log (flat_map (commits_to me w lasts) ks)
+  pub all_commits_tell : (me : Me) (w : Readings) (lasts : List ℕ) → w.last ≤ length log → Keeps log w.last w → (ks : List ℕ) → AllMatch log (flat_map (commits_to me w lasts) ks)
   all_commits_tell me w lasts le K [] = tt
   all_commits_tell me w lasts le K (k ∷ ks) = more_tell log (commits_to me w lasts k) (flat_map (commits_to me w lasts) ks) (commits_tell me w lasts le K k) (all_commits_tell me w lasts le K ks)
 
   -- and so does a leader that collects
-  pub answer_tells : (n : ℕ) (w : Readings) → w.last ≤ length log → Keeps log w.last w → (v : ℕ) → BodyTells log (last_answer n w (suc v))
+  pub answer_tells : (n : ℕ) (w : Readings) → w.last ≤ length log → Keeps log w.last w → (v : ℕ) → BodyMatches log (last_answer n w (suc v))
   unfolding answer_of
-  answer_tells n w le K v = with_values (told_values n (promise_of w) w.first w.last w.record_of (suc v)) values (told_of (pending w))
+  answer_tells n w le K v = with_values (sent_values n (promise_of w) w.first w.last w.record_of (suc v)) values (told_of (pending w))
     where
-      values : AreVersions log (suc v) (told_values n (promise_of w) w.first w.last w.record_of (suc v))
+      values : AreVersions log (suc v) (sent_values n (promise_of w) w.first w.last w.record_of (suc v))
       values =
           cond_both (ltb w.last (suc v) || ltb (suc v) w.first) [] (longest (λ vs. fits n (body.Last (promise_of w) w.first w.last false (suc v) vs None)) (run_from w.record_of w.last (suc v))) (AreVersions log (suc v))
           (λ t. tt) (λ t. longest_versions (λ vs. fits n (body.Last (promise_of w) w.first w.last false (suc v) vs None)) (suc v) (run_from w.record_of w.last (suc v)) (run_keeps w.last le w K v))
 
-      with_values : (vs : List (List Op)) → AreVersions log (suc v) vs → (told : Option Told) → BodyTells log (answer_with n (promise_of w) w.first w.last (suc v) vs told)
+      with_values : (vs : List (List Op)) → AreVersions log (suc v) vs → (told : Option Told) → BodyMatches log (answer_with n (promise_of w) w.first w.last (suc v) vs told)
       with_values vs h told =
-          cond_both (tells_all n (promise_of w) w.first w.last (suc v) vs told) (body.Last (promise_of w) w.first w.last true (suc v) vs told) (body.Last (promise_of w) w.first w.last false (suc v) vs None) (BodyTells log)
+          cond_both (is_complete n (promise_of w) w.first w.last (suc v) vs told) (body.Last (promise_of w) w.first w.last true (suc v) vs told) (body.Last (promise_of w) w.first w.last false (suc v) vs None) (BodyMatches log)
           (λ t. (le, h)) (λ t. (le, h))
 
   -- ---- the readers still keep the log
@@ -165,7 +165,7 @@ module _ (log : List (List ℕ)) (short : length log ≤ 2 ^ 62) (all : AllValue
   keeps_own Unmark w h K = absurd h
 
   keeps_one : (c : ℕ) → c < length log → (x : List Op) → IsVersion log (suc c) x → (w : Readings) → Keeps log c w → Keeps log (suc c) (play (Learn (suc c) x) w)
-  keeps_one c lt x V w K = subst (Keeps log (suc c)) (λ i. after (put area.Paxos (key.Version (suc c)) (V.spells i) ∷ V.reads i) w) (committed.learns log short all c lt w K)
+  keeps_one c lt x V w K = subst (Keeps log (suc c)) (λ i. after (put area.Paxos (key.Version (suc c)) (V.encodes i) ∷ V.reads i) w) (committed.learns log short all c lt w K)
 
   pub keeps_learned : (values : List (List Op)) (c : ℕ) → c + length values ≤ length log → AreVersions log (suc c) values → (w : Readings) → Keeps log c w
       → Keeps log (c + length values) (played (learn_changes (suc c) values) w)

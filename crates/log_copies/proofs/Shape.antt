@@ -18,7 +18,7 @@ use Rattle.mon_tx.specs.Map.{Place, place_cmp, Store, is_within, apply_op, apply
 use Rattle.mon_tx.proofs.After.{get-apply, get-apply_op}
 use Rattle.mon_tx.proofs.Places.{places_total, exact_places}
 use Rattle.mon_msg.specs.Fold.{fold}
-use Rattle.mon_msg.specs.Protocol.Changes.{Mark, put_back, ops_of, spelled}
+use Rattle.mon_msg.specs.Protocol.Changes.{Mark, put_back, ops_of, encoded}
 use Rattle.log_copies.specs.Copies.{is_own, is_past, IsRecord, IsFuzzyCopy, shared_with_records}
 use Rattle.log_copies.specs.Synchronizing.{is_given_up, IsShaped}
 use Rattle.log_copies.proofs.Ends.{number_put}
@@ -155,7 +155,7 @@ module _ (floor : ℕ) (last_pn promise : Option ℕ) (m : Store) (at : Place) (
       ∙ three (bytes_eq at.0 (area_text area.Kv)) (bytes_eq at.0 (area_text area.Logm)) (bytes_eq at.0 (area_text area.Paxos)) (get m at)
 
 -- nothing is shared then
-pub nothing_shared : (floor : ℕ) (last_pn promise : Option ℕ) (m : Store) → IsShaped m → shared_with_records (apply (spelled (Mark floor last_pn promise ∷ [])) m) ≡ empty
+pub nothing_shared : (floor : ℕ) (last_pn promise : Option ℕ) (m : Store) → IsShaped m → shared_with_records (apply (encoded (Mark floor last_pn promise ∷ [])) m) ≡ empty
 nothing_shared floor last_pn promise m shape =
     ap (λ (ops : List Op). shared_with_records (apply ops m)) (append-nil (ops_of (Mark floor last_pn promise)))
     ∙ same_map places_total exact_places _ _ (λ at. get_kept (apply (ops_of (Mark floor last_pn promise)) m) (λ q. not (is_own q)) at ∙ by at (is_own at) refl ∙ sym (get-empty place_cmp at))

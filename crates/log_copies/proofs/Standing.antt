@@ -29,14 +29,14 @@ use Rattle.log_copies.proofs.Asking.{asks_only}
 use Rattle.log_copies.proofs.Events.{BodyOf, InputOf, marked_is, marked_shaped, reacts}
 use Rattle.log_copies.proofs.Growing.{versions_stay, chunk_stays, marked_stays}
 use Rattle.log_copies.proofs.Rows.{HasOthers}
-use Rattle.log_copies.proofs.Sending.{ToldOf, ReplyTells, BodyTells, SentTells, AllTell}
+use Rattle.log_copies.proofs.Sending.{ToldOf, ReplyMatches, BodyMatches, SentMatches, AllMatch}
 use Rattle.mon_wire.specs.declared.reply.Reply.{Reply}
 use Rattle.mon_wire.specs.declared.reply.Reply.TheVariants as reply
-use Rattle.log_copies.proofs.Telling.{told_stays, read_last, one_within}
+use Rattle.log_copies.proofs.Matching.{told_stays, read_last, one_within}
 use Rattle.log_copies.proofs.UnderWay.{Marked, Stands}
 use Rattle.log_copies.proofs.Unmarked.{OnLog, Situated, BodyFits, InputFits, Outcome, agrees}
 use Rattle.log_model.specs.LogOfValues.{AllValues}
-use Rattle.log_model.proofs.Logs.{Fronts, entry_stays}
+use Rattle.log_model.proofs.Logs.{IsPrefixOf, entry_stays}
 use Rattle.log_model.proofs.Records.{IsVersion, AreVersions}
 
 -- ---- a monitor of the log
@@ -53,9 +53,9 @@ Agrees log m s = OnLog log m ⊎ TakesCopy log m s
 -- ---- what comes
 
 -- what a message has of the log is the log's
-abbrev pub InputTells : List (List ℕ) → Input → Type 0
-InputTells log (input.Deliver d) = BodyTells log d.body
-InputTells log other = Unit {0}
+abbrev pub InputMatches : List (List ℕ) → Input → Type 0
+InputMatches log (input.Deliver d) = BodyMatches log d.body
+InputMatches log other = Unit {0}
 
 -- what other parts of the invariant say of a message
 abbrev pub BodyStands : List (List ℕ) → Me → Readings → State → (f : ℕ) → Body → Type 0
@@ -70,7 +70,7 @@ abbrev pub InputStands : List (List ℕ) → Me → Readings → State → Input
 InputStands log me w s (input.Deliver d) = BodyStands log me w s d.from d.body
 InputStands log me w s other = Unit {0}
 
-body_fits : (log : List (List ℕ)) (me : Me) (w : Readings) (s : State) (f : ℕ) (b : Body) → BodyTells log b → BodyStands log me w s f b → BodyFits log me w s f b
+body_fits : (log : List (List ℕ)) (me : Me) (w : Readings) (s : State) (f : ℕ) (b : Body) → BodyMatches log b → BodyStands log me w s f b → BodyFits log me w s f b
 body_fits log me w s f body.Ack t h = h
 body_fits log me w s f (body.Last pn first last whole from values pending) t h = (h, t.1)
 body_fits log me w s f (body.Accept pn v) t h = h
@@ -81,17 +81,17 @@ body_fits log me w s f (body.Chunk cookie p values entries end) t h = let C = t.
 body_fits log me w s f (body.LastChunk cookie p values entries last) t h = let C = t.0 in C.versions
 body_fits log me w s f other t h = tt
 
-input_fits : (log : List (List ℕ)) (me : Me) (w : Readings) (s : State) (came : Input) → InputTells log came → InputStands log me w s came → InputFits log me w s came
+input_fits : (log : List (List ℕ)) (me : Me) (w : Readings) (s : State) (came : Input) → InputMatches log came → InputStands log me w s came → InputFits log me w s came
 input_fits log me w s (input.Deliver d) t h = body_fits log me w s d.from d.body t h
 input_fits log me w s other t h = tt
 
-body_of : (log : List (List ℕ)) (b : Body) → BodyTells log b → BodyOf log b
+body_of : (log : List (List ℕ)) (b : Body) → BodyMatches log b → BodyOf log b
 body_of log (body.Cookie full cookie last) t = t
 body_of log (body.Chunk cookie p values entries end) t = t
 body_of log (body.LastChunk cookie p values entries last) t = t
 body_of log other t = tt
 
-input_of : (log : List (List ℕ)) (came : Input) → InputTells log came → InputOf log came
+input_of : (log : List (List ℕ)) (came : Input) → InputMatches log came → InputOf log came
 input_of log (input.Deliver d) t = body_of log d.body t
 input_of log other t = tt
 
@@ -107,19 +107,19 @@ module _ (log : List (List ℕ)) (fits : length log ≤ 2 ^ 62) (all : AllValues
   aside before floor m s (inl U) = inl (subst IsAside (sym U.in_phase) synchronizing_aside)
   aside before floor m s (inr W) = elim W.in_phase [ inl p ↦ inl (subst IsAside (sym p) probing_aside) | inr p ↦ inr p ]
 
-  pub event : (now : ℕ) (m : Store) (s : State) → Agrees log m s → (came : Input) → InputTells log came → Allowed m s came → (y : Course) → react me (shared_entries m) now (readings_of m) s came ≡ Ok y
-      → Agrees log (written m y) y.state × AllTell log y.out
+  pub event : (now : ℕ) (m : Store) (s : State) → Agrees log m s → (came : Input) → InputMatches log came → Allowed m s came → (y : Course) → react me (shared_entries m) now (readings_of m) s came ≡ Ok y
+      → Agrees log (written m y) y.state × AllMatch log y.out
   event now m s (inl V) came t A y e = by (agrees log fits all m me several now s versions V.unmarked (A.situated V.unmarked) came (input_fits log me (readings_of m) s came t (A.stands V.unmarked)) y e)
     where
       versions : HasVersions log (readings_of m).last m
       versions = let h = V.versions in subst (λ (c : ℕ). HasVersions log c m) (sym (read_last log fits all V.last m h)) h
 
-      by : Outcome log fits all m me several now y × AllTell log y.out → Agrees log (written m y) y.state × AllTell log y.out
+      by : Outcome log fits all m me several now y × AllMatch log y.out → Agrees log (written m y) y.state × AllMatch log y.out
       by (inl W, told) = (inl W, told)
       by (inr U, told) = (inr (record { before = readings_of m; floor = floor_of (readings_of m); marked = inl U }), told)
   event now m s (inr C) came t A y e = (by (reacts log fits all me several C.before C.floor now m s C.marked (shared_entries m) came y (input_of log came t) e), told)
     where
-      told : AllTell log y.out
+      told : AllMatch log y.out
       told =
           let N = marked_is log fits all me several C.before C.floor now m s C.marked in
           asks_only log me several now (shared_entries m) (readings_of m) s N.marked (aside C.before C.floor m s C.marked) came y e
@@ -143,13 +143,13 @@ module _ (log : List (List ℕ)) (fits : length log ≤ 2 ^ 62) (all : AllValues
 
 -- ---- the log grows
 
-module _ {log more : List (List ℕ)} (F : Fronts log more) where
+module _ {log more : List (List ℕ)} (F : IsPrefixOf log more) where
   pub agrees_stays : (m : Store) (s : State) → Agrees log m s → Agrees more m s
   agrees_stays m s (inl V) = inl (record { last = V.last; versions = versions_stay F V.last m V.versions; unmarked = V.unmarked })
   agrees_stays m s (inr C) = inr (record { before = C.before; floor = C.floor; marked = marked_stays F C.before C.floor m s C.marked })
 
   version_stays : (v : ℕ) (x : List Op) → IsVersion log v x → IsVersion more v x
-  version_stays v x V = let same = entry_stays F v (low v V) in record { spells = same ∙ V.spells; reads = ap ops_in same ∙ V.reads }
+  version_stays v x V = let same = entry_stays F v (low v V) in record { encodes = same ∙ V.encodes; reads = ap ops_in same ∙ V.reads }
     where
       low : (v : ℕ) → IsVersion log v x → v ≤ length log
       low zero V = omega arith
@@ -165,12 +165,12 @@ module _ {log more : List (List ℕ)} (F : Fronts log more) where
   longer : (n : ℕ) → n ≤ length log → n ≤ length more
   longer n le = let s = F.short in omega arith
 
-  reply_stays : (r : Reply) → ReplyTells log r → ReplyTells more r
+  reply_stays : (r : Reply) → ReplyMatches log r → ReplyMatches more r
   reply_stays (reply.Shown s paxos version map) h = told_of (reply.Shown s paxos version map) h
   reply_stays (reply.Since s from told rest) h = told_of (reply.Since s from told rest) h
   reply_stays other h = tt
 
-  pub body_stays : (b : Body) → BodyTells log b → BodyTells more b
+  pub body_stays : (b : Body) → BodyMatches log b → BodyMatches more b
   body_stays (body.Last pn first last whole from values pending) h = (longer last h.0, told_values_stay values from h.1)
   body_stays (body.Commit from values) h = told_values_stay values from h
   body_stays (body.ProbeReply quorum first last) h = longer last h
@@ -184,6 +184,6 @@ module _ {log more : List (List ℕ)} (F : Fronts log more) where
   body_stays (body.LastChunk cookie p values entries last) h = chunk_stays F (body.LastChunk cookie p values entries last) h
   body_stays other h = tt
 
-  pub sent_stays : (x : Sent) → SentTells log x → SentTells more x
+  pub sent_stays : (x : Sent) → SentMatches log x → SentMatches more x
   sent_stays (sent.Message to m) h = body_stays m.body h
   sent_stays (sent.Reply session r) h = reply_stays r h

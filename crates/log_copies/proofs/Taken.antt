@@ -16,7 +16,7 @@ use Rattle.mon_tx.proofs.After.{get-apply, decision-append}
 use Rattle.mon_wire.specs.declared.parts.Place.{Place as ChunkPlace}
 use Rattle.mon_msg.specs.Fold.{entry, fold}
 use Rattle.mon_msg.specs.Puts.{put}
-use Rattle.mon_msg.specs.Protocol.Changes.{Change, ops_of, spelled}
+use Rattle.mon_msg.specs.Protocol.Changes.{Change, ops_of, encoded}
 use Rattle.mon_msg.specs.Protocol.Chunks.{record_changes, copy_changes}
 use Rattle.log_copies.specs.Copies.{is_own, is_past, IsFolded, IsRecord, IsFuzzyCopy}
 use Rattle.log_copies.proofs.Chunks.{between, Continues}
@@ -24,9 +24,9 @@ use Rattle.log_copies.proofs.Own.{record_shared}
 use Rattle.log_model.proofs.Places.{same_place, get_kept}
 use Rattle.log_model.proofs.Records.{AreVersions}
 
-pub spelled_append : (a b : List Change) → spelled (a ++ b) ≡ spelled a ++ spelled b
-spelled_append [] b = refl
-spelled_append (c ∷ a) b = ap (λ (ops : List Op). ops_of c ++ ops) (spelled_append a b) ∙ sym (append_assoc (ops_of c) (spelled a) (spelled b))
+pub encoded_append : (a b : List Change) → encoded (a ++ b) ≡ encoded a ++ encoded b
+encoded_append [] b = refl
+encoded_append (c ∷ a) b = ap (λ (ops : List Op). ops_of c ++ ops) (encoded_append a b) ∙ sym (append_assoc (ops_of c) (encoded a) (encoded b))
 
 or_before-later : (a b : Decision) (c : Cell) → or_before (later a b) c ≡ or_before a (or_before b c)
 or_before-later (Some x) b c = refl
@@ -35,9 +35,9 @@ or_before-later None b c = refl
 -- ---- what entries and records decide
 
 -- entries take nothing away
-pub copies_put : (es : List Entry) (at : Place) → decision (spelled (copy_changes es)) at ≡ Some None → ⊥
+pub copies_put : (es : List Entry) (at : Place) → decision (encoded (copy_changes es)) at ≡ Some None → ⊥
 copies_put [] at e = cc
-copies_put (x ∷ es) at e = by (decision (spelled (copy_changes es)) at) (copies_put es at) e
+copies_put (x ∷ es) at e = by (decision (encoded (copy_changes es)) at) (copies_put es at) e
   where
     put_is : (b : Bool) → ◌≡◌ {A = Decision} (cond b (Some (Some x.value)) None) (Some None) → ⊥
     put_is true q = cc
@@ -56,13 +56,13 @@ record IsNew (log : List (List ℕ)) (v e : ℕ) (at : Place) (d : Decision) : T
   is : d ≡ Some (Some (entry log version))
 
 records_decide : (log : List (List ℕ)) (values : List (List Op)) (v e : ℕ) (at : Place) → v + length values ≡ e → AreVersions log (suc v) values
-    → (decision (spelled (record_changes (suc v) values)) at ≡ None) ⊎ IsNew log v e at (decision (spelled (record_changes (suc v) values)) at)
+    → (decision (encoded (record_changes (suc v) values)) at ≡ None) ⊎ IsNew log v e at (decision (encoded (record_changes (suc v) values)) at)
 records_decide log [] v e at is h = inl refl
-records_decide log (x ∷ values) v e at is h = by (decision (spelled (record_changes (suc (suc v)) values)) at) (records_decide log values (suc v) e at (omega arith) h.1)
+records_decide log (x ∷ values) v e at is h = by (decision (encoded (record_changes (suc (suc v)) values)) at) (records_decide log values (suc v) e at (omega arith) h.1)
   where
     one : (b : Bool) → eq_by_cmp place_cmp at (place area.Paxos (key.Version (suc v))) ≡ b
         → (cond b (Some (Some (text x))) None ≡ None) ⊎ IsNew log v e at (cond b (Some (Some (text x))) None)
-    one true t = inr (record { version = suc v; from = omega arith; to = omega arith; place = same_place at _ t; is = ap (λ (bytes : List ℕ). Some (Some bytes)) (sym h.0.spells) })
+    one true t = inr (record { version = suc v; from = omega arith; to = omega arith; place = same_place at _ t; is = ap (λ (bytes : List ℕ). Some (Some bytes)) (sym h.0.encodes) })
     one false t = inl refl
 
     by : (d : Decision) → (d ≡ None) ⊎ IsNew log (suc v) e at d
@@ -85,17 +85,17 @@ module _ (log : List (List ℕ)) (p : ChunkPlace) (y : KeyPlace) (values : List 
   e = p.version + length values
 
   abbrev records : List Op
-  records = spelled (record_changes (suc p.version) values)
+  records = encoded (record_changes (suc p.version) values)
 
   abbrev copies : List Op
-  copies = spelled (copy_changes entries)
+  copies = encoded (copy_changes entries)
 
   abbrev pub taken : Store
-  taken = apply (spelled (record_changes (suc p.version) values ++ copy_changes entries)) m
+  taken = apply (encoded (record_changes (suc p.version) values ++ copy_changes entries)) m
 
   taken_is : (at : Place) → get taken at ≡ or_before (decision copies at) (or_before (decision records at) (get m at))
   taken_is at =
-      ap (λ (ops : List Op). get (apply ops m) at) (spelled_append (record_changes (suc p.version) values) (copy_changes entries))
+      ap (λ (ops : List Op). get (apply ops m) at) (encoded_append (record_changes (suc p.version) values) (copy_changes entries))
       ∙ get-apply (records ++ copies) m at ∙ ap (λ (d : Decision). or_before d (get m at)) (decision-append records copies at)
       ∙ or_before-later (decision copies at) (decision records at) (get m at)
 

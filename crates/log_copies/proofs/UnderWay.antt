@@ -23,7 +23,7 @@ use Rattle.mon_types.specs.declared.names.Which.{Which}
 use Rattle.mon_wire.specs.declared.parts.Place.{Place as ChunkPlace}
 use Rattle.mon_wire.specs.declared.phase.Phase.TheVariants as phase
 use Rattle.mon_msg.specs.Joined.{joined}
-use Rattle.mon_msg.specs.Protocol.Changes.{spelled}
+use Rattle.mon_msg.specs.Protocol.Changes.{encoded}
 use Rattle.mon_msg.specs.Protocol.Course.{Course}
 use Rattle.mon_msg.specs.Protocol.Places.{same_key_place, same_place}
 use Rattle.mon_msg.specs.Protocol.Played.{IsShort}
@@ -161,7 +161,7 @@ module _ (log : List (List ℕ)) (before : Readings) (floor : ℕ) where
   Stands m s = Marked m s ⊎ IsSynchronized log before floor m
 
   -- nothing is written
-  pub unwritten : (m : Store) (s : State) → Marked m s → Stands (apply (joined (spelled [])) m) s
+  pub unwritten : (m : Store) (s : State) → Marked m s → Stands (apply (joined (encoded [])) m) s
   unwritten m s I = subst (λ (n : Store). Stands n s) (sym (apply-joined [] m)) (inl I)
 
   pub stays : (m : Store) (s : State) (x : Course) → ◌≡◌ {A = Result Course Which} (Ok (at_rest (readings_of m) s)) (Ok x) → Marked m s → Stands (written m x) x.state

@@ -42,8 +42,8 @@ use Rattle.mon_msg.proofs.Joining.{apply-joined}
 use Rattle.log_copies.specs.Synchronizing.{written}
 use Rattle.log_copies.specs.Versions.{HasVersions}
 use Rattle.mon_wire.specs.declared.reply.Reply.{Reply}
-use Rattle.log_copies.proofs.Sending.{ReplyTells, reply_tells, AllTell}
-use Rattle.log_copies.proofs.Telling.{monitor_keeps, IsTold, shown_told, since_told}
+use Rattle.log_copies.proofs.Sending.{ReplyMatches, reply_tells, AllMatch}
+use Rattle.log_copies.proofs.Matching.{monitor_keeps, IsTold, shown_told, since_told}
 use Rattle.mon_wire.specs.declared.reply.Reply.TheVariants as reply
 use Rattle.mon_msg.specs.Protocol.Sending.{members, others}
 use Rattle.log_copies.proofs.Acts.{within, says_each, Then, done, where_fits, changes, changes_if, asks_versions}
@@ -76,7 +76,7 @@ BodyFits log me w s f (body.Last pn first last whole from values pending) = (fro
 BodyFits log me w s f (body.Accept pn v) =
     are_within me.member.monitors s.leader.quorum (with_rank s.leader.accepted f) ≡ true → IfSome s.leader.value (λ value. IsVersion log (suc w.last) value)
 BodyFits log me w s f (body.Commit from values) = AreVersions log from values
-BodyFits log me w s f (body.Route seq r) = ReplyTells log r
+BodyFits log me w s f (body.Route seq r) = ReplyMatches log r
 BodyFits log me w s f (body.GetChunk cookie p) = p.version ≤ w.last
 BodyFits log me w s f (body.Chunk cookie p values entries end) = AreVersions log (suc p.version) values
 BodyFits log me w s f (body.LastChunk cookie p values entries last) = AreVersions log (suc p.version) values
@@ -159,7 +159,7 @@ module _ (log : List (List ℕ)) (fits : length log ≤ 2 ^ 62) (all : AllValues
       abbrev x0 : Course
       x0 = at_rest (readings_of m) s
 
-      tells : (r : Reply) → IsTold log (readings_of m).last r → ReplyTells log r
+      tells : (r : Reply) → IsTold log (readings_of m).last r → ReplyMatches log r
       tells r h = reply_tells log r (record { version = (readings_of m).last; within = V.within; told = h })
 
       client : (session : Session) (r : Request) → Then On (hear_client me now session r x0)
@@ -218,7 +218,7 @@ module _ (log : List (List ℕ)) (fits : length log ≤ 2 ^ 62) (all : AllValues
   abbrev pub Outcome : Course → Type 0
   Outcome y = OnLog log (written m y) ⊎ UnderWay log (readings_of m) (floor_of (readings_of m)) (written m y) y.state
 
-  asks_copy : (f : ℕ) (s : State) → AllTell log (full_sync me now f (at_rest (readings_of m) s)).out
+  asks_copy : (f : ℕ) (s : State) → AllMatch log (full_sync me now f (at_rest (readings_of m) s)).out
   unfolding full_sync
   asks_copy f s = (tt, tt)
 
@@ -227,7 +227,7 @@ module _ (log : List (List ℕ)) (fits : length log ≤ 2 ^ 62) (all : AllValues
   still unmarked n same = ap marks same ∙ unmarked
 
   pub agrees : (s : State) → HasVersions log (readings_of m).last m → (readings_of m).marked ≡ false → Situated me (readings_of m) s → (came : Input) → InputFits log me (readings_of m) s came → (y : Course)
-      → react me (shared_entries m) now (readings_of m) s came ≡ Ok y → Outcome y × AllTell log y.out
+      → react me (shared_entries m) now (readings_of m) s came ≡ Ok y → Outcome y × AllMatch log y.out
   unfolding react
   agrees s V unmarked S came h y e = by ((walked).holds y e)
     where
@@ -237,11 +237,11 @@ module _ (log : List (List ℕ)) (fits : length log ≤ 2 ^ 62) (all : AllValues
       walked : Then (Out (at_rest (readings_of m) s)) (cond (same_phase s.phase phase.Booting) (before_start me now came (at_rest (readings_of m) s)) (running me (shared_entries m) now came (at_rest (readings_of m) s)))
       walked = branch {b = same_phase s.phase phase.Booting} (λ t. weaker (starting s came here)) (λ t. runs s unmarked V S here came h)
 
-      by : Out (at_rest (readings_of m) s) y → Outcome y × AllTell log y.out
+      by : Out (at_rest (readings_of m) s) y → Outcome y × AllMatch log y.out
       by (inl H) = (inl (record { last = y.readings.last; versions = H.has; unmarked = still unmarked (written m y) H.mark }), H.tells)
       by (inr M) = (
         inr (subst (λ (z : Course). UnderWay log (readings_of m) (floor_of (readings_of m)) (written m z) z.state) (sym M.is)
             (begun log fits all me (readings_of m) (floor_of (readings_of m)) now M.from m s (record { last_pn = refl; promise = refl; epoch = refl }) (omega arith)
             (monitor_shaped log fits all (readings_of m).last V.within m V.folded))),
-        subst (λ (z : Course). AllTell log z.out) (sym M.is) (asks_copy M.from s),
+        subst (λ (z : Course). AllMatch log z.out) (sym M.is) (asks_copy M.from s),
       )

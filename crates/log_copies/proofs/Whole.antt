@@ -10,7 +10,7 @@ use Rattle.mon_msg.specs.Protocol.Course.{Course}
 use Rattle.mon_msg.specs.Protocol.Readings.{readings_of, shared_entries}
 use Rattle.mon_msg.specs.Protocol.State.{State, booting}
 use Rattle.mon_msg.specs.Protocol.Synchronizing.{floor_of}
-use Rattle.log_copies.specs.Synchronizing.{IsShaped, IsGiven, MayCome, InputMayCome, written, Synchronizes, begins, goes_on, forgets, IsSynchronized}
+use Rattle.log_copies.specs.Synchronizing.{IsShaped, IsGiven, IsFromLog, InputIsFromLog, written, Synchronizes, begins, goes_on, forgets, IsSynchronized}
 use Rattle.log_copies.proofs.Chunks.{ChunkOf}
 use Rattle.log_copies.proofs.Copying.{begun}
 use Rattle.log_copies.proofs.Events.{BodyOf, InputOf, marked_is, marked_shaped, reacts}
@@ -24,13 +24,13 @@ module _ (log : List (List ℕ)) (fits : length log ≤ 2 ^ 62) (all : AllValues
   unfolding readings_of
   chunk_is b G = let P = G.provider in subst (ChunkOf log) (sym G.is) (given log fits all G.last P.within G.store P.folded P.last G.place G.reached G.cookie me.member.monitors)
 
-  of_log : (b : Body) → MayCome log me.member.monitors b → BodyOf log b
+  of_log : (b : Body) → IsFromLog log me.member.monitors b → BodyOf log b
   of_log (body.Cookie full cookie last) h = h
   of_log (body.Chunk cookie p values entries done) h = chunk_is _ h
   of_log (body.LastChunk cookie p values entries last) h = chunk_is _ h
   of_log other h = tt
 
-  input_of_log : (came : Input) → InputMayCome log me.member.monitors came → InputOf log came
+  input_of_log : (came : Input) → InputIsFromLog log me.member.monitors came → InputOf log came
   input_of_log (input.Deliver d) h = of_log d.body h
   input_of_log other h = tt
 

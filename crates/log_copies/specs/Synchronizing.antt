@@ -20,7 +20,7 @@ use Rattle.mon_msg.specs.declared.input.Input.{Input}
 use Rattle.mon_msg.specs.declared.input.Input.TheVariants as input
 use Rattle.mon_msg.specs.declared.view.Me.{Me}
 use Rattle.log_copies.specs.Copies.{is_own}
-use Rattle.log_copies.specs.Versions.{HasVersions, behind}
+use Rattle.log_copies.specs.Versions.{HasVersions, store_after}
 
 -- Whether a key is of a service's or the log's area. A full synchronization gives up the shared keys of these when it
 -- begins.
@@ -45,21 +45,21 @@ pub record IsGiven (log : List (List ℕ)) (n : ℕ) (b : Body) : Type 0 where
   pub is : b ≡ chunk last cookie place (filter (is_after place.key) (shared_entries store)) n (readings_of store).record_of
 
 -- Cookies and chunks come from monitors of the log. Any other message may come.
-abbrev pub MayCome : List (List ℕ) → ℕ → Body → Type 0
-MayCome log n (body.Cookie full cookie last) = last ≤ length log
-MayCome log n (body.Chunk cookie p values entries done) = IsGiven log n (body.Chunk cookie p values entries done)
-MayCome log n (body.LastChunk cookie p values entries last) = IsGiven log n (body.LastChunk cookie p values entries last)
-MayCome log n other = Unit {0}
+abbrev pub IsFromLog : List (List ℕ) → ℕ → Body → Type 0
+IsFromLog log n (body.Cookie full cookie last) = last ≤ length log
+IsFromLog log n (body.Chunk cookie p values entries done) = IsGiven log n (body.Chunk cookie p values entries done)
+IsFromLog log n (body.LastChunk cookie p values entries last) = IsGiven log n (body.LastChunk cookie p values entries last)
+IsFromLog log n other = Unit {0}
 
-abbrev pub InputMayCome : List (List ℕ) → ℕ → Input → Type 0
-InputMayCome log n (input.Deliver m) = MayCome log n m.body
-InputMayCome log n other = Unit {0}
+abbrev pub InputIsFromLog : List (List ℕ) → ℕ → Input → Type 0
+InputIsFromLog log n (input.Deliver m) = IsFromLog log n m.body
+InputIsFromLog log n other = Unit {0}
 
 -- ---- from the beginning on
 
 -- the store once an event's changes are written
 abbrev pub written : Store → Course → Store
-written m x = behind x.changes m
+written m x = store_after x.changes m
 
 -- The store and the memory of a monitor after it began a full synchronization with the store `before`. Any inputs may
 -- follow while the store is marked, and the monitor may crash at any time, which loses its memory.
@@ -67,7 +67,7 @@ pub data Synchronizes (log : List (List ℕ)) (me : Me) (before : Store) : Store
   begins : (now from : ℕ) (s : State) (x : Course) → full_sync me now from (at_rest (readings_of before) s) ≡ x
       → Synchronizes log me before (written before x) x.state
   goes_on : (m : Store) (s : State) (now : ℕ) (came : Input) (x : Course) → Synchronizes log me before m s
-      → (readings_of m).marked ≡ true → InputMayCome log me.member.monitors came
+      → (readings_of m).marked ≡ true → InputIsFromLog log me.member.monitors came
       → react me (shared_entries m) now (readings_of m) s came ≡ Ok x → Synchronizes log me before (written m x) x.state
   forgets : (m : Store) (s : State) → Synchronizes log me before m s → Synchronizes log me before m (booting me.member.rank)
 

@@ -9,7 +9,7 @@ use Rattle.mon_tx.specs.Keys.{number, shared}
 use Rattle.mon_tx.specs.Map.{Store, apply}
 use Rattle.mon_msg.specs.Fold.{entry, fold}
 use Rattle.mon_msg.specs.Joined.{joined}
-use Rattle.mon_msg.specs.Protocol.Changes.{Change, Boot, Epoch, Numbers, Promise, Vote, spelled}
+use Rattle.mon_msg.specs.Protocol.Changes.{Change, Boot, Epoch, Numbers, Promise, Vote, encoded}
 
 -- the store of a monitor that has the first c versions of the log
 pub record HasVersions (log : List (List ℕ)) (c : ℕ) (m : Store) : Type 0 where
@@ -22,8 +22,8 @@ abbrev pub values_from : List (List ℕ) → (v count : ℕ) → List (List Op)
 values_from log v count = map (λ u. ops_in (entry log u)) (range_with_len v count)
 
 -- the store once changes are written, as one transaction
-abbrev pub behind : List Change → Store → Store
-behind cs m = apply (joined (spelled cs)) m
+abbrev pub store_after : List Change → Store → Store
+store_after cs m = apply (joined (encoded cs)) m
 
 -- A change of the own keys of a monitor that has c versions: its numbers, its epoch, its count of starts, or a vote for
 -- version c + 1.

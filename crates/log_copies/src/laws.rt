@@ -16,7 +16,7 @@ ghost use Rattle.log_model.specs.LogOfValues.{AllValues, IsValue};
 ghost use Rattle.log_model.specs.Windows.{Keeps};
 ghost use Rattle.log_copies.specs.Copies.{IsFuzzyCopy, catch_up, shared_with_records};
 ghost use Rattle.log_copies.specs.Synchronizing.{IsShaped, Synchronizes, IsSynchronized};
-ghost use Rattle.log_copies.specs.Versions.{HasVersions, values_from, behind, IsOwnChange};
+ghost use Rattle.log_copies.specs.Versions.{HasVersions, values_from, store_after, IsOwnChange};
 
 /// A copy that caught up is the log's fold. Let a store be copied while its log of values went from version s to
 /// version e. Once the versions after s up to e are applied to the copy, it is the log's fold at e, except for a
@@ -33,13 +33,13 @@ pub fn law_caught_up()
 pub fn law_learned()
     ensures learned { (log : List (List ℕ)) → length log ≤ 2 ^ 62 → AllValues log → (c : ℕ) (m : Store) → HasVersions log c m
         → (count : ℕ) → suc c + count ≤ length log
-        → HasVersions log (suc c + count) (behind (learn_changes (suc c) (values_from log (suc c) (suc count)) ++ Last (suc c + count) ∷ []) m) }
+        → HasVersions log (suc c + count) (store_after (learn_changes (suc c) (values_from log (suc c) (suc count)) ++ Last (suc c + count) ∷ []) m) }
     ensures committed { (log : List (List ℕ)) → length log < 2 ^ 62 → AllValues log → (w : Readings) → Keeps log (length log) w → w.last ≡ length log
         → (value : List Op) → IsValue w value → (m : Store) → HasVersions log (length log) m
         → AllValues (log ++ text value ∷ [])
-        × HasVersions (log ++ text value ∷ []) (suc (length log)) (behind (Learn (suc (length log)) value ∷ Last (suc (length log)) ∷ []) m) }
+        × HasVersions (log ++ text value ∷ []) (suc (length log)) (store_after (Learn (suc (length log)) value ∷ Last (suc (length log)) ∷ []) m) }
     ensures kept { (log : List (List ℕ)) (c : ℕ) (m : Store) → HasVersions log c m → (changes : List Change)
-        → AllByRecursion (IsOwnChange c) changes → HasVersions log c (behind changes m) }
+        → AllByRecursion (IsOwnChange c) changes → HasVersions log c (store_after changes m) }
     ensures told { (log : List (List ℕ)) → length log ≤ 2 ^ 62 → AllValues log → (c : ℕ) (m : Store) → HasVersions log c m → (v : ℕ)
         → run_from (readings_of m).record_of c (suc v) ≡ values_from log (suc v) (length (run_from (readings_of m).record_of c (suc v))) }
 {}

@@ -21,12 +21,12 @@ use Rattle.mon_wire.specs.declared.request.Service.TheVariants.{Kv, Log}
 use Rattle.mon_msg.specs.Puts.{area_of}
 use Rattle.mon_msg.specs.Protocol.Parts.{map_text}
 use Rattle.mon_msg.specs.Protocol.Readings.{Readings, cell_after}
-use Rattle.mon_msg.specs.Protocol.Records.{most_value, where_it_may_begin, transaction_in}
+use Rattle.mon_msg.specs.Protocol.Records.{most_value, if_it_may_begin, transaction_in}
 use Rattle.mon_msg.specs.Protocol.Rules.{paxos_to, value_ops}
 use Rattle.mon_msg.specs.Protocol.Services.{service_first, service_last, read_map}
 use Rattle.mon_msg.specs.Protocol.Value.{service_of, made, value_of, value}
 use Rattle.log_model.specs.LogOfValues.{IsCommand, IsValue}
-use Rattle.log_model.proofs.AreaEdits.{Edit, spelled, final, cell_after-append, cell_here, cell_elsewhere}
+use Rattle.log_model.proofs.AreaEdits.{Edit, encoded, final, cell_after-append, cell_here, cell_elsewhere}
 use Rattle.log_model.proofs.Older.{older_itself}
 use Rattle.log_model.proofs.RuleCells.{log_begun_other, log_begun_version}
 use Rattle.log_model.proofs.RuleEdits.{begun, log_cut, log_trimmed, service_edits, value_is}
@@ -55,11 +55,11 @@ module _ (first last : ℕ) (s : Service) (n service_first : ℕ) (x t : List �
   edits = service_edits n service_first x t
 
   in_parts : (b : Area) (k : Key) (c : Cell)
-      → cell_after ops b k c ≡ cell_after (spelled area.Paxos (log_trimmed first last)) b k (cell_after (spelled (area_of s) edits) b k (cell_after (spelled area.Paxos (begun last)) b k c))
+      → cell_after ops b k c ≡ cell_after (encoded area.Paxos (log_trimmed first last)) b k (cell_after (encoded (area_of s) edits) b k (cell_after (encoded area.Paxos (begun last)) b k c))
   in_parts b k c =
       ap (λ (es : List Op). cell_after es b k c) (value_is first last (area_of s) n service_first x t)
-      ∙ cell_after-append (spelled area.Paxos (begun last)) (spelled (area_of s) edits ++ spelled area.Paxos (log_trimmed first last)) b k c
-      ∙ cell_after-append (spelled (area_of s) edits) (spelled area.Paxos (log_trimmed first last)) b k _
+      ∙ cell_after-append (encoded area.Paxos (begun last)) (encoded (area_of s) edits ++ encoded area.Paxos (log_trimmed first last)) b k c
+      ∙ cell_after-append (encoded (area_of s) edits) (encoded area.Paxos (log_trimmed first last)) b k _
 
   -- in the log's own area
   in_log : (k : Key) (c : Cell) → cell_after ops area.Paxos k c ≡ final (log_trimmed first last) k (final (begun last) k c)
@@ -151,9 +151,9 @@ module _ (w : Readings) (c : Command) (asked : ℕ) (x : List Op) (h : value w c
   -- it is short enough to be proposed, and its record is read as it is
   pub value_reads : IsCommand c → asked ≤ 14 → w.last ≤ 2 ^ 62 → suc (service_last w s) ≤ 2 ^ 62 → (length (text x) ≤ most_value) × (transaction_in (Some (text x)) ≡ Some x)
   value_reads form rank at room =
-      let V : IsValue w x = record { command = c; form = form; asked = asked; rank = rank; newer = x; made = h; spelled = older_itself x } in
+      let V : IsValue w x = record { command = c; form = form; asked = asked; rank = rank; newer = x; made = h; encoded = older_itself x } in
       let t = any_text w x V at room in
-      (t.1, ap where_it_may_begin (transaction_again x t.0) ∙ begins t.1)
+      (t.1, ap if_it_may_begin (transaction_again x t.0) ∙ begins t.1)
     where
-      begins : length (text x) ≤ most_value → where_it_may_begin (Ok x) ≡ Some x
+      begins : length (text x) ≤ most_value → if_it_may_begin (Ok x) ≡ Some x
       begins short = rw (le-leb (message_length 1 (body.Begin 0 0 x)) 1048576 (omega arith)) refl

@@ -23,8 +23,8 @@ op_of a (Set k bytes) = put a k bytes
 op_of a (Drop k) = erase a k
 op_of a (DropRange from to) = EraseRange (area_text a) from to
 
-abbrev pub spelled : Area → List Edit → List Op
-spelled a es = map (op_of a) es
+abbrev pub encoded : Area → List Edit → List Op
+encoded a es = map (op_of a) es
 
 abbrev pub left : Edit → Key → Cell → Cell
 left (Set k bytes) j c = cond (same_key j k) (Some bytes) c
@@ -40,9 +40,9 @@ pub final_append : (a b : List Edit) (k : Key) (c : Cell) → final (a ++ b) k c
 final_append [] b k c = refl
 final_append (e ∷ es) b k c = final_append es b k (left e k c)
 
-pub spelled_append : (a : Area) (es fs : List Edit) → spelled a (es ++ fs) ≡ spelled a es ++ spelled a fs
-spelled_append a [] fs = refl
-spelled_append a (e ∷ es) fs = ap (λ (z : List Op). op_of a e ∷ z) (spelled_append a es fs)
+pub encoded_append : (a : Area) (es fs : List Edit) → encoded a (es ++ fs) ≡ encoded a es ++ encoded a fs
+encoded_append a [] fs = refl
+encoded_append a (e ∷ es) fs = ap (λ (z : List Op). op_of a e ∷ z) (encoded_append a es fs)
 
 -- ---- what changes leave at a named place
 
@@ -68,13 +68,13 @@ one_elsewhere a b (Drop j) k h = decided-erase a j b k ∙ ap (λ t. cond (t && 
 one_elsewhere a b (DropRange from to) k h = decided-erase_range a from to b k ∙ ap (λ t. cond (t && covers from to k) (Some None) None) h
 
 -- in their own area
-pub cell_here : (a : Area) (es : List Edit) (k : Key) (c : Cell) → cell_after (spelled a es) a k c ≡ final es k c
+pub cell_here : (a : Area) (es : List Edit) (k : Key) (c : Cell) → cell_after (encoded a es) a k c ≡ final es k c
 cell_here a [] k c = refl
-cell_here a (e ∷ es) k c = or_before-later (decision (spelled a es) (place a k)) (decided (op_of a e) (place a k)) c ∙ ap (cell_after (spelled a es) a k) (one a e k c) ∙ cell_here a es k (left e k c)
+cell_here a (e ∷ es) k c = or_before-later (decision (encoded a es) (place a k)) (decided (op_of a e) (place a k)) c ∙ ap (cell_after (encoded a es) a k) (one a e k c) ∙ cell_here a es k (left e k c)
 
 -- in another area
-pub cell_elsewhere : (a b : Area) (es : List Edit) (k : Key) (c : Cell) → same_area b a ≡ false → cell_after (spelled a es) b k c ≡ c
+pub cell_elsewhere : (a b : Area) (es : List Edit) (k : Key) (c : Cell) → same_area b a ≡ false → cell_after (encoded a es) b k c ≡ c
 cell_elsewhere a b [] k c h = refl
 cell_elsewhere a b (e ∷ es) k c h =
-    or_before-later (decision (spelled a es) (place b k)) (decided (op_of a e) (place b k)) c ∙ ap (λ d. cell_after (spelled a es) b k (or_before d c)) (one_elsewhere a b e k h)
+    or_before-later (decision (encoded a es) (place b k)) (decided (op_of a e) (place b k)) c ∙ ap (λ d. cell_after (encoded a es) b k (or_before d c)) (one_elsewhere a b e k h)
     ∙ cell_elsewhere a b es k c h

@@ -26,10 +26,10 @@ use Rattle.mon_msg.specs.Protocol.Records.{most_value}
 use Rattle.mon_msg.specs.Protocol.Rules.{value_ops}
 use Rattle.mon_msg.specs.Protocol.Value.{service_of, made, value}
 use Rattle.mon_msg.specs.Protocol.Readings.{Readings, readings_of, after}
-use Rattle.log_model.specs.LogOfValues.{view_at, IsValue, SpellsValue, AllValues}
+use Rattle.log_model.specs.LogOfValues.{view_at, IsValue, EncodesValue, AllValues}
 use Rattle.log_model.specs.Windows.{Keeps, Shows}
 use Rattle.log_model.proofs.Lists.{length_push}
-use Rattle.log_model.proofs.Logs.{fronts_push, entry_push, entry_stays, fold_stays}
+use Rattle.log_model.proofs.Logs.{log_prefix_push, entry_push, entry_stays, fold_stays}
 use Rattle.log_model.proofs.Places.{get_kept, shared_is, local_named, is_shared, tied}
 use Rattle.log_model.proofs.TextSizes.{short, has_text}
 use Rattle.log_model.proofs.FoldWindows.{Holds, holds_none, holds_more, keeps_view, view_last, shows}
@@ -46,23 +46,23 @@ pub next_at : (log : List (List ℕ)) (c : ℕ) → c < 2 ^ 62 → Holds log c �
 next_at log c h H w K at older V = next_of log c w older (omega arith) K H.chains at V
 
 value_text : (log : List (List ℕ)) (c : ℕ) → c < 2 ^ 62 → Holds log c → (w : Readings) → Keeps log c w → w.last ≡ c → (older : List Op) → IsValue w older → HasText older
-value_text log c h H w K at older V = let N = next_at log c h H w K at older V in has_text log c V.newer N h (H.chains.few N.service) older V.spelled
+value_text log c h H w K at older V = let N = next_at log c h H w K at older V in has_text log c V.newer N h (H.chains.few N.service) older V.encoded
 
 value_short : (log : List (List ℕ)) (c : ℕ) → c < 2 ^ 62 → Holds log c → (w : Readings) → Keeps log c w → w.last ≡ c → (older : List Op) → IsValue w older → length (text older) ≤ most_value
-value_short log c h H w K at older V = let N = next_at log c h H w K at older V in short log c V.newer N h (H.chains.few N.service) older V.spelled
+value_short log c h H w K at older V = let N = next_at log c h H w K at older V in short log c V.newer N h (H.chains.few N.service) older V.encoded
 
 -- ---- all versions
 
-pub spelled_text : (log : List (List ℕ)) (c : ℕ) → c < 2 ^ 62 → Holds log c → (S : SpellsValue log c) → ops_in (entry log (suc c)) ≡ S.changes
-spelled_text log c h H S =
-    ap ops_in S.spells ∙ ops_again S.changes (value_text log c h H (view_at log c) (keeps_view log c (omega arith) H.keeps) (view_last log c (omega arith)) S.changes S.value)
+pub encoded_text : (log : List (List ℕ)) (c : ℕ) → c < 2 ^ 62 → Holds log c → (S : EncodesValue log c) → ops_in (entry log (suc c)) ≡ S.changes
+encoded_text log c h H S =
+    ap ops_in S.encodes ∙ ops_again S.changes (value_text log c h H (view_at log c) (keeps_view log c (omega arith) H.keeps) (view_last log c (omega arith)) S.changes S.value)
 
 pub holds : (log : List (List ℕ)) → length log ≤ 2 ^ 62 → AllValues log → (c : ℕ) → c ≤ length log → Holds log c
 holds log fits all zero h = holds_none log
 holds log fits all (suc c) h =
     let H = holds log fits all c (omega arith) in
     let S = all c (omega arith) in
-    holds_more log c (omega arith) H S (spelled_text log c (omega arith) H S)
+    holds_more log c (omega arith) H S (encoded_text log c (omega arith) H S)
 
 pub keeps : (log : List (List ℕ)) → length log ≤ 2 ^ 62 → AllValues log → (c : ℕ) → c ≤ length log → Keeps log c (readings_of (fold log c))
 keeps log fits all c h = (holds log fits all c h).keeps
@@ -75,9 +75,9 @@ pub learns : (log : List (List ℕ)) → length log ≤ 2 ^ 62 → AllValues log
 learns log fits all c h w K =
     let H = holds log fits all c (omega arith) in
     let S = all c h in
-    let e = spelled_text log c (omega arith) H S in
+    let e = encoded_text log c (omega arith) H S in
     let N = next_at log c (omega arith) H (view_at log c) (keeps_view log c (omega arith) H.keeps) (view_last log c (omega arith)) S.changes S.value in
-    subst (λ (ops : List Op). Keeps log (suc c) (after (put area.Paxos (key.Version (suc c)) (entry log (suc c)) ∷ ops) w)) (sym e) (keeps_more log c S.changes S.value.newer S.value.spelled N e w (omega arith) K)
+    subst (λ (ops : List Op). Keeps log (suc c) (after (put area.Paxos (key.Version (suc c)) (entry log (suc c)) ∷ ops) w)) (sym e) (keeps_more log c S.changes S.value.newer S.value.encoded N e w (omega arith) K)
 
 pub shown : (log : List (List ℕ)) → length log ≤ 2 ^ 62 → AllValues log → (c : ℕ) → c ≤ length log → (w : Readings) → Keeps log c w → Shows log c w
 shown log fits all c h w K = shows log c w (omega arith) (holds log fits all c h).chains K.rows
@@ -134,11 +134,11 @@ value_moved v w older alike V = record {
   rank = V.rank;
   newer = V.newer;
   made = sym (alike V.command V.asked) ∙ V.made;
-  spelled = V.spelled;
+  encoded = V.encoded;
 }
 
 view_stays : (log : List (List ℕ)) (x : List ℕ) (c : ℕ) → c ≤ length log → view_at (log ++ x ∷ []) c ≡ view_at log c
-view_stays log x c h = ap (λ (m : Store). readings_of (apply_op (put_number area.Paxos key.LastCommitted c) m)) (fold_stays (fronts_push log x) c h)
+view_stays log x c h = ap (λ (m : Store). readings_of (apply_op (put_number area.Paxos key.LastCommitted c) m)) (fold_stays (log_prefix_push log x) c h)
 
 pub grown : (log : List (List ℕ)) → length log < 2 ^ 62 → AllValues log → (w : Readings) → Keeps log (length log) w → w.last ≡ length log → (older : List Op) → IsValue w older → AllValues (log ++ text older ∷ [])
 grown log fits all w K at older V c h = by (cases_lt c (length log))
@@ -149,25 +149,25 @@ grown log fits all w K at older V c h = by (cases_lt c (length log))
     there : Keeps log (length log) (view_at log (length log))
     there = keeps_view log (length log) (omega arith) H.keeps
 
-    newest : SpellsValue (log ++ text older ∷ []) (length log)
+    newest : EncodesValue (log ++ text older ∷ []) (length log)
     newest = record {
       changes = older;
       value = subst (λ (v : Readings). IsValue v older) (sym (view_stays log (text older) (length log) (omega arith)))
           (value_moved w (view_at log (length log)) older (value_by log (length log) w (view_at log (length log)) (omega arith) H.chains K there (at ∙ sym (view_last log (length log) (omega arith)))) V);
-      spells = entry_push log (text older);
+      encodes = entry_push log (text older);
     }
 
-    by : (c < length log) ⊎ (length log ≤ c) → SpellsValue (log ++ text older ∷ []) c
+    by : (c < length log) ⊎ (length log ≤ c) → EncodesValue (log ++ text older ∷ []) c
     by (inl lt) =
         let S = all c lt in
         record {
           changes = S.changes;
           value = subst (λ (v : Readings). IsValue v S.changes) (sym (view_stays log (text older) c (omega arith))) S.value;
-          spells = entry_stays (fronts_push log (text older)) (suc c) (omega arith) ∙ S.spells;
+          encodes = entry_stays (log_prefix_push log (text older)) (suc c) (omega arith) ∙ S.encodes;
         }
     by (inr le) =
         let e : c ≡ length log = omega (arith, length_push log (text older), h) in
-        subst (SpellsValue (log ++ text older ∷ [])) (sym e) newest
+        subst (EncodesValue (log ++ text older ∷ [])) (sym e) newest
 
 -- ---- what is shared
 

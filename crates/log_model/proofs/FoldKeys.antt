@@ -20,7 +20,7 @@ use Rattle.mon_msg.specs.Puts.{put, put_number}
 use Rattle.mon_msg.specs.Fold.{entry, fold}
 use Rattle.log_model.specs.LogOfValues.{view_at, AllValues}
 use Rattle.log_model.specs.Windows.{is_kept_key, IsKeptKey}
-use Rattle.log_model.proofs.Committed.{holds, spelled_text, next_at}
+use Rattle.log_model.proofs.Committed.{holds, encoded_text, next_at}
 use Rattle.log_model.proofs.FoldWindows.{Holds, keeps_view, view_last}
 use Rattle.log_model.proofs.KeptKeys.{IsNamed, AllNamed, PutsNamed, all_named, value_named, no_local, first_place, greatest}
 use Rattle.log_model.proofs.Sharing.{of_own}
@@ -43,7 +43,7 @@ module _ (log : List (List ℕ)) (fits : length log ≤ 2 ^ 62) (all : AllValues
       let H = holds log fits all c (omega arith) in
       let S = all c h in
       let N = next_at log c (omega arith) H (view_at log c) (keeps_view log c (omega arith) H.keeps) (view_last log c (omega arith)) S.changes S.value in
-      named_more log c (subst (AllByRecursion PutsNamed) (sym (spelled_text log c (omega arith) H S)) (value_named log c S.value.newer S.changes N S.value.spelled)) (named c (omega arith))
+      named_more log c (subst (AllByRecursion PutsNamed) (sym (encoded_text log c (omega arith) H S)) (value_named log c S.value.newer S.changes N S.value.encoded)) (named c (omega arith))
 
   pub kept_is : (c : ℕ) → c ≤ length log → (q : Place) (x : List ℕ) → get (fold log c) q ≡ Some x → IsKeptKey q
   kept_is c h q x e = record { area = N.area; key = N.key; is = N.is; kept = by (is_kept_key N.area N.key) refl }

@@ -21,7 +21,7 @@ use Rattle.mon_msg.specs.Protocol.Changes.{Last}
 use Rattle.mon_msg.specs.Protocol.Parts.{map_text}
 use Rattle.mon_msg.specs.Protocol.Readings.{Readings, readings_of, after}
 use Rattle.mon_msg.proofs.Changed.{readings-apply, readings-joined}
-use Rattle.log_model.specs.LogOfValues.{view_at, SpellsValue}
+use Rattle.log_model.specs.LogOfValues.{view_at, EncodesValue}
 use Rattle.log_model.specs.Windows.{is_kept_key, within, is_full, row_after, Keeps, Shows}
 use Rattle.log_model.proofs.MapSteps.{chain_none}
 use Rattle.log_model.proofs.RowReadings.{none_read, last_is, map_is, since_is}
@@ -113,12 +113,12 @@ pub record Holds (log : List (List ℕ)) (c : ℕ) : Type 0 where
 pub holds_none : (log : List (List ℕ)) → Holds log 0
 holds_none log = record { keeps = keeps_none log; above = above_none log; others = others_none log; chains = chains_none log }
 
-pub holds_more : (log : List (List ℕ)) (c : ℕ) → suc c ≤ 2 ^ 62 → Holds log c → (S : SpellsValue log c) → ops_in (entry log (suc c)) ≡ S.changes → Holds log (suc c)
+pub holds_more : (log : List (List ℕ)) (c : ℕ) → suc c ≤ 2 ^ 62 → Holds log c → (S : EncodesValue log c) → ops_in (entry log (suc c)) ≡ S.changes → Holds log (suc c)
 holds_more log c fits H S e = record {
-  keeps = subst (Keeps log (suc c)) (sym (fold_more log c S.changes e)) (keeps_more log c S.changes S.value.newer S.value.spelled next e (readings_of (fold log c)) fits H.keeps);
-  above = λ v gt. ap (λ (w : Readings). w.record_of v) (fold_more log c S.changes e) ∙ above_more log c S.changes S.value.newer S.value.spelled next e (readings_of (fold log c)) H.above v gt;
-  others = λ a k h. fold_cell log c S.changes e a k ∙ ap (cell_after (put area.Paxos (Version (suc c)) (entry log (suc c)) ∷ S.changes) a k) (H.others a k h) ∙ others_more log c S.changes S.value.newer S.value.spelled next e a k h;
-  chains = chains_more log c S.changes S.value.newer S.value.spelled next e H.chains;
+  keeps = subst (Keeps log (suc c)) (sym (fold_more log c S.changes e)) (keeps_more log c S.changes S.value.newer S.value.encoded next e (readings_of (fold log c)) fits H.keeps);
+  above = λ v gt. ap (λ (w : Readings). w.record_of v) (fold_more log c S.changes e) ∙ above_more log c S.changes S.value.newer S.value.encoded next e (readings_of (fold log c)) H.above v gt;
+  others = λ a k h. fold_cell log c S.changes e a k ∙ ap (cell_after (put area.Paxos (Version (suc c)) (entry log (suc c)) ∷ S.changes) a k) (H.others a k h) ∙ others_more log c S.changes S.value.newer S.value.encoded next e a k h;
+  chains = chains_more log c S.changes S.value.newer S.value.encoded next e H.chains;
 }
   where
     next : Next log c S.value.newer

@@ -25,7 +25,7 @@ use Rattle.mon_msg.specs.Protocol.Parts.{map_text}
 use Rattle.mon_msg.specs.Protocol.Readings.{readings_of}
 use Rattle.log_model.specs.LogOfValues.{IsOlder, none, same, range}
 use Rattle.log_model.specs.Windows.{is_kept_key, first_read, service_from, log_from}
-use Rattle.log_model.proofs.AreaEdits.{Edit, Set, Drop, DropRange, spelled}
+use Rattle.log_model.proofs.AreaEdits.{Edit, Set, Drop, DropRange, encoded}
 use Rattle.log_model.proofs.FoldWindows.{Holds}
 use Rattle.log_model.proofs.Lists.{all_append}
 use Rattle.log_model.proofs.Places.{same_place}
@@ -107,7 +107,7 @@ pub all_named : (ops : List Op) (m : Store) → AllByRecursion PutsNamed ops →
 all_named [] m h all = all
 all_named (op ∷ ops) m h all = all_named ops (apply_op op m) h.1 (one_named op m h.0 all)
 
-edits_named : (a : Area) (es : List Edit) → AllByRecursion PutsNamed (spelled a es)
+edits_named : (a : Area) (es : List Edit) → AllByRecursion PutsNamed (encoded a es)
 edits_named a [] = tt
 edits_named a (Set k x ∷ es) = (record { area = a; key = k; is = refl }, edits_named a es)
 edits_named a (Drop k ∷ es) = (tt, edits_named a es)
@@ -122,9 +122,9 @@ older_named none h = tt
 older_named (same op o) h = (h.0, older_named o h.1)
 older_named (range a from to {older = older} o) h = each_named a (range_with_len from (to - from)) older (older_named o h.1)
 
-three_named : (a b d : Area) (es fs gs : List Edit) → AllByRecursion PutsNamed (spelled a es ++ (spelled b fs ++ spelled d gs))
+three_named : (a b d : Area) (es fs gs : List Edit) → AllByRecursion PutsNamed (encoded a es ++ (encoded b fs ++ encoded d gs))
 three_named a b d es fs gs =
-    all_append PutsNamed (spelled a es) (spelled b fs ++ spelled d gs) (edits_named a es) (all_append PutsNamed (spelled b fs) (spelled d gs) (edits_named b fs) (edits_named d gs))
+    all_append PutsNamed (encoded a es) (encoded b fs ++ encoded d gs) (edits_named a es) (all_append PutsNamed (encoded b fs) (encoded d gs) (edits_named b fs) (edits_named d gs))
 
 pub value_named : (log : List (List ℕ)) (c : ℕ) (newer older : List Op) → Next log c newer → IsOlder newer older → AllByRecursion PutsNamed older
 value_named log c newer older N o =

@@ -18,7 +18,7 @@ use Rattle.map_kv.proofs.Kept.{entries-kept_map, is_short, none_kept}
 use Rattle.map_kv.proofs.Lengths.{length-map_text}
 use Rattle.mon_wire.specs.declared.reply.ShownMap.TheVariants as shown
 use Rattle.mon_wire.specs.declared.request.Service.TheVariants as service
-use Rattle.mon_msg.specs.Protocol.Maps.{next_map, spelled_map}
+use Rattle.mon_msg.specs.Protocol.Maps.{next_map, decoded_map}
 use Rattle.log_model.proofs.Lists.{all_map, all_both}
 
 abbrev Entry : Type 0
@@ -101,7 +101,7 @@ map_fits m h =
     let short = is_short m (let s = h.short in omega arith) in
     record { each = all_map (λ e. IsPair e × IsShort e) EntryFits (λ e p. (p.0.0, p.0.1, p.1)) (entries m) (all_both IsPair IsShort (entries m) h.each short.each); count = short.count }
 
-pub read_back : (m : Kv) → IsFine m → spelled_map service.Kv (map_text m) ≡ Some (shown.Kv m)
+pub read_back : (m : Kv) → IsFine m → decoded_map service.Kv (map_text m) ≡ Some (shown.Kv m)
 read_back m h = rw (le-leb (length (map_text m)) 393216 h.short, map_again m (map_fits m h)) refl
 
 steps : (m : Kv) (inc : KvInc) → IncFits inc → IsFine (with_inc m inc) → length (inc_text inc) ≤ most_inc → Steps m inc

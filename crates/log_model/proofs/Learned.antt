@@ -21,7 +21,7 @@ use Rattle.mon_msg.specs.Fold.{entry, fold}
 use Rattle.mon_msg.specs.Joined.{joined}
 use Rattle.mon_msg.specs.Puts.{area_of}
 use Rattle.mon_msg.specs.Protocol.Readings.{cell_after}
-use Rattle.mon_msg.specs.Protocol.Changes.{Learn, Last, spelled}
+use Rattle.mon_msg.specs.Protocol.Changes.{Learn, Last, encoded}
 use Rattle.mon_msg.specs.Protocol.Readings.{readings_of}
 use Rattle.mon_msg.proofs.Joining.{apply-joined}
 use Rattle.mon_msg.proofs.Afterwards.{apply-append}
@@ -30,7 +30,7 @@ use Rattle.log_model.specs.Windows.{log_from, within, Keeps}
 use Rattle.log_model.proofs.Committed.{ops_again, keeps, keeps_shared, next_in, texts, grown}
 use Rattle.log_model.proofs.Holds.{Holds, read_last, keeps_log}
 use Rattle.log_model.proofs.Lists.{length_push}
-use Rattle.log_model.proofs.Logs.{fronts_push, entry_push, fold_stays}
+use Rattle.log_model.proofs.Logs.{log_prefix_push, entry_push, fold_stays}
 use Rattle.log_model.proofs.Places.{cell_other, cell_same, lost_put, is_shared, shared_is, shared_on, local_named}
 use Rattle.log_model.proofs.RuleCells.{log_high}
 use Rattle.log_model.proofs.RowSteps.{log_stays, log_behind}
@@ -70,7 +70,7 @@ module _ (log : List (List ℕ)) (m : Store) (h : Holds log m) (ops : List Op) (
 
   -- the same store, by the longer log
   folded_more : shared m ≡ fold more c
-  folded_more = h.folded ∙ sym (fold_stays (fronts_push log (text ops)) c (omega arith))
+  folded_more = h.folded ∙ sym (fold_stays (log_prefix_push log (text ops)) c (omega arith))
 
   keeps_more : Keeps more c (readings_of m)
   keeps_more = keeps_shared more c m folded_more h.last (keeps more fits_more values_more c (omega (arith, length_more)))
@@ -81,13 +81,13 @@ module _ (log : List (List ℕ)) (m : Store) (h : Holds log m) (ops : List Op) (
   -- ---- what the value leaves under the log's keys and elsewhere
 
   in_log : (k : Key) (was : Cell) → ((a b : ℕ) → covers a b k ≡ false) → same_key k key.FirstCommitted ≡ false → same_key k (key.Version (suc c)) ≡ false → cell_after recorded area.Paxos k was ≡ was
-  in_log k was h f v = log_cell_is more c ops V.newer V.spelled next reads_entry k was ∙ log_stays c (entry more (suc c)) k was h f v
+  in_log k was h f v = log_cell_is more c ops V.newer V.encoded next reads_entry k was ∙ log_stays c (entry more (suc c)) k was h f v
 
   behind : (v : ℕ) (was : Cell) → suc c < v → cell_after recorded area.Paxos (key.Version v) was ≡ was
-  behind v was lt = log_cell_is more c ops V.newer V.spelled next reads_entry (key.Version v) was ∙ log_behind c v (entry more (suc c)) was lt
+  behind v was lt = log_cell_is more c ops V.newer V.encoded next reads_entry (key.Version v) was ∙ log_behind c v (entry more (suc c)) was lt
 
   elsewhere : (a : Area) (k : Key) (was : Cell) → same_area a area.Paxos ≡ false → same_area a area.Kv ≡ false → same_area a area.Logm ≡ false → cell_after recorded a k was ≡ was
-  elsewhere a k was p q r = elsewhere_is more c ops V.newer V.spelled next reads_entry a k was p by
+  elsewhere a k was p q r = elsewhere_is more c ops V.newer V.encoded next reads_entry a k was p by
     where
       by : (u : Service) → same_area a (area_of u) ≡ false
       by Kv = q
@@ -163,8 +163,8 @@ module _ (log : List (List ℕ)) (m : Store) (h : Holds log m) (ops : List Op) (
       here = rw (le-leb (log_from (suc c)) (suc c) (log_high (suc c) (omega arith)), lt-ltb (suc c) (suc (suc c)) (omega arith)) refl
 
   -- the transaction that learns it
-  pub learns : apply (joined (spelled (Learn (suc c) ops ∷ Last (suc c) ∷ []))) m ≡ learned
+  pub learns : apply (joined (encoded (Learn (suc c) ops ∷ Last (suc c) ∷ []))) m ≡ learned
   learns =
-      apply-joined (spelled (Learn (suc c) ops ∷ Last (suc c) ∷ [])) m
+      apply-joined (encoded (Learn (suc c) ops ∷ Last (suc c) ∷ [])) m
       ∙ apply-append ops (put_number area.Paxos key.LastCommitted (suc c) ∷ []) (apply_op (put area.Paxos (key.Version (suc c)) (text ops)) m)
       ∙ ap (λ (bytes : List ℕ). apply_op (put_number area.Paxos key.LastCommitted (suc c)) (apply (put area.Paxos (key.Version (suc c)) bytes ∷ ops) m)) (sym (entry_push log (text ops)))

@@ -29,6 +29,6 @@ pub mod SomeLogs
 pub mod Spares
 pub mod TextSizes
 pub mod TextsWithin
-pub mod ToldFront
+pub mod LongestPrefix
 pub mod ValueSizes
 pub mod Windows

@@ -10,7 +10,7 @@ use Rattle.map_log.proofs.Again.{inc_again, map_again}
 use Rattle.map_log.proofs.Lengths.{length-map_text, each-append, each-trimmed, is_short, fits}
 use Rattle.mon_wire.specs.declared.reply.ShownMap.TheVariants as shown
 use Rattle.mon_wire.specs.declared.request.Service.TheVariants as service
-use Rattle.mon_msg.specs.Protocol.Maps.{next_map, spelled_map}
+use Rattle.mon_msg.specs.Protocol.Maps.{next_map, decoded_map}
 
 pub record IsFine (es : List LogInc) : Type 0 where
   pub each : AllByRecursion IsEntry es
@@ -30,7 +30,7 @@ pub short_trimmed : (es : List LogInc) → length (map_text (trimmed es)) ≤ 12
 short_trimmed [] = omega (arith, length-map_text [])
 short_trimmed (e ∷ es) = cond_both (is_above (e ∷ es)) (trimmed es) (e ∷ es) (λ z. length (map_text z) ≤ 12288) (λ h. short_trimmed es) (λ h. below e es h)
 
-pub read_back : (es : List LogInc) → IsFine es → spelled_map service.Log (map_text es) ≡ Some (shown.Log es)
+pub read_back : (es : List LogInc) → IsFine es → decoded_map service.Log (map_text es) ≡ Some (shown.Log es)
 read_back es h =
     let form = fits es h.each (is_short es (let s = h.short in omega arith)) in
     rw (le-leb (length (map_text es)) 12288 h.short, map_again es form) refl

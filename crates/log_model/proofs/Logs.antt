@@ -12,23 +12,23 @@ use Rattle.mon_msg.specs.Fold.{entry, fold, put_in, incrementals}
 use Rattle.log_model.proofs.Lists.{length_push}
 
 -- the second log begins with the first
-pub record Fronts (log more : List (List ℕ)) : Type 0 where
+pub record IsPrefixOf (log more : List (List ℕ)) : Type 0 where
   pub short : length log ≤ length more
   pub same : (i : ℕ) → i < length log → get_or more i [] ≡ get_or log i []
 
-pub fronts_itself : (log : List (List ℕ)) → Fronts log log
-fronts_itself log = record { short = omega arith; same = λ i h. refl }
+pub log_prefix_itself : (log : List (List ℕ)) → IsPrefixOf log log
+log_prefix_itself log = record { short = omega arith; same = λ i h. refl }
 
-pub fronts_push : (log : List (List ℕ)) (x : List ℕ) → Fronts log (log ++ x ∷ [])
-fronts_push log x = record { short = omega (arith, length_push log x); same = λ i h. get_or_append_left log (x ∷ []) [] i h }
+pub log_prefix_push : (log : List (List ℕ)) (x : List ℕ) → IsPrefixOf log (log ++ x ∷ [])
+log_prefix_push log x = record { short = omega (arith, length_push log x); same = λ i h. get_or_append_left log (x ∷ []) [] i h }
 
 pub entry_push : (log : List (List ℕ)) (x : List ℕ) → entry (log ++ x ∷ []) (suc (length log)) ≡ x
 entry_push log x = get_or-append_seam log x [] []
 
-module _ {log more : List (List ℕ)} (fronts : Fronts log more) where
+module _ {log more : List (List ℕ)} (log_prefix : IsPrefixOf log more) where
   pub entry_stays : (v : ℕ) → v ≤ length log → entry more v ≡ entry log v
   entry_stays zero h = refl
-  entry_stays (suc i) h = fronts.same i (omega arith)
+  entry_stays (suc i) h = log_prefix.same i (omega arith)
 
   pub fold_stays : (c : ℕ) → c ≤ length log → fold more c ≡ fold log c
   unfolding fold
@@ -44,8 +44,8 @@ module _ {log more : List (List ℕ)} (fronts : Fronts log more) where
 module _ (log : List (List ℕ)) (x : List ℕ) where
   pub fold_push : fold (log ++ x ∷ []) (suc (length log)) ≡ apply (put area.Paxos (key.Version (suc (length log))) x ∷ ops_in x) (fold log (length log))
   unfolding fold
-  fold_push = λ i. apply (put area.Paxos (key.Version (suc (length log))) (entry_push log x i) ∷ ops_in (entry_push log x i)) (fold_stays (fronts_push log x) (length log) (omega arith) i)
+  fold_push = λ i. apply (put area.Paxos (key.Version (suc (length log))) (entry_push log x i) ∷ ops_in (entry_push log x i)) (fold_stays (log_prefix_push log x) (length log) (omega arith) i)
 
   pub incrementals_push : (s : Service) → incrementals s (log ++ x ∷ []) (suc (length log)) ≡ incrementals s log (length log) ++ put_in s (ops_in x)
   unfolding incrementals
-  incrementals_push s = λ i. incrementals_stay (fronts_push log x) s (length log) (omega arith) i ++ put_in s (ops_in (entry_push log x i))
+  incrementals_push s = λ i. incrementals_stay (log_prefix_push log x) s (length log) (omega arith) i ++ put_in s (ops_in (entry_push log x i))

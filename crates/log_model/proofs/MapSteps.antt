@@ -23,7 +23,7 @@ use Rattle.mon_wire.specs.declared.reply.ShownMap.TheVariants as map
 use Rattle.mon_wire.specs.declared.request.Service.{Service}
 use Rattle.mon_wire.specs.declared.request.Service.TheVariants as service
 use Rattle.mon_msg.specs.Fold.{entry, stepped, after_all, stepped_log, log_after_all, map_after}
-use Rattle.mon_msg.specs.Protocol.Maps.{if_ok, spelled_map, next_map}
+use Rattle.mon_msg.specs.Protocol.Maps.{if_ok, decoded_map, next_map}
 use Rattle.mon_msg.specs.Protocol.Parts.{map_text}
 use Rattle.mon_msg.specs.Protocol.Value.{service_of, made}
 use Rattle.log_model.specs.LogOfValues.{IsCommand}
@@ -35,7 +35,7 @@ IsFine service.Kv (map.Kv m) = kv_steps.IsFine m
 IsFine service.Log (map.Log es) = log_steps.IsFine es
 IsFine s m = ⊥
 
-pub read_back : (s : Service) (m : ShownMap) → IsFine s m → spelled_map s (map_text m) ≡ Some m
+pub read_back : (s : Service) (m : ShownMap) → IsFine s m → decoded_map s (map_text m) ≡ Some m
 read_back service.Kv (map.Kv m) h = kv_steps.read_back m h
 read_back service.Log (map.Log es) h = log_steps.read_back es h
 read_back service.Kv (map.Log es) h = absurd h

@@ -8,7 +8,7 @@ use Rattle.mon_tx.specs.declared.key.Key.TheVariants as key
 use Rattle.mon_tx.specs.Map.{Store, apply_op, apply, number_in}
 use Rattle.mon_tx.specs.Keys.{place, cell, number, shared, same_area, same_key}
 use Rattle.mon_msg.specs.Puts.{put}
-use Rattle.mon_msg.specs.Protocol.Changes.{Change, Boot, Epoch, Numbers, spelled}
+use Rattle.mon_msg.specs.Protocol.Changes.{Change, Boot, Epoch, Numbers, encoded}
 use Rattle.log_model.proofs.Places.{cell_other, lost_put, is_shared, shared_is, tied, local_named}
 
 -- Two maps agree on the last version, the mark, the pending version, the records, the key-value service and all that is
@@ -60,7 +60,7 @@ IsOwn (Epoch e) = Unit {0}
 IsOwn (Numbers pn) = Unit {0}
 IsOwn other = ⊥
 
-pub same_changes : (cs : List Change) (m : Store) → AllByRecursion IsOwn cs → Same m (apply (spelled cs) m)
+pub same_changes : (cs : List Change) (m : Store) → AllByRecursion IsOwn cs → Same m (apply (encoded cs) m)
 same_changes [] m h = same_itself m
 same_changes (Boot n ∷ cs) m h = same_then (same_put area.Monitor key.BootCount _ m refl refl refl (λ v. refl) (λ k. refl) (λ l. refl)) (same_changes cs _ h.1)
 same_changes (Epoch e ∷ cs) m h = same_then (same_put area.Monitor key.ElectionEpoch _ m refl refl refl (λ v. refl) (λ k. refl) (λ l. refl)) (same_changes cs _ h.1)

@@ -17,7 +17,7 @@ use Rattle.mon_wire.specs.declared.request.Service.{Service}
 use Rattle.mon_wire.specs.declared.request.Service.TheVariants.{Kv, Log}
 use Rattle.mon_msg.specs.Joined.{puts, takes_away, or_here, replaced, or_last, joined_with, joined_onto, joined}
 use Rattle.mon_msg.specs.Puts.{area_of}
-use Rattle.mon_msg.specs.Protocol.Changes.{Learn, Last, spelled}
+use Rattle.mon_msg.specs.Protocol.Changes.{Learn, Last, encoded}
 use Rattle.mon_msg.specs.Protocol.Rules.{service_to, paxos_to, full_between, value_ops}
 use Rattle.mon_msg.proofs.Joining.{neither}
 use Rattle.log_model.specs.Windows.{is_full}
@@ -209,7 +209,7 @@ module _ (s : Service) (first last n service_first : ℕ) (x t bytes : List ℕ)
   service_once : (eqb n 1 && leb 75 (n - service_first)) ≡ false
   service_once = grind (arith, nat_tests)
 
-  ops_named : (a : Area) (es : List Edit) → map op (named a es) ≡ edits.spelled a es
+  ops_named : (a : Area) (es : List Edit) → map op (named a es) ≡ edits.encoded a es
   ops_named a [] = refl
   ops_named a (e ∷ es) = ap (λ (z : List Op). op_of a e ∷ z) (ops_named a es)
 
@@ -233,5 +233,5 @@ module _ (s : Service) (first last n service_first : ℕ) (x t bytes : List ℕ)
 
 -- the transaction that commits a value
 pub commits_once : (s : Service) (first last n service_first : ℕ) (x t : List ℕ) → let ops = value_ops first last (area_of s) n service_first x t in
-    joined (spelled (Learn (suc last) ops ∷ Last (suc last) ∷ [])) ≡ spelled (Learn (suc last) ops ∷ Last (suc last) ∷ [])
+    joined (encoded (Learn (suc last) ops ∷ Last (suc last) ∷ [])) ≡ encoded (Learn (suc last) ops ∷ Last (suc last) ∷ [])
 commits_once s first last n service_first x t = written_once s first last n service_first x t (text (value_ops first last (area_of s) n service_first x t))

@@ -19,7 +19,7 @@ use Rattle.mon_msg.specs.Fold.{put_in}
 use Rattle.mon_msg.specs.Puts.{area_of}
 use Rattle.mon_msg.specs.Protocol.Rules.{full_between, service_to, value_ops}
 use Rattle.log_model.specs.Windows.{is_full}
-use Rattle.log_model.proofs.AreaEdits.{Edit, Set, Drop, DropRange, spelled}
+use Rattle.log_model.proofs.AreaEdits.{Edit, Set, Drop, DropRange, encoded}
 use Rattle.log_model.proofs.RuleEdits.{first_set, begun, new, full, trimmed, cut, log_trimmed, service_edits, value_is}
 
 -- the values of the edits that set a version
@@ -66,27 +66,27 @@ put_other s a k x ops h = ap (λ t. cond (bytes_eq (area_text a) (area_text (are
 put_elsewhere : (s : Service) (a : Area) (k : Key) (x : List ℕ) (ops : List Op) → same_area a (area_of s) ≡ false → put_in s (put a k x ∷ ops) ≡ put_in s ops
 put_elsewhere s a k x ops h = ap (λ t. cond (t && is_decimal (key_text k)) (x ∷ put_in s ops) (put_in s ops)) (area_is a (area_of s) ∙ h)
 
-puts_own : (s : Service) (a : Area) (es : List Edit) → same_area a (area_of s) ≡ true → put_in s (spelled a es) ≡ versions es
+puts_own : (s : Service) (a : Area) (es : List Edit) → same_area a (area_of s) ≡ true → put_in s (encoded a es) ≡ versions es
 puts_own s a [] h = refl
-puts_own s a (Set (Version v) x ∷ es) h = put_version s a v x (spelled a es) ∙ rw h (ap (λ (z : List (List ℕ)). x ∷ z) (puts_own s a es h))
-puts_own s a (Set FirstCommitted x ∷ es) h = put_other s a FirstCommitted x (spelled a es) refl ∙ puts_own s a es h
-puts_own s a (Set LastCommitted x ∷ es) h = put_other s a LastCommitted x (spelled a es) refl ∙ puts_own s a es h
-puts_own s a (Set LastPn x ∷ es) h = put_other s a LastPn x (spelled a es) refl ∙ puts_own s a es h
-puts_own s a (Set AcceptedPn x ∷ es) h = put_other s a AcceptedPn x (spelled a es) refl ∙ puts_own s a es h
-puts_own s a (Set PendingV x ∷ es) h = put_other s a PendingV x (spelled a es) refl ∙ puts_own s a es h
-puts_own s a (Set PendingPn x ∷ es) h = put_other s a PendingPn x (spelled a es) refl ∙ puts_own s a es h
-puts_own s a (Set FullLatest x ∷ es) h = put_other s a FullLatest x (spelled a es) refl ∙ puts_own s a es h
-puts_own s a (Set ElectionEpoch x ∷ es) h = put_other s a ElectionEpoch x (spelled a es) refl ∙ puts_own s a es h
-puts_own s a (Set BootCount x ∷ es) h = put_other s a BootCount x (spelled a es) refl ∙ puts_own s a es h
-puts_own s a (Set InSync x ∷ es) h = put_other s a InSync x (spelled a es) refl ∙ puts_own s a es h
-puts_own s a (Set Floor x ∷ es) h = put_other s a Floor x (spelled a es) refl ∙ puts_own s a es h
-puts_own s a (Set (Full v) x ∷ es) h = put_other s a (Full v) x (spelled a es) refl ∙ puts_own s a es h
+puts_own s a (Set (Version v) x ∷ es) h = put_version s a v x (encoded a es) ∙ rw h (ap (λ (z : List (List ℕ)). x ∷ z) (puts_own s a es h))
+puts_own s a (Set FirstCommitted x ∷ es) h = put_other s a FirstCommitted x (encoded a es) refl ∙ puts_own s a es h
+puts_own s a (Set LastCommitted x ∷ es) h = put_other s a LastCommitted x (encoded a es) refl ∙ puts_own s a es h
+puts_own s a (Set LastPn x ∷ es) h = put_other s a LastPn x (encoded a es) refl ∙ puts_own s a es h
+puts_own s a (Set AcceptedPn x ∷ es) h = put_other s a AcceptedPn x (encoded a es) refl ∙ puts_own s a es h
+puts_own s a (Set PendingV x ∷ es) h = put_other s a PendingV x (encoded a es) refl ∙ puts_own s a es h
+puts_own s a (Set PendingPn x ∷ es) h = put_other s a PendingPn x (encoded a es) refl ∙ puts_own s a es h
+puts_own s a (Set FullLatest x ∷ es) h = put_other s a FullLatest x (encoded a es) refl ∙ puts_own s a es h
+puts_own s a (Set ElectionEpoch x ∷ es) h = put_other s a ElectionEpoch x (encoded a es) refl ∙ puts_own s a es h
+puts_own s a (Set BootCount x ∷ es) h = put_other s a BootCount x (encoded a es) refl ∙ puts_own s a es h
+puts_own s a (Set InSync x ∷ es) h = put_other s a InSync x (encoded a es) refl ∙ puts_own s a es h
+puts_own s a (Set Floor x ∷ es) h = put_other s a Floor x (encoded a es) refl ∙ puts_own s a es h
+puts_own s a (Set (Full v) x ∷ es) h = put_other s a (Full v) x (encoded a es) refl ∙ puts_own s a es h
 puts_own s a (Drop k ∷ es) h = puts_own s a es h
 puts_own s a (DropRange from to ∷ es) h = puts_own s a es h
 
-puts_none : (s : Service) (a : Area) (es : List Edit) → same_area a (area_of s) ≡ false → put_in s (spelled a es) ≡ []
+puts_none : (s : Service) (a : Area) (es : List Edit) → same_area a (area_of s) ≡ false → put_in s (encoded a es) ≡ []
 puts_none s a [] h = refl
-puts_none s a (Set k x ∷ es) h = put_elsewhere s a k x (spelled a es) h ∙ puts_none s a es h
+puts_none s a (Set k x ∷ es) h = put_elsewhere s a k x (encoded a es) h ∙ puts_none s a es h
 puts_none s a (Drop k ∷ es) h = puts_none s a es h
 puts_none s a (DropRange from to ∷ es) h = puts_none s a es h
 
@@ -129,10 +129,10 @@ pub puts_value : (u : Service) (a : Area) (first last n service_first : ℕ) (x 
     → put_in u (value_ops first last a n service_first x t) ≡ cond (same_area a (area_of u)) (x ∷ []) []
 puts_value u a first last n service_first x t =
     ap (put_in u) (value_is first last a n service_first x t)
-    ∙ put_in-append u (spelled area.Paxos (begun last)) _ ∙ ap (λ z. z ++ put_in u (spelled a (service_edits n service_first x t) ++ spelled area.Paxos (log_trimmed first last))) (puts_none u area.Paxos (begun last) (log_apart u))
-    ∙ put_in-append u (spelled a (service_edits n service_first x t)) _ ∙ ap (λ z. put_in u (spelled a (service_edits n service_first x t)) ++ z) (puts_none u area.Paxos (log_trimmed first last) (log_apart u))
+    ∙ put_in-append u (encoded area.Paxos (begun last)) _ ∙ ap (λ z. z ++ put_in u (encoded a (service_edits n service_first x t) ++ encoded area.Paxos (log_trimmed first last))) (puts_none u area.Paxos (begun last) (log_apart u))
+    ∙ put_in-append u (encoded a (service_edits n service_first x t)) _ ∙ ap (λ z. put_in u (encoded a (service_edits n service_first x t)) ++ z) (puts_none u area.Paxos (log_trimmed first last) (log_apart u))
     ∙ by (same_area a (area_of u)) refl
   where
-    by : (b : Bool) → same_area a (area_of u) ≡ b → put_in u (spelled a (service_edits n service_first x t)) ++ [] ≡ cond b (x ∷ []) []
+    by : (b : Bool) → same_area a (area_of u) ≡ b → put_in u (encoded a (service_edits n service_first x t)) ++ [] ≡ cond b (x ∷ []) []
     by true h = ap (λ z. z ++ []) (puts_own u a (service_edits n service_first x t) h ∙ versions_value n service_first x t)
     by false h = ap (λ z. z ++ []) (puts_none u a (service_edits n service_first x t) h)

@@ -13,7 +13,7 @@ use Rattle.mon_wire.specs.declared.reply.ShownMap.{ShownMap}
 use Rattle.mon_wire.specs.declared.reply.ShownMap.TheVariants as map
 use Rattle.mon_wire.specs.declared.request.Service.{Service}
 use Rattle.mon_wire.specs.declared.request.Service.TheVariants.{Kv, Log}
-use Rattle.mon_msg.specs.Protocol.Maps.{if_ok, empty_map, most_map, short_map, map_of, spelled_map, with_incremental, next_map}
+use Rattle.mon_msg.specs.Protocol.Maps.{if_ok, empty_map, most_map, short_map, map_of, decoded_map, with_incremental, next_map}
 use Rattle.mon_msg.specs.Protocol.Parts.{map_text}
 use Rattle.mon_msg.specs.Protocol.Readings.{Readings}
 use Rattle.mon_msg.specs.Protocol.Services.{service_last, full_latest, read_on, full_map, read_from, read_map}
@@ -62,9 +62,9 @@ module _ (w : Readings) (s : Service) where
       by None = tt
       by (Some next) = if_short next
 
-  if_spelled : (c : Cell) → AtMost (most_map s) (option_and_then (spelled_map s) c)
-  if_spelled None = tt
-  if_spelled (Some bytes) = by (leb (length bytes) (most_map s)) refl
+  if_encoded : (c : Cell) → AtMost (most_map s) (option_and_then (decoded_map s) c)
+  if_encoded None = tt
+  if_encoded (Some bytes) = by (leb (length bytes) (most_map s)) refl
     where
       by : (b : Bool) → leb (length bytes) (most_map s) ≡ b → AtMost (most_map s) (cond b (map_of s bytes) None)
       by true e = longer (length bytes) (most_map s) (map_of s bytes) (leb-true (length bytes) (most_map s) e) (within s bytes)
@@ -83,8 +83,8 @@ module _ (w : Readings) (s : Service) where
   full_short : AtMost (most_map s) (full_map w s)
   full_short = by (leb (full_latest w s) (service_last w s))
     where
-      by : (b : Bool) → AtMost (most_map s) (cond b (option_and_then (spelled_map s) (w.row s (key.Full (full_latest w s)))) None)
-      by true = if_spelled (w.row s (key.Full (full_latest w s)))
+      by : (b : Bool) → AtMost (most_map s) (cond b (option_and_then (decoded_map s) (w.row s (key.Full (full_latest w s)))) None)
+      by true = if_encoded (w.row s (key.Full (full_latest w s)))
       by false = tt
 
   pub read_map_short : length (map_text (read_map w s)) ≤ most_map s

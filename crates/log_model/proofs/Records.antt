@@ -7,10 +7,10 @@ use Rattle.mon_tx.specs.Decode.{HasText, ops_in, transaction_of}
 use Rattle.mon_tx.specs.Text.{text}
 use Rattle.mon_tx.proofs.Again.{transaction_again}
 use Rattle.mon_msg.specs.Fold.{entry}
-use Rattle.mon_msg.specs.Protocol.Changes.{Learn, ops_of, spelled}
+use Rattle.mon_msg.specs.Protocol.Changes.{Learn, ops_of, encoded}
 use Rattle.mon_msg.specs.Protocol.Learning.{learn_changes}
 use Rattle.mon_msg.specs.Protocol.Readings.{Readings}
-use Rattle.mon_msg.specs.Protocol.Records.{may_begin, where_it_may_begin, transaction_in, record_at, run_of, run_from}
+use Rattle.mon_msg.specs.Protocol.Records.{may_begin, if_it_may_begin, transaction_in, record_at, run_of, run_from}
 use Rattle.mon_msg.specs.Protocol.Replay.{most_versions, most_bytes, more_of, step_of}
 use Rattle.log_model.specs.LogOfValues.{view_at, AllValues}
 use Rattle.log_model.specs.Windows.{log_from, within, Keeps}
@@ -23,7 +23,7 @@ use Rattle.log_model.proofs.Spares.{Spares, by_name, at_name, spares_append, spa
 
 -- a version's value: its text is the log's entry, which is read as it
 pub record IsVersion (log : List (List ℕ)) (v : ℕ) (x : List Op) : Type 0 where
-  pub spells : entry log v ≡ text x
+  pub encodes : entry log v ≡ text x
   pub reads : ops_in (entry log v) ≡ x
 
 -- values are those of the versions from v on
@@ -53,8 +53,8 @@ module _ (log : List (List ℕ)) (fits : length log ≤ 2 ^ 62) (all : AllValues
   read_version v lt x e =
       let S = all v lt in
       let has = value_has_text v lt in
-      let same : S.changes ≡ x = same_value S.changes x (may_begin S.changes) (sym (ap where_it_may_begin (ap transaction_of S.spells ∙ transaction_again S.changes has)) ∙ e) in
-      record { spells = S.spells ∙ ap text same; reads = ap ops_in S.spells ∙ ops_again S.changes has ∙ same }
+      let same : S.changes ≡ x = same_value S.changes x (may_begin S.changes) (sym (ap if_it_may_begin (ap transaction_of S.encodes ∙ transaction_again S.changes has)) ∙ e) in
+      record { encodes = S.encodes ∙ ap text same; reads = ap ops_in S.encodes ∙ ops_again S.changes has ∙ same }
 
   pub held_version : (v : ℕ) → v < length log → (c : Cell) → MayHold log (suc v) c → (x : List Op) → transaction_in c ≡ Some x → IsVersion log (suc v) x
   held_version v lt c (inl none) x e = let g : None ≡ Some x = sym (ap transaction_in none) ∙ e in absurd cc
@@ -166,15 +166,15 @@ module _ (log : List (List ℕ)) (fits : length log ≤ 2 ^ 62) (all : AllValues
   changes_spare v lt =
       let V = (all v lt).value in
       let newer = value_spares (view_at log v) V.command V.asked V.newer V.made in
-      by_name ((all v lt).changes) (λ a k e. decides_same V.spelled a k ∙ at_name V.newer newer a k e)
+      by_name ((all v lt).changes) (λ a k e. decides_same V.encoded a k ∙ at_name V.newer newer a k e)
 
   pub version_spares : (v : ℕ) → v < length log → (x : List Op) → IsVersion log (suc v) x → Spares x
   version_spares v lt x V =
       let S = all v lt in
       let has = value_has_text log fits all v lt in
-      subst Spares (sym (ap ops_in S.spells ∙ ops_again S.changes has) ∙ V.reads) (changes_spare v lt)
+      subst Spares (sym (ap ops_in S.encodes ∙ ops_again S.changes has) ∙ V.reads) (changes_spare v lt)
 
-  pub versions_spare : (values : List (List Op)) (v : ℕ) → v + length values ≤ length log → AreVersions log (suc v) values → Spares (spelled (learn_changes (suc v) values))
+  pub versions_spare : (values : List (List Op)) (v : ℕ) → v + length values ≤ length log → AreVersions log (suc v) values → Spares (encoded (learn_changes (suc v) values))
   versions_spare [] v le h = by_name [] (λ a k e. refl)
   versions_spare (x ∷ values) v le h =
-      spares_append (ops_of (Learn (suc v) x)) (spelled (learn_changes (suc (suc v)) values)) (spares_learned (suc v) x (version_spares v (omega arith) x h.0)) (versions_spare values (suc v) (omega arith) h.1)
+      spares_append (ops_of (Learn (suc v) x)) (encoded (learn_changes (suc (suc v)) values)) (spares_learned (suc v) x (version_spares v (omega arith) x h.0)) (versions_spare values (suc v) (omega arith) h.1)

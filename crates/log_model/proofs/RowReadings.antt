@@ -11,19 +11,19 @@ use Rattle.mon_wire.specs.declared.reply.Reply.TheVariants as reply
 use Rattle.mon_wire.specs.declared.request.Service.{Service}
 use Rattle.mon_wire.specs.declared.request.Service.TheVariants.{Kv, Log}
 use Rattle.mon_msg.specs.Fold.{entry, map_after}
-use Rattle.mon_msg.specs.Protocol.Maps.{next_map, spelled_map, empty_map}
+use Rattle.mon_msg.specs.Protocol.Maps.{next_map, decoded_map, empty_map}
 use Rattle.mon_msg.specs.Protocol.Parts.{map_text}
 use Rattle.mon_msg.specs.Protocol.Services.{service_first, service_last, full_latest, read_on, full_map, read_map, kept_from}
 use Rattle.mon_msg.specs.Protocol.Reads.{changes_after, since}
 use Rattle.mon_msg.specs.Protocol.Readings.{Readings}
-use Rattle.log_model.specs.Windows.{service_from, within, is_full, where_any, row_after, first_read}
+use Rattle.log_model.specs.Windows.{service_from, within, is_full, if_any, row_after, first_read}
 use Rattle.log_model.proofs.MapSteps.{Chain, read_back, after_last}
 
 pub none_read : number_in None ≡ 0
 unfolding number_in
 none_read = refl
 
-pub first_number : (from : ℕ → ℕ) (n : ℕ) → from n ≤ 2 ^ 62 → number_in (where_any n (number_bytes (from n))) ≡ first_read from n
+pub first_number : (from : ℕ → ℕ) (n : ℕ) → from n ≤ 2 ^ 62 → number_in (if_any n (number_bytes (from n))) ≡ first_read from n
 first_number from zero h = none_read
 first_number from (suc n) h = number_in-bytes (from (suc n)) h
 
@@ -106,9 +106,9 @@ module _ (w : Readings) (s : Service) (is : List (List ℕ)) (row : IsRow w s is
         ap (option_and_then (next_map s (map_after s (take v is)))) (version_is (suc v) h (omega arith)) ∙ chain.next v (omega arith) in
         rw (step, read_on) (on_is count (suc v) (omega arith) (omega arith))
 
-    full_map_is : full_map w s ≡ option_and_then (spelled_map s) (w.row s (key.Full (25 * (length is / 25))))
+    full_map_is : full_map w s ≡ option_and_then (decoded_map s) (w.row s (key.Full (25 * (length is / 25))))
     full_map_is =
-        (λ i. cond (leb (latest_is i) (last_is i)) (option_and_then (spelled_map s) (w.row s (key.Full (latest_is i)))) None)
+        (λ i. cond (leb (latest_is i) (last_is i)) (option_and_then (decoded_map s) (w.row s (key.Full (latest_is i)))) None)
         ∙ cond-true (leb (25 * (length is / 25)) (length is)) _ _ (le-leb (25 * (length is / 25)) (length is) (omega arith))
 
     pub map_is : read_map w s ≡ map_after s is
@@ -118,11 +118,11 @@ module _ (w : Readings) (s : Service) (is : List (List ℕ)) (row : IsRow w s is
         few : length is < 25 → full_map w s ≡ None
         few lt =
             let z : 25 * (length is / 25) ≡ 0 = omega arith in
-            full_map_is ∙ ap (λ (v : ℕ). option_and_then (spelled_map s) (w.row s (key.Full v))) z ∙ ap (option_and_then (spelled_map s)) full_none
+            full_map_is ∙ ap (λ (v : ℕ). option_and_then (decoded_map s) (w.row s (key.Full v))) z ∙ ap (option_and_then (decoded_map s)) full_none
 
         some : 25 ≤ length is → full_map w s ≡ Some (map_after s (take (25 * (length is / 25)) is))
         some le =
-            full_map_is ∙ ap (option_and_then (spelled_map s)) (full_is (25 * (length is / 25)) (omega arith) (omega arith) (omega arith))
+            full_map_is ∙ ap (option_and_then (decoded_map s)) (full_is (25 * (length is / 25)) (omega arith) (omega arith) (omega arith))
             ∙ read_back s _ (chain.fine (25 * (length is / 25)) (omega arith))
 
         by : (length is < 25) ⊎ (25 ≤ length is) → read_map w s ≡ map_after s is

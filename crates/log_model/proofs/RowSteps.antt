@@ -8,7 +8,7 @@ use Rattle.mon_tx.specs.declared.key.Key.TheVariants.{FirstCommitted, LastCommit
 use Rattle.mon_tx.specs.Decision.{Cell}
 use Rattle.mon_tx.specs.Keys.{same_key, covers}
 use Rattle.mon_tx.specs.Map.{number_bytes}
-use Rattle.log_model.specs.Windows.{service_from, log_from, is_kept_key, within, is_full, where_any, service_row, first_read}
+use Rattle.log_model.specs.Windows.{service_from, log_from, is_kept_key, within, is_full, if_any, service_row, first_read}
 use Rattle.log_model.proofs.AreaEdits.{Edit, final, final_append}
 use Rattle.log_model.proofs.RuleEdits.{begun, new, full, trimmed, log_trimmed, service_edits}
 use Rattle.log_model.proofs.RuleCells.{first_high, first_rises, log_high, log_rises, trim_version, trim_full, trim_first, trim_other, new_version, new_first, new_last, new_other, full_other, full_full, full_latest, log_trim_version, log_trim_other, log_trim_first, log_begun_other, log_begun_version}
@@ -47,7 +47,7 @@ latest_step n = by (cases_eq (suc n % 25) 0) (cases_lt (suc n) 25)
     by (inr ne) (inl lt) = let h : n < 25 = omega arith in rw (ne_eqb (suc n % 25) 0 ne, lt-ltb (suc n) 25 lt, lt-ltb n 25 h) refl
     by (inr ne) (inr le) = let h : 25 ≤ n = omega arith in let q : n / 25 ≡ suc n / 25 = omega arith in rw (ne_eqb (suc n % 25) 0 ne, le-ltb (suc n) 25 le, le-ltb n 25 h, q) refl
 
-first_step : (n : ℕ) → cond (eqb (suc n) 1) (Some (number_bytes 1)) (where_any n (number_bytes (service_from n))) ≡ Some (number_bytes (service_from n))
+first_step : (n : ℕ) → cond (eqb (suc n) 1) (Some (number_bytes 1)) (if_any n (number_bytes (service_from n))) ≡ Some (number_bytes (service_from n))
 first_step zero = refl
 first_step (suc n) = rw (ne_eqb (suc (suc n)) 1 (λ e. omega arith)) refl
 
@@ -99,11 +99,11 @@ service_step n f g p q x t F P Floor = unnamed n x t Floor None (λ a b. refl) (
 abbrev pub log_after : ℕ → List ℕ → Key → Cell → Cell
 log_after c x k was = final (log_trimmed (first_read log_from c) c) k (final (begun c) k (cond (same_key k (Version (suc c))) (Some x) was))
 
-log_begins : (c : ℕ) → final (begun c) FirstCommitted (where_any c (number_bytes (log_from c))) ≡ Some (number_bytes (log_from c))
+log_begins : (c : ℕ) → final (begun c) FirstCommitted (if_any c (number_bytes (log_from c))) ≡ Some (number_bytes (log_from c))
 log_begins zero = refl
 log_begins (suc c) = rw (ne_eqb (suc c) 0 (λ e. omega arith)) refl
 
-pub log_first_step : (c : ℕ) (x : List ℕ) → log_after c x FirstCommitted (where_any c (number_bytes (log_from c))) ≡ where_any (suc c) (number_bytes (log_from (suc c)))
+pub log_first_step : (c : ℕ) (x : List ℕ) → log_after c x FirstCommitted (if_any c (number_bytes (log_from c))) ≡ if_any (suc c) (number_bytes (log_from (suc c)))
 log_first_step c x = ap (final (log_trimmed (first_read log_from c) c) FirstCommitted) (log_begins c) ∙ log_trim_first c
 
 pub log_version_step : (c v : ℕ) (f g : ℕ → List ℕ) (x : List ℕ) → Grows c f g x → (was : Cell) → (v ≤ c → was ≡ cond (within (log_from c) (suc c) v) (Some (f v)) None) → v ≤ suc c

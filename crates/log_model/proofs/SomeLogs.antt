@@ -49,7 +49,7 @@ module _ (log : List (List ℕ)) (fits : length log < 2 ^ 62) (all : AllValues l
   is_said = let e = ap (λ (m : ShownMap). made m 0 (command.Log [])) reads in rw e refl
 
   is_value : IsValue (view_at log (length log)) (said log)
-  is_value = record { command = command.Log []; form = is_utf8-from_IsUtf8 [] IsUtf8-nil; asked = 0; rank = omega arith; newer = said log; made = is_said; spelled = older_itself (said log) }
+  is_value = record { command = command.Log []; form = is_utf8-from_IsUtf8 [] IsUtf8-nil; asked = 0; rank = omega arith; newer = said log; made = is_said; encoded = older_itself (said log) }
 
   longer : AllValues (log ++ text (said log) ∷ [])
   longer = grown log fits all (view_at log (length log)) keeps (view_last log (length log) (omega arith)) (said log) is_value

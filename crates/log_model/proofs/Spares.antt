@@ -16,7 +16,7 @@ use Rattle.mon_tx.proofs.Named.{decided-put}
 use Rattle.mon_msg.specs.Puts.{put}
 use Rattle.mon_msg.specs.Protocol.Changes.{Change, Boot, Epoch, Numbers, Promise, Vote, Record, Learn, Last, Copy, Mark, Unmark, ops_of}
 use Rattle.mon_msg.specs.Protocol.Played.{play, played}
-use Rattle.mon_msg.specs.Protocol.Readings.{Readings, after, told_after, number_if_there, marks}
+use Rattle.mon_msg.specs.Protocol.Readings.{Readings, after, read_after, number_if_there, marks}
 
 -- they decide none of these keys
 pub record Spares (ops : List Op) : Type 0 where
@@ -96,8 +96,8 @@ spares_learned v value s = spares_append (put area.Paxos (key.Version v) (text v
 abbrev pub with_shared : Readings → Readings → Readings
 with_shared own other = record own { first = other.first; record_of = other.record_of; row = other.row }
 
-untold : {A : Type 0} (tell : Cell → A) (ops : List Op) (a : Area) (k : Key) (before : A) → decision ops (place a k) ≡ None → told_after tell ops a k before ≡ before
-untold tell ops a k before e = ap (λ (d : Decision). option_map_or tell d before) e
+untold : {A : Type 0} (of_cell : Cell → A) (ops : List Op) (a : Area) (k : Key) (before : A) → decision ops (place a k) ≡ None → read_after of_cell ops a k before ≡ before
+untold of_cell ops a k before e = ap (λ (d : Decision). option_map_or of_cell d before) e
 
 pub after_spared : (ops : List Op) (w : Readings) → Spares ops → after ops w ≡ with_shared w (after ops w)
 unfolding after

@@ -23,7 +23,7 @@ use Rattle.mon_msg.specs.Protocol.Records.{most_value}
 use Rattle.mon_msg.specs.Protocol.Rules.{service_to, paxos_to, value_ops}
 use Rattle.log_model.specs.LogOfValues.{one_by_one, IsOlder, none, same, range}
 use Rattle.log_model.specs.Windows.{service_from, log_from, is_full, first_read}
-use Rattle.log_model.proofs.AreaEdits.{Edit, Set, Drop, DropRange, spelled}
+use Rattle.log_model.proofs.AreaEdits.{Edit, Set, Drop, DropRange, encoded}
 use Rattle.log_model.proofs.Lists.{all_append}
 use Rattle.log_model.proofs.RuleEdits.{first_set, begun, new, full, full_drops, cut, trimmed, log_cut, log_trimmed, service_edits, value_is}
 use Rattle.log_model.proofs.MapSteps.{fine_short}
@@ -153,7 +153,7 @@ EditFits (Set k x) = KeyFits k × (length x < 2 ^ 32)
 EditFits (Drop k) = KeyFits k
 EditFits (DropRange from to) = (from < to) × (to ≤ 2 ^ 62)
 
-pub edits_fit : (a : Area) (es : List Edit) → AllByRecursion EditFits es → AllByRecursion OpFits (spelled a es)
+pub edits_fit : (a : Area) (es : List Edit) → AllByRecursion EditFits es → AllByRecursion OpFits (encoded a es)
 edits_fit a [] h = tt
 edits_fit a (Set k x ∷ es) h = ((area_prefix a, key_name k h.0.0, h.0.1), edits_fit a es h.1)
 edits_fit a (Drop k ∷ es) h = ((area_prefix a, key_name k h.0), edits_fit a es h.1)
@@ -168,7 +168,7 @@ abbrev pub edits_weight : List Edit → ℕ
 edits_weight [] = 0
 edits_weight (e ∷ es) = edit_weight e + edits_weight es
 
-pub edits_total : (a : Area) (es : List Edit) → AllByRecursion EditFits es → total (spelled a es) ≤ edits_weight es
+pub edits_total : (a : Area) (es : List Edit) → AllByRecursion EditFits es → total (encoded a es) ≤ edits_weight es
 edits_total a [] h = omega arith
 edits_total a (Set k x ∷ es) h = omega (arith, edits_total a es h.1, area_length a, key_length k h.0.0)
 edits_total a (Drop k ∷ es) h = omega (arith, edits_total a es h.1, area_length a, key_length k h.0)
@@ -262,7 +262,7 @@ module _ (first last : ℕ) (a : Area) (n service_first : ℕ) (x t : List ℕ) 
   edits = service_edits n service_first x t
 
   abbrev parts : List Op
-  parts = spelled area.Paxos (begun last) ++ (spelled a edits ++ spelled area.Paxos (log_trimmed first last))
+  parts = encoded area.Paxos (begun last) ++ (encoded a edits ++ encoded area.Paxos (log_trimmed first last))
 
   parts_are : newer ≡ parts
   parts_are = is ∙ value_is first last a n service_first x t
@@ -275,8 +275,8 @@ module _ (first last : ℕ) (a : Area) (n service_first : ℕ) (x t : List ℕ) 
 
   parts_fit : AllByRecursion OpFits parts
   parts_fit =
-      all_append OpFits (spelled area.Paxos (begun last)) _ (edits_fit area.Paxos (begun last) (light_begun last).fits)
-      (all_append OpFits (spelled a edits) (spelled area.Paxos (log_trimmed first last)) (edits_fit a edits own.fits) (edits_fit area.Paxos (log_trimmed first last) log_edits.fits))
+      all_append OpFits (encoded area.Paxos (begun last)) _ (edits_fit area.Paxos (begun last) (light_begun last).fits)
+      (all_append OpFits (encoded a edits) (encoded area.Paxos (log_trimmed first last)) (edits_fit a edits own.fits) (edits_fit area.Paxos (log_trimmed first last) log_edits.fits))
 
   parts_total : total parts ≤ 83304 + full_cost n
   parts_total =
@@ -285,8 +285,8 @@ module _ (first last : ℕ) (a : Area) (n service_first : ℕ) (x t : List ℕ) 
       let l = log_edits.light in
       omega (
         arith,
-        total-append (spelled area.Paxos (begun last)) (spelled a edits ++ spelled area.Paxos (log_trimmed first last)),
-        total-append (spelled a edits) (spelled area.Paxos (log_trimmed first last)),
+        total-append (encoded area.Paxos (begun last)) (encoded a edits ++ encoded area.Paxos (log_trimmed first last)),
+        total-append (encoded a edits) (encoded area.Paxos (log_trimmed first last)),
         edits_total area.Paxos (begun last) (light_begun last).fits,
         edits_total a edits own.fits,
         edits_total area.Paxos (log_trimmed first last) log_edits.fits,

@@ -7,7 +7,7 @@ use Rattle.std.specs.FinMap.Entries.{below_all}
 use Rattle.std.specs.Ordering.{is_lt}
 use Rattle.std.specs.Str.{is_utf8}
 use Rattle.mon_bytes.specs.declared.command.MapRefused.TheVariants as refused
-use Rattle.mon_bytes.specs.Reading.{Reading, moved, number, front}
+use Rattle.mon_bytes.specs.Reading.{Reading, moved, number, next_bytes}
 use Rattle.mon_bytes.specs.Texts.{is_name}
 use Rattle.mon_bytes.specs.Forms.{◌>>=◌, fitted, text_at, ended}
 use Rattle.mon_bytes.proofs.Fields.{guard_ok, chosen_ok, ok_is}
@@ -28,7 +28,7 @@ use Rattle.map_log.proofs.Lengths as log_lengths
 abbrev Drawn : Reading → ℕ → Reading → Type 0
 Drawn c n after = length c.rest ≡ n + length after.rest
 
-front_drawn : (n : ℕ) (c : Reading) (x : List ℕ × Reading) → front n c ≡ Ok x → Drawn c (length x.0) x.1
+front_drawn : (n : ℕ) (c : Reading) (x : List ℕ × Reading) → next_bytes n c ≡ Ok x → Drawn c (length x.0) x.1
 front_drawn n c x e =
     let g = guard_ok (ltb (length c.rest) n) (record { at = c.at }) (Ok (take n c.rest, moved n c)) x e in
     let long = ltb-false _ _ g.0 in
@@ -43,24 +43,24 @@ number_drawn k c x e =
 name_drawn : (c : Reading) (x : List ℕ × Reading) → name_at c ≡ Ok x → Drawn c (1 + length x.0) x.1
 unfolding name_at
 name_drawn c x e =
-    let a = bind_ok (fitted (number 1 c)) (λ n. cond (eqb n.0 0) (Err (refused.Form c.at)) (fitted (front n.0 n.1) >>= λ bytes. cond (is_name bytes.0) (Ok bytes) (Err (refused.Form n.1.at)))) x e in
+    let a = bind_ok (fitted (number 1 c)) (λ n. cond (eqb n.0 0) (Err (refused.Form c.at)) (fitted (next_bytes n.0 n.1) >>= λ bytes. cond (is_name bytes.0) (Ok bytes) (Err (refused.Form n.1.at)))) x e in
     let n = a.0 in
-    let some = guard_ok (eqb n.0 0) (refused.Form c.at) (fitted (front n.0 n.1) >>= λ bytes. cond (is_name bytes.0) (Ok bytes) (Err (refused.Form n.1.at))) x a.2 in
-    let b = bind_ok (fitted (front n.0 n.1)) (λ bytes. cond (is_name bytes.0) (Ok bytes) (Err (refused.Form n.1.at))) x some.1 in
+    let some = guard_ok (eqb n.0 0) (refused.Form c.at) (fitted (next_bytes n.0 n.1) >>= λ bytes. cond (is_name bytes.0) (Ok bytes) (Err (refused.Form n.1.at))) x a.2 in
+    let b = bind_ok (fitted (next_bytes n.0 n.1)) (λ bytes. cond (is_name bytes.0) (Ok bytes) (Err (refused.Form n.1.at))) x some.1 in
     let g = chosen_ok (is_name b.0.0) (refused.Form n.1.at) (Ok b.0) x b.2 in
     let first = number_drawn 1 c n (fitted_ok (number 1 c) n a.1) in
-    let second = front_drawn n.0 n.1 b.0 (fitted_ok (front n.0 n.1) b.0 b.1) in
+    let second = front_drawn n.0 n.1 b.0 (fitted_ok (next_bytes n.0 n.1) b.0 b.1) in
     subst (λ (p : List ℕ × Reading). Drawn c (1 + length p.0) p.1) (ok_is b.0 x g.1) (omega (arith, first, second))
 
 text_drawn : (c : Reading) (x : List ℕ × Reading) → text_at c ≡ Ok x → Drawn c (4 + length x.0) x.1
 unfolding text_at
 text_drawn c x e =
-    let a = bind_ok (fitted (number 4 c)) (λ n. fitted (front n.0 n.1) >>= λ bytes. cond (is_utf8 bytes.0) (Ok bytes) (Err (refused.Form n.1.at))) x e in
+    let a = bind_ok (fitted (number 4 c)) (λ n. fitted (next_bytes n.0 n.1) >>= λ bytes. cond (is_utf8 bytes.0) (Ok bytes) (Err (refused.Form n.1.at))) x e in
     let n = a.0 in
-    let b = bind_ok (fitted (front n.0 n.1)) (λ bytes. cond (is_utf8 bytes.0) (Ok bytes) (Err (refused.Form n.1.at))) x a.2 in
+    let b = bind_ok (fitted (next_bytes n.0 n.1)) (λ bytes. cond (is_utf8 bytes.0) (Ok bytes) (Err (refused.Form n.1.at))) x a.2 in
     let g = chosen_ok (is_utf8 b.0.0) (refused.Form n.1.at) (Ok b.0) x b.2 in
     let first = number_drawn 4 c n (fitted_ok (number 4 c) n a.1) in
-    let second = front_drawn n.0 n.1 b.0 (fitted_ok (front n.0 n.1) b.0 b.1) in
+    let second = front_drawn n.0 n.1 b.0 (fitted_ok (next_bytes n.0 n.1) b.0 b.1) in
     subst (λ (p : List ℕ × Reading). Drawn c (4 + length p.0) p.1) (ok_is b.0 x g.1) (omega (arith, first, second))
 
 key_drawn : (before : List ℕ) (c : Reading) (x : List ℕ × Reading) → key_at before c ≡ Ok x → Drawn c (1 + length x.0) x.1

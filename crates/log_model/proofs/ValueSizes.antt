@@ -74,6 +74,6 @@ any_text w older V at room = by (made (read_map w (service_of V.command)) V.aske
         let is : V.newer ≡ value_of w (service_of V.command) x next = cc in
         let short = made_short V.command V.asked (read_map w (service_of V.command)) (x, next) V.form (most_short V.command _ (read_map_short w (service_of V.command))) p in
         let s = service_of V.command in (
-          value_text w.first w.last (area_of s) (suc (service_last w s)) (service_first w s) x (map_text next) V.newer is at room short.0 short.1 older V.spelled,
-          value_short w.first w.last (area_of s) (suc (service_last w s)) (service_first w s) x (map_text next) V.newer is at room short.0 short.1 older V.spelled,
+          value_text w.first w.last (area_of s) (suc (service_last w s)) (service_first w s) x (map_text next) V.newer is at room short.0 short.1 older V.encoded,
+          value_short w.first w.last (area_of s) (suc (service_last w s)) (service_first w s) x (map_text next) V.newer is at room short.0 short.1 older V.encoded,
         )

@@ -25,8 +25,8 @@ use Rattle.mon_msg.specs.Protocol.Value.{service_of, made, value_of, value}
 use Rattle.mon_msg.specs.Protocol.Readings.{Readings, after}
 use Rattle.mon_msg.proofs.Afterwards.{told}
 use Rattle.log_model.specs.LogOfValues.{IsOlder, same, IsValue}
-use Rattle.log_model.specs.Windows.{service_from, log_from, is_kept_key, where_any, service_row, row_after, record_after, first_read, Keeps}
-use Rattle.log_model.proofs.AreaEdits.{Edit, Set, spelled, final, cell_after-append, cell_here, cell_elsewhere}
+use Rattle.log_model.specs.Windows.{service_from, log_from, is_kept_key, if_any, service_row, row_after, record_after, first_read, Keeps}
+use Rattle.log_model.proofs.AreaEdits.{Edit, Set, encoded, final, cell_after-append, cell_here, cell_elsewhere}
 use Rattle.log_model.proofs.RuleEdits.{begun, log_trimmed, service_edits, value_is}
 use Rattle.log_model.proofs.RowSteps.{next_edits, service_step, log_after, log_first_step, log_version_step, log_behind, log_other_step}
 use Rattle.log_model.proofs.Older.{decides_same, puts_same}
@@ -41,18 +41,18 @@ module _ (s : Service) (first last n service_first : ℕ) (x t bytes : List ℕ)
   learned = put area.Paxos (key.Version (suc last)) bytes ∷ value_ops first last (area_of s) n service_first x t
 
   abbrev own : List Op
-  own = spelled (area_of s) (service_edits n service_first x t)
+  own = encoded (area_of s) (service_edits n service_first x t)
 
   abbrev record_set : List Edit
   record_set = Set (key.Version (suc last)) bytes ∷ []
 
   in_parts : (b : Area) (k : Key) (c : Cell)
-      → cell_after learned b k c ≡ cell_after (spelled area.Paxos (log_trimmed first last)) b k (cell_after own b k (cell_after (spelled area.Paxos (begun last)) b k (cell_after (spelled area.Paxos record_set) b k c)))
+      → cell_after learned b k c ≡ cell_after (encoded area.Paxos (log_trimmed first last)) b k (cell_after own b k (cell_after (encoded area.Paxos (begun last)) b k (cell_after (encoded area.Paxos record_set) b k c)))
   in_parts b k c =
-      cell_after-append (spelled area.Paxos record_set) (value_ops first last (area_of s) n service_first x t) b k c
-      ∙ ap (λ ops. cell_after ops b k (cell_after (spelled area.Paxos record_set) b k c)) (value_is first last (area_of s) n service_first x t)
-      ∙ cell_after-append (spelled area.Paxos (begun last)) (own ++ spelled area.Paxos (log_trimmed first last)) b k _
-      ∙ cell_after-append own (spelled area.Paxos (log_trimmed first last)) b k _
+      cell_after-append (encoded area.Paxos record_set) (value_ops first last (area_of s) n service_first x t) b k c
+      ∙ ap (λ ops. cell_after ops b k (cell_after (encoded area.Paxos record_set) b k c)) (value_is first last (area_of s) n service_first x t)
+      ∙ cell_after-append (encoded area.Paxos (begun last)) (own ++ encoded area.Paxos (log_trimmed first last)) b k _
+      ∙ cell_after-append own (encoded area.Paxos (log_trimmed first last)) b k _
 
   apart : (u : Service) → same_area (area_of u) area.Paxos ≡ false
   apart Kv = refl
@@ -152,12 +152,12 @@ itself : (s : Service) → same_area (area_of s) (area_of s) ≡ true
 itself Kv = refl
 itself Log = refl
 
-module _ (log : List (List ℕ)) (c : ℕ) (older newer : List Op) (spelled : IsOlder newer older) (N : Next log c newer) (spells : ops_in (entry log (suc c)) ≡ older) where
+module _ (log : List (List ℕ)) (c : ℕ) (older newer : List Op) (encoded : IsOlder newer older) (N : Next log c newer) (encodes : ops_in (entry log (suc c)) ≡ older) where
   pub incrementals_more : (u : Service) → incrementals u log (suc c) ≡ incrementals u log c ++ cond (same_area (area_of N.service) (area_of u)) (N.incremental ∷ []) []
   unfolding incrementals
   incrementals_more u =
       ap (λ (z : List (List ℕ)). incrementals u log c ++ z)
-      (ap (put_in u) spells ∙ puts_same spelled u ∙ ap (put_in u) N.ops ∙ puts_value u (area_of N.service) (first_read log_from c) c _ _ N.incremental (map_text N.map))
+      (ap (put_in u) encodes ∙ puts_same encoded u ∙ ap (put_in u) N.ops ∙ puts_value u (area_of N.service) (first_read log_from c) c _ _ N.incremental (map_text N.map))
 
   own_more : incrementals N.service log (suc c) ≡ incrementals N.service log c ++ N.incremental ∷ []
   own_more = incrementals_more N.service ∙ ap (λ (b : Bool). incrementals N.service log c ++ cond b (N.incremental ∷ []) []) (itself N.service)
@@ -211,7 +211,7 @@ module _ (log : List (List ℕ)) (c : ℕ) (older newer : List Op) (spelled : Is
 
   as_newer : (b : Area) (k : Key) → decision with_record (place b k) ≡ decision (learned N.service (first_read log_from c) c (suc n) (first_read service_from n) N.incremental (map_text N.map) (entry log (suc c))) (place b k)
   as_newer b k =
-      decides_same (same (put area.Paxos (key.Version (suc c)) (entry log (suc c))) spelled) b k
+      decides_same (same (put area.Paxos (key.Version (suc c)) (entry log (suc c))) encoded) b k
       ∙ ap (λ (ops : List Op). decision (put area.Paxos (key.Version (suc c)) (entry log (suc c)) ∷ ops) (place b k)) N.ops
 
   at_cell : (b : Area) (k : Key) (was : Cell) → cell_after with_record b k was ≡ cell_after (learned N.service (first_read log_from c) c (suc n) (first_read service_from n) N.incremental (map_text N.map) (entry log (suc c))) b k was
@@ -269,8 +269,8 @@ module _ (log : List (List ℕ)) (c : ℕ) (older newer : List Op) (spelled : Is
           let low : log_from c ≤ 2 ^ 62 = omega arith in
           let high : log_from (suc c) ≤ 2 ^ 62 = omega arith in
           ap (number_after with_record area.Paxos key.FirstCommitted) (K.first ∙ sym (first_number log_from c low))
-          ∙ sym (told number_in (decision with_record (place area.Paxos key.FirstCommitted)) (where_any c (number_bytes (log_from c))))
-          ∙ ap number_in (log_cell_is key.FirstCommitted (where_any c (number_bytes (log_from c))) ∙ log_first_step c (entry log (suc c)))
+          ∙ sym (told number_in (decision with_record (place area.Paxos key.FirstCommitted)) (if_any c (number_bytes (log_from c))))
+          ∙ ap number_in (log_cell_is key.FirstCommitted (if_any c (number_bytes (log_from c))) ∙ log_first_step c (entry log (suc c)))
           ∙ first_number log_from (suc c) high
 
       records : (v : ℕ) → v ≤ suc c → cell_after with_record area.Paxos (key.Version v) (w.record_of v) ≡ record_after log (suc c) v

@@ -48,16 +48,16 @@ pub record IsValue (w : Readings) (older : List Op) : Type 0 where
   pub rank : asked ≤ 14
   pub newer : List Op
   pub made : value w command asked ≡ Ok newer
-  pub spelled : IsOlder newer older
+  pub encoded : IsOlder newer older
 
 -- version v + 1 of a log encodes a value over the result of the versions before it
-pub record SpellsValue (log : List (List ℕ)) (v : ℕ) : Type 0 where
+pub record EncodesValue (log : List (List ℕ)) (v : ℕ) : Type 0 where
   pub changes : List Op
   pub value : IsValue (view_at log v) changes
-  pub spells : entry log (suc v) ≡ text changes
+  pub encodes : entry log (suc v) ≡ text changes
 
 abbrev pub AllValues : List (List ℕ) → Type 0
-AllValues log = (v : ℕ) → v < length log → SpellsValue log v
+AllValues log = (v : ℕ) → v < length log → EncodesValue log v
 
 -- such a log of n versions
 pub record LogOf (n : ℕ) : Type 0 where

@@ -43,15 +43,15 @@ is_full v = v % FULL_EVERY == 0
 -- ---- what is kept
 
 -- the bytes if there is a version, and nothing if there is none
-abbrev pub where_any : ℕ → List ℕ → Cell
-where_any zero bytes = None
-where_any (suc n) bytes = Some bytes
+abbrev pub if_any : ℕ → List ℕ → Cell
+if_any zero bytes = None
+if_any (suc n) bytes = Some bytes
 
 -- What a service with n versions keeps under each key. `incremental` and `full` give the bytes of a version's
 -- incremental and of the map after it.
 abbrev pub service_row : ℕ → (incremental full : ℕ → List ℕ) → Key → Cell
-service_row n incremental full key.FirstCommitted = where_any n (number_bytes (service_from n))
-service_row n incremental full key.LastCommitted = where_any n (number_bytes n)
+service_row n incremental full key.FirstCommitted = if_any n (number_bytes (service_from n))
+service_row n incremental full key.LastCommitted = if_any n (number_bytes n)
 service_row n incremental full key.FullLatest = if nat_lt n FULL_EVERY then None else Some (number_bytes (FULL_EVERY * (n / FULL_EVERY)))
 service_row n incremental full (key.Version v) = if within (service_from n) (suc n) v then Some (incremental v) else None
 service_row n incremental full (key.Full v) = if within (service_from n) (suc n) v && is_full v then Some (full v) else None

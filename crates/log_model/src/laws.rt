@@ -11,7 +11,7 @@ ghost use Rattle.mon_tx.specs.Map.{Place, place_cmp, Store, apply};
 ghost use Rattle.mon_tx.specs.Text.{text};
 ghost use Rattle.mon_msg.specs.Puts.{put, put_number};
 ghost use Rattle.mon_msg.specs.Fold.{entry, fold};
-ghost use Rattle.mon_msg.specs.Protocol.Services.{service_last, may_tell};
+ghost use Rattle.mon_msg.specs.Protocol.Services.{service_last, fits_reply};
 ghost use Rattle.mon_msg.specs.Protocol.Records.{longest, most_value};
 ghost use Rattle.mon_msg.specs.Protocol.Value.{service_of};
 ghost use Rattle.mon_msg.specs.Protocol.Readings.{Readings, readings_of, after};
@@ -66,7 +66,7 @@ pub fn law_shown()
         → Keeps log c w → Shows log c w }
     ensures shared { (log : List (List ℕ)) → length log ≤ 2 ^ 62 → AllValues log → (c : ℕ) → c ≤ length log → (m : Store)
         → shared m ≡ fold log c → Shows log c (readings_of m) }
-    ensures first { (incrementals : List (List ℕ)) → longest may_tell incrementals ≡ take (length (longest may_tell incrementals)) incrementals }
+    ensures first { (incrementals : List (List ℕ)) → longest fits_reply incrementals ≡ take (length (longest fits_reply incrementals)) incrementals }
     ensures more { (incrementals : List (List ℕ)) (v told : ℕ)
         → IsTrue (nat_lt told (length (drop v incrementals))) ↔ (v + told < length incrementals) }
 {}

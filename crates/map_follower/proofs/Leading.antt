@@ -5,7 +5,7 @@ use Rattle.std.proofs.Math.Seq.{take-append_seam, take-append-add, take-length}
 use Rattle.std.specs.Prelude.{IfErr, IfSome, OnOk}
 use Rattle.std.specs.Option.{option_map}
 use Rattle.mon_frag.specs.declared.partial.Partial.{Partial}
-use Rattle.mon_link.specs.Links.{Told, asked_to_send, next_leaves}
+use Rattle.mon_link.specs.Links.{Observed, asked_to_send, next_leaves}
 use Rattle.mon_link.specs.declared.link.Got.{Got}
 use Rattle.mon_link.specs.declared.link.Got.TheVariants.{Datagram, Idle}
 use Rattle.mon_link.specs.declared.link.Peer.{Peer}
@@ -13,16 +13,16 @@ use Rattle.mon_types.specs.declared.names.Stop.{Stop}
 use Rattle.mon_types.specs.declared.names.Stop.TheVariants as stop
 use Rattle.mon_wire.specs.declared.reply.Reply.{Reply}
 use Rattle.map_follower.specs.Copies.{taken}
-use Rattle.map_follower.specs.Turns.{CopyAt, Course, Turned, Does, Ends, EndsAfter, Follows, AreAnswers, IsAnswer, SentPrefix, WrittenPrefix, Writes, WritesPrefix, all_turned, and_turned, answered, asked, goes_on, line_of, turned, with_datagram, with_reply}
+use Rattle.map_follower.specs.Iterations.{CopyAt, Course, Iterated, Does, Ends, EndsAfter, Follows, AreAnswers, IsAnswer, SentPrefix, WrittenPrefix, Writes, WritesPrefix, all_turned, and_turned, answered, asked, goes_on, line_of, turned, with_datagram, with_reply}
 use Rattle.map_follower.specs.declared.end.FollowEnd.{FollowEnd}
 use Rattle.map_follower.specs.declared.end.FollowEnd.TheVariants as end
 use Rattle.map_follower.specs.declared.follower.Follower.{Follower}
 
-pub same_sent : (l : Option Told) → SentPrefix l l l
+pub same_sent : (l : Option Observed) → SentPrefix l l l
 same_sent None = (0, tt, refl)
 same_sent (Some t) = (length t.sent, le_refl (length t.sent), λ i. Some (record t { sent = sym (take-length t.sent) i }))
 
-pub not_sent : (to : Peer) (bytes : List ℕ) (l : Option Told) → SentPrefix l (option_map (asked_to_send to bytes) l) l
+pub not_sent : (to : Peer) (bytes : List ℕ) (l : Option Observed) → SentPrefix l (option_map (asked_to_send to bytes) l) l
 not_sent to bytes None = (0, tt, refl)
 not_sent to bytes (Some t) = (length t.sent, le_refl (length t.sent), λ i. Some (record t { sent = sym (take-append_seam t.sent (record { to = to; bytes = bytes } ∷ [])) i }))
 
@@ -59,58 +59,58 @@ does_reply (Err end.Closed) parts c r f w is copy text front = absurd front
 does_reply (Err end.TurnsUsed) parts c r f w is copy text front = absurd front
 does_reply (Err end.LinkFault) parts c r f w is copy text front = absurd front
 
--- ---- turns
+-- ---- iterations
 
 -- a wait of the link sends nothing
-waits_alone : (g : Result Got Stop) (l : Option Told) (k : ℕ) → IfSome (option_map (next_leaves 1000 g) l) (λ t. length t.sent ≤ k) → IfSome l (λ t. length t.sent ≤ k)
+waits_alone : (g : Result Got Stop) (l : Option Observed) (k : ℕ) → IfSome (option_map (next_leaves 1000 g) l) (λ t. length t.sent ≤ k) → IfSome l (λ t. length t.sent ≤ k)
 waits_alone g None k h = tt
 waits_alone (Ok got) (Some t) k h = h
 waits_alone (Err stop.Failed) (Some t) k h = h
 waits_alone (Err stop.OutOfMemory) (Some t) k h = h
 
-sent_before : (g : Result Got Stop) (l told whole new : Option Told) → told ≡ option_map (next_leaves 1000 g) l → SentPrefix told whole new → SentPrefix l whole new
-sent_before g l told whole new leaves p = (p.0, waits_alone g l p.0 (subst (λ x. IfSome x (λ t. length t.sent ≤ p.0)) leaves p.1), p.2)
+sent_before : (g : Result Got Stop) (l updates whole new : Option Observed) → updates ≡ option_map (next_leaves 1000 g) l → SentPrefix updates whole new → SentPrefix l whole new
+sent_before g l updates whole new leaves p = (p.0, waits_alone g l p.0 (subst (λ x. IfSome x (λ t. length t.sent ≤ p.0)) leaves p.1), p.2)
 
 -- what is done after the wait is done in the iteration
-asked_before : (r : Result (Unit {0}) FollowEnd) (g : Result Got Stop) (old : Course) (told : Option Told) → told ≡ option_map (next_leaves 1000 g) old.link
-    → (t : Turned) (new : Course) → Does r (record old { link = told }) t new → Does r old t new
-asked_before (Ok x) g old told leaves t new h = h
-asked_before (Err end.WriteFault) g old told leaves t new h = h
-asked_before (Err end.OutOfMemory) g old told leaves t new h = (h.0, (sent_before g old.link told t.course.link new.link leaves h.1.0, h.1.1))
-asked_before (Err end.Closed) g old told leaves t new h = h
-asked_before (Err end.LinkFault) g old told leaves t new h = h
-asked_before (Err end.TurnsUsed) g old told leaves t new h = absurd h.1
+asked_before : (r : Result (Unit {0}) FollowEnd) (g : Result Got Stop) (old : Course) (updates : Option Observed) → updates ≡ option_map (next_leaves 1000 g) old.link
+    → (t : Iterated) (new : Course) → Does r (record old { link = updates }) t new → Does r old t new
+asked_before (Ok x) g old updates leaves t new h = h
+asked_before (Err end.WriteFault) g old updates leaves t new h = h
+asked_before (Err end.OutOfMemory) g old updates leaves t new h = (h.0, (sent_before g old.link updates t.course.link new.link leaves h.1.0, h.1.1))
+asked_before (Err end.Closed) g old updates leaves t new h = h
+asked_before (Err end.LinkFault) g old updates leaves t new h = h
+asked_before (Err end.TurnsUsed) g old updates leaves t new h = absurd h.1
 
-pub turn_with : (n : ℕ) (r : Result (Unit {0}) FollowEnd) (g : Result Got Stop) (from : Peer) (bytes shown : List ℕ) → g ≡ Ok (Datagram from bytes) → shown ≡ bytes
-    → (old : Course) (told : Option Told) → told ≡ option_map (next_leaves 1000 g) old.link → (new : Course)
-    → Does r (record old { link = told }) (goes_on (with_datagram n from shown (record old { link = told }))) new → Does r old (turned n g old) new
-turn_with n r g from bytes shown is same old told leaves new does =
+pub iteration_with : (n : ℕ) (r : Result (Unit {0}) FollowEnd) (g : Result Got Stop) (from : Peer) (bytes shown : List ℕ) → g ≡ Ok (Datagram from bytes) → shown ≡ bytes
+    → (old : Course) (updates : Option Observed) → updates ≡ option_map (next_leaves 1000 g) old.link → (new : Course)
+    → Does r (record old { link = updates }) (goes_on (with_datagram n from shown (record old { link = updates }))) new → Does r old (turned n g old) new
+iteration_with n r g from bytes shown is same old updates leaves new does =
     subst (λ l. Does r old (answered n g (record old { link = l })) new) leaves
-    (subst (λ z. Does r old (answered n z (record old { link = told })) new) (sym is)
-    (subst (λ b. Does r old (goes_on (with_datagram n from b (record old { link = told }))) new) same
-    (asked_before r g old told leaves (goes_on (with_datagram n from shown (record old { link = told }))) new does)))
+    (subst (λ z. Does r old (answered n z (record old { link = updates })) new) (sym is)
+    (subst (λ b. Does r old (goes_on (with_datagram n from b (record old { link = updates }))) new) same
+    (asked_before r g old updates leaves (goes_on (with_datagram n from shown (record old { link = updates }))) new does)))
 
-pub turn_idle : (n : ℕ) (r : Result (Unit {0}) FollowEnd) (g : Result Got Stop) → g ≡ Ok Idle
-    → (old : Course) (told : Option Told) → told ≡ option_map (next_leaves 1000 g) old.link → (new : Course)
-    → Does r (record old { link = told }) (goes_on (asked n (record old { link = told }))) new → Does r old (turned n g old) new
-turn_idle n r g is old told leaves new does =
+pub iteration_idle : (n : ℕ) (r : Result (Unit {0}) FollowEnd) (g : Result Got Stop) → g ≡ Ok Idle
+    → (old : Course) (updates : Option Observed) → updates ≡ option_map (next_leaves 1000 g) old.link → (new : Course)
+    → Does r (record old { link = updates }) (goes_on (asked n (record old { link = updates }))) new → Does r old (turned n g old) new
+iteration_idle n r g is old updates leaves new does =
     subst (λ l. Does r old (answered n g (record old { link = l })) new) leaves
-    (subst (λ z. Does r old (answered n z (record old { link = told })) new) (sym is)
-    (asked_before r g old told leaves (goes_on (asked n (record old { link = told }))) new does))
+    (subst (λ z. Does r old (answered n z (record old { link = updates })) new) (sym is)
+    (asked_before r g old updates leaves (goes_on (asked n (record old { link = updates }))) new does))
 
-out_sent : (l : Option Told) → SentPrefix l (option_map (next_leaves 1000 (Err stop.OutOfMemory)) l) (option_map (next_leaves 1000 (Err stop.OutOfMemory)) l)
+out_sent : (l : Option Observed) → SentPrefix l (option_map (next_leaves 1000 (Err stop.OutOfMemory)) l) (option_map (next_leaves 1000 (Err stop.OutOfMemory)) l)
 out_sent None = same_sent None
 out_sent (Some t) = same_sent (Some t)
 
-pub turn_out : (n : ℕ) (g : Result Got Stop) → g ≡ Err stop.OutOfMemory → (old : Course) (told : Option Told) → told ≡ option_map (next_leaves 1000 g) old.link
-    → SentPrefix old.link (turned n g old).course.link told × WrittenPrefix old.written (turned n g old).course.written old.written
-turn_out n g is old told leaves =
-    subst (λ z. SentPrefix old.link (turned n z old).course.link told × WrittenPrefix old.written (turned n z old).course.written old.written) (sym is) (
+pub iteration_out : (n : ℕ) (g : Result Got Stop) → g ≡ Err stop.OutOfMemory → (old : Course) (updates : Option Observed) → updates ≡ option_map (next_leaves 1000 g) old.link
+    → SentPrefix old.link (turned n g old).course.link updates × WrittenPrefix old.written (turned n g old).course.written old.written
+iteration_out n g is old updates leaves =
+    subst (λ z. SentPrefix old.link (turned n z old).course.link updates × WrittenPrefix old.written (turned n z old).course.written old.written) (sym is) (
       subst (SentPrefix old.link (option_map (next_leaves 1000 (Err stop.OutOfMemory)) old.link)) (sym (leaves ∙ ap (λ z. option_map (next_leaves 1000 z) old.link) is)) (out_sent old.link),
       same_written old.written,
     )
 
-pub ends_after : (turns made : ℕ) (e : FollowEnd) (before : Course) (t : Turned) (new : Course) → Ends e before t new → EndsAfter turns e made before t new
+pub ends_after : (turns made : ℕ) (e : FollowEnd) (before : Course) (t : Iterated) (new : Course) → Ends e before t new → EndsAfter turns e made before t new
 ends_after turns made end.WriteFault before t new h = h
 ends_after turns made end.OutOfMemory before t new h = h
 ends_after turns made end.Closed before t new h = h
@@ -132,7 +132,7 @@ module _ (n made : ℕ) (old now : Course) (L : Leads n made old now) (g : Resul
   one_more = ap (and_turned n g) L.leads
 
   are_more : AreAnswers n old (g ∷ L.given)
-  are_more = (L.are, subst (λ (t : Turned). IsAnswer t.course.link g) (sym L.leads) answer)
+  are_more = (L.are, subst (λ (t : Iterated). IsAnswer t.course.link g) (sym L.leads) answer)
 
   pub leads_on : (next : Course) → turned n g now ≡ goes_on next → Leads n (made + 1) old next
   leads_on next h = record { given = g ∷ L.given; are = are_more; long = omega (arith, L.long); leads = one_more ∙ h }
@@ -144,8 +144,8 @@ module _ (n made : ℕ) (old now : Course) (L : Leads n made old now) (g : Resul
     most = omega (arith, L.long, few);
     ends =
         ends_after turns (length (g ∷ L.given)) e _ _ new
-        (subst (λ (t : Turned). Ends e (all_turned n old L.given).course t new) (sym one_more)
-        (subst (λ (c : Course). Ends e c (turned n g now) new) (sym (ap (λ (t : Turned). t.course) L.leads)) h));
+        (subst (λ (t : Iterated). Ends e (all_turned n old L.given).course t new) (sym one_more)
+        (subst (λ (c : Course). Ends e c (turned n g now) new) (sym (ap (λ (t : Iterated). t.course) L.leads)) h));
   }
 
 pub ends_first : (n turns : ℕ) (e : FollowEnd) (old new : Course) → Ends e old (goes_on (asked n old)) new → Follows n turns old new e

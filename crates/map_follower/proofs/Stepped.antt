@@ -8,21 +8,21 @@ use Rattle.map_follower.specs.Stepping.{Gives, Steps}
 use Rattle.map_follower.specs.declared.stepping.Unapplied.{Unapplied}
 use Rattle.map_follower.specs.declared.stepping.Unapplied.TheVariants.{Bad, OutOfMemory}
 
-module _ (told : List (List ℕ)) (i place : ℕ) (m : ShownMap) (bytes : List ℕ) (there : drop i told ≡ bytes ∷ drop (i + 1) told) where
-  first_step : applied_from place m (drop i told) ≡ step_then place (λ next. applied_from (suc place) next (drop (i + 1) told)) (with_incremental m bytes)
+module _ (updates : List (List ℕ)) (i place : ℕ) (m : ShownMap) (bytes : List ℕ) (there : drop i updates ≡ bytes ∷ drop (i + 1) updates) where
+  first_step : applied_from place m (drop i updates) ≡ step_then place (λ next. applied_from (suc place) next (drop (i + 1) updates)) (with_incremental m bytes)
   first_step = ap (applied_from place m) there
 
-  pub goes_on : (next : ShownMap) → with_incremental m bytes ≡ Some next → applied_from (place + 1) next (drop (i + 1) told) ≡ applied_from place m (drop i told)
+  pub goes_on : (next : ShownMap) → with_incremental m bytes ≡ Some next → applied_from (place + 1) next (drop (i + 1) updates) ≡ applied_from place m (drop i updates)
   goes_on next h =
       let one : place + 1 ≡ suc place = omega arith in
-      ap (λ p. applied_from p next (drop (i + 1) told)) one ∙ ap (step_then place (λ n. applied_from (suc place) n (drop (i + 1) told))) (sym h) ∙ sym first_step
+      ap (λ p. applied_from p next (drop (i + 1) updates)) one ∙ ap (step_then place (λ n. applied_from (suc place) n (drop (i + 1) updates))) (sym h) ∙ sym first_step
 
-  refused : with_incremental m bytes ≡ None → applied_from place m (drop i told) ≡ Err place
-  refused h = first_step ∙ ap (step_then place (λ n. applied_from (suc place) n (drop (i + 1) told))) h
+  refused : with_incremental m bytes ≡ None → applied_from place m (drop i updates) ≡ Err place
+  refused h = first_step ∙ ap (step_then place (λ n. applied_from (suc place) n (drop (i + 1) updates))) h
 
-  pub stops : (e : Unapplied) (new : ShownMap) → Steps (Err e) place new (with_incremental m bytes) → (whole : Result ShownMap ℕ) → applied_from place m (drop i told) ≡ whole → Gives (Err e) whole
+  pub stops : (e : Unapplied) (new : ShownMap) → Steps (Err e) place new (with_incremental m bytes) → (whole : Result ShownMap ℕ) → applied_from place m (drop i updates) ≡ whole → Gives (Err e) whole
   stops (Bad j) new h whole w = sym w ∙ refused h.0 ∙ ap Err (sym h.1)
   stops OutOfMemory new h whole w = tt
 
-pub next_of : (told : List (List ℕ)) (i : ℕ) (x bytes : List ℕ) → i < length told → x ≡ get_or told i x → bytes ≡ x → drop i told ≡ bytes ∷ drop (i + 1) told
-next_of told i x bytes below is same = drop_more told i x below ∙ ap (λ y. y ∷ drop (i + 1) told) (sym is ∙ sym same)
+pub next_of : (updates : List (List ℕ)) (i : ℕ) (x bytes : List ℕ) → i < length updates → x ≡ get_or updates i x → bytes ≡ x → drop i updates ≡ bytes ∷ drop (i + 1) updates
+next_of updates i x bytes below is same = drop_more updates i x below ∙ ap (λ y. y ∷ drop (i + 1) updates) (sym is ∙ sym same)

@@ -39,7 +39,7 @@ step_then i others (Some m) = others m
 
 abbrev pub applied_from : ℕ → ShownMap → List (List ℕ) → Result ShownMap ℕ
 applied_from i m [] = Ok m
-applied_from i m (bytes ∷ told) = step_then i (λ next. applied_from (suc i) next told) (with_incremental m bytes)
+applied_from i m (bytes ∷ updates) = step_then i (λ next. applied_from (suc i) next updates) (with_incremental m bytes)
 
 -- the copy, and what a reply was for it
 abbrev pub Taken : Type 0
@@ -50,17 +50,17 @@ if_applied f reached (Ok m) = (record { version = reached; map = m }, took.Newer
 if_applied f reached (Err i) = (f, took.Bad i)
 
 abbrev pub since_taken : Follower → (from : ℕ) → List (List ℕ) → Taken
-since_taken f from told =
+since_taken f from updates =
     if nat_lt f.version from then (f, took.Ahead from)
-    else (if nat_le (from + length told) f.version then (f, took.Known f.version)
-    else if_applied f (from + length told) (applied_from (f.version - from) f.map (drop (f.version - from) told)))
+    else (if nat_le (from + length updates) f.version then (f, took.Known f.version)
+    else if_applied f (from + length updates) (applied_from (f.version - from) f.map (drop (f.version - from) updates)))
 
 abbrev pub shown_taken : Follower → (version : ℕ) → ShownMap → Taken
 shown_taken f version m = if nat_lt f.version version then (record { version = version; map = m }, took.Newer version) else (f, took.Known f.version)
 
 abbrev pub taken : Follower → Reply → Taken
 taken f (reply.Shown s paxos version m) = if is_of s f.map && is_of s m then shown_taken f version m else (f, took.Other)
-taken f (reply.Since s from told more) = if is_of s f.map && nat_le (from + length told) (2 ^ 62) then since_taken f from told else (f, took.Other)
+taken f (reply.Since s from updates more) = if is_of s f.map && nat_le (from + length updates) (2 ^ 62) then since_taken f from updates else (f, took.Other)
 taken f other = (f, took.Other)
 
 abbrev pub taken_all : Follower → List Reply → Follower

@@ -4,7 +4,7 @@ ghost use Rattle.std.specs.Prelude.{◌≡◌, ◌+◌, ◌%◌, ◌≤◌, ◌^
 ghost use Rattle.mon_link.specs.Links.{asked_to_send};
 ghost use Rattle.mon_link.specs.declared.link.Peer.TheVariants as peer;
 ghost use Rattle.mon_wire.specs.Message.Whole.{HasText, text};
-ghost use Rattle.map_follower.specs.Turns.{request_of};
+ghost use Rattle.map_follower.specs.Iterations.{request_of};
 
 use crate::follower::Follower;
 use mon_bytes::OutOfMemory;
@@ -34,8 +34,8 @@ fn request_of(monitors: u8, asks: u64, follower: &Follower) -> Message
 
 /// Sends a datagram. If the link fails to send it, it is lost.
 fn send<L: Link>(link: &mut L, to: Peer, bytes: &[u8]) -> Result<(), OutOfMemory>
-    ensures ok { OnOk result ((L.state link.new).told ≡ option_map (asked_to_send to bytes.now) (L.state link.old).told) }
-    ensures err { OnErr result ((L.state link.new).told ≡ (L.state link.old).told) }
+    ensures ok { OnOk result ((L.state link.new).observed ≡ option_map (asked_to_send to bytes.now) (L.state link.old).observed) }
+    ensures err { OnErr result ((L.state link.new).observed ≡ (L.state link.old).observed) }
     ensures faults { (L.state link.new).faults ≡ (L.state link.old).faults }
 {
     match link.send(to, bytes) {
@@ -56,9 +56,10 @@ pub(crate) fn ask<L: Link>(
     requires most { monitors ≤ 15 }
     requires asks { asks.old + 1 ≤ 2 ^ 62 }
     ensures asks { OnOk result (asks.new ≡ asks.old + 1) }
-    ensures ok { OnOk result ((L.state link.new).told ≡ option_map (asked_to_send (peer.Monitor (asks.old % monitors))
-        (text (request_of monitors asks.old follower.now))) (L.state link.old).told) }
-    ensures err { OnErr result ((L.state link.new).told ≡ (L.state link.old).told) }
+    ensures ok { OnOk result ((L.state link.new).observed
+        ≡ option_map (asked_to_send (peer.Monitor (asks.old % monitors))
+        (text (request_of monitors asks.old follower.now))) (L.state link.old).observed) }
+    ensures err { OnErr result ((L.state link.new).observed ≡ (L.state link.old).observed) }
     ensures faults { (L.state link.new).faults ≡ (L.state link.old).faults }
 {
     let message = request_of(monitors, *asks, follower);

@@ -98,10 +98,10 @@ impl Follower {
         alloc: Global,
         from: Version,
         reached: Version,
-        told: &[Bytes],
+        updates: &[Bytes],
     ) -> Result<Took, OutOfMemory>
-        requires { reached ≡ from + length told.now }
-        ensures ok { IfOk result (λ took. since_taken self.old from told.now ≡ (self.new, took)) }
+        requires { reached ≡ from + length updates.now }
+        ensures ok { IfOk result (λ took. since_taken self.old from updates.now ≡ (self.new, took)) }
         ensures err { OnErr result (self.new ≡ self.old) }
     {
         let version = self.version.get();
@@ -114,7 +114,7 @@ impl Follower {
             });
         }
         let known = version - from.get();
-        match applied_from(alloc, &self.map, known, &told[known as usize..]) {
+        match applied_from(alloc, &self.map, known, &updates[known as usize..]) {
             Ok(map) => {
                 self.map = map;
                 self.version = reached;
@@ -149,12 +149,12 @@ impl Follower {
                 incrementals,
                 ..
             } => {
-                let told = incrementals.as_slice();
-                let reached = from.get() + told.len() as u64;
+                let updates = incrementals.as_slice();
+                let reached = from.get() + updates.len() as u64;
                 if !is_of(*service, &self.map) || reached > GREATEST {
                     return Ok(Took::Other);
                 }
-                self.take_since(alloc, *from, Version::known(reached), told)
+                self.take_since(alloc, *from, Version::known(reached), updates)
             }
             _ => Ok(Took::Other),
         }

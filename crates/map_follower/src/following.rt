@@ -1,11 +1,11 @@
 ghost use Rattle.std.specs.Prelude.{◌≡◌, ℕ, ◌≤◌, ◌^◌, List, []};
 ghost use Rattle.mon_frag.specs.declared.partial.Partial.{Partial};
 ghost use Rattle.mon_types.specs.Faults.{Rose};
-ghost use Rattle.map_follower.specs.Turns.{Follows, course, faults_at};
+ghost use Rattle.map_follower.specs.Iterations.{Follows, course, faults_at};
 
 use crate::end::FollowEnd;
 use crate::follower::Follower;
-use crate::turning::{ask_on, turn};
+use crate::iterating::{ask_on, iteration};
 use mon_frag::Assembly;
 use mon_link::{Link, Sink};
 use std::alloc::Global;
@@ -28,8 +28,8 @@ pub fn follow<L: Link, K: Sink>(
     requires most { monitors ≤ 15 }
     requires turns { turns ≤ 2 ^ 61 }
     ensures follows { (asks : ℕ) × (parts : List Partial) × Follows monitors turns
-        (course follower.old [] 0 (L.state link.old).told (K.held sink.old))
-        (course follower.new parts asks (L.state link.new).told (K.held sink.new)) result }
+        (course follower.old [] 0 (L.state link.old).observed (K.held sink.old))
+        (course follower.new parts asks (L.state link.new).observed (K.held sink.new)) result }
     ensures faults { (L.state link.new).faults ≡ faults_at result (L.state link.old).faults }
     ensures later { K.faults sink.old ≤ K.faults sink.new }
     ensures fault { result ≡ FollowEnd.WriteFault → Rose (K.faults sink.old) (K.faults sink.new) }
@@ -40,7 +40,7 @@ pub fn follow<L: Link, K: Sink>(
         return end;
     }
     for made in 0..turns {
-        if let Err(end) = turn(
+        if let Err(end) = iteration(
             alloc,
             follower,
             monitors,

@@ -6,7 +6,7 @@ ghost use Rattle.mon_frag.specs.Whole.{answer_in, kept_in};
 ghost use Rattle.mon_types.specs.Faults.{Rose};
 ghost use Rattle.mon_wire.specs.Message.Whole.{message_of};
 ghost use Rattle.map_follower.specs.Copies.{taken};
-ghost use Rattle.map_follower.specs.Turns.{from_monitor, reply_of, reply_read, reply_in, copy_text, line_of, CopyAt, Writes, WritesPrefix};
+ghost use Rattle.map_follower.specs.Iterations.{from_monitor, reply_of, reply_read, reply_in, copy_text, line_of, CopyAt, Writes, WritesPrefix};
 
 use crate::end::FollowEnd;
 use crate::follower::Follower;

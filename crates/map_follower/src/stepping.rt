@@ -67,14 +67,14 @@ pub(crate) fn applied_from(
     alloc: Global,
     map: &ShownMap,
     index: u64,
-    told: &[Bytes],
+    updates: &[Bytes],
 ) -> Result<ShownMap, Unapplied>
-    requires { index + length told.now < 2 ^ 64 }
-    ensures { Gives result (applied_from index map.now told.now) }
+    requires { index + length updates.now < 2 ^ 64 }
+    ensures { Gives result (applied_from index map.now updates.now) }
 {
     let mut next = map.copy()?;
     let mut place = index;
-    for bytes in told {
+    for bytes in updates {
         step(alloc, &mut next, bytes.as_slice(), place)?;
         place += 1;
     }

@@ -7,7 +7,7 @@ use Rattle.std.specs.Ordering.{is_lt}
 use Rattle.std.specs.FinMap.{entries, len, from_sorted, is_sorted, entries-from_sorted, len-entries}
 use Rattle.mon_bytes.specs.declared.command.MapRefused.{MapRefused}
 use Rattle.mon_bytes.specs.declared.command.MapRefused.TheVariants as refused
-use Rattle.mon_bytes.specs.Reading.{IsBytes, Reading, number, front}
+use Rattle.mon_bytes.specs.Reading.{IsBytes, Reading, number, next_bytes}
 use Rattle.mon_bytes.specs.Format.{IsLawful}
 use Rattle.mon_bytes.specs.Texts.{is_name}
 use Rattle.mon_bytes.specs.Forms.{◌>>=◌, fitted, u32_bytes, text_bytes, text_at, ended, whole, Gives}
@@ -27,13 +27,13 @@ use Rattle.map_kv.proofs.Loop.{key_rises}
 name_takes : (c : Reading) (x : List ℕ × Reading) → IsBytes c.rest → name_at c ≡ Ok x → Takes c (key_text x.0) x.1 × IsTrue (is_name x.0)
 unfolding name_at
 name_takes c x fits e =
-    let a = bind_ok (fitted (number 1 c)) (λ n. cond (eqb n.0 0) (Err (refused.Form c.at)) (fitted (front n.0 n.1) >>= λ bytes. cond (is_name bytes.0) (Ok bytes) (Err (refused.Form n.1.at)))) x e in
+    let a = bind_ok (fitted (number 1 c)) (λ n. cond (eqb n.0 0) (Err (refused.Form c.at)) (fitted (next_bytes n.0 n.1) >>= λ bytes. cond (is_name bytes.0) (Ok bytes) (Err (refused.Form n.1.at)))) x e in
     let n = a.0 in
-    let some = guard_ok (eqb n.0 0) (refused.Form c.at) (fitted (front n.0 n.1) >>= λ bytes. cond (is_name bytes.0) (Ok bytes) (Err (refused.Form n.1.at))) x a.2 in
-    let b = bind_ok (fitted (front n.0 n.1)) (λ bytes. cond (is_name bytes.0) (Ok bytes) (Err (refused.Form n.1.at))) x some.1 in
+    let some = guard_ok (eqb n.0 0) (refused.Form c.at) (fitted (next_bytes n.0 n.1) >>= λ bytes. cond (is_name bytes.0) (Ok bytes) (Err (refused.Form n.1.at))) x a.2 in
+    let b = bind_ok (fitted (next_bytes n.0 n.1)) (λ bytes. cond (is_name bytes.0) (Ok bytes) (Err (refused.Form n.1.at))) x some.1 in
     let g = chosen_ok (is_name b.0.0) (refused.Form n.1.at) (Ok b.0) x b.2 in
     let t0 = byte_takes c n fits (fitted_ok (number 1 c) n a.1) in
-    let t1 = front_takes n.0 n.1 b.0 t0.0.bytes (fitted_ok (front n.0 n.1) b.0 b.1) in
+    let t1 = front_takes n.0 n.1 b.0 t0.0.bytes (fitted_ok (next_bytes n.0 n.1) b.0 b.1) in
     let all = Takes-then c n.1 b.0.1 (n.0 ∷ []) b.0.0 t0.0 t1.0 in
     subst (λ (p : List ℕ × Reading). Takes c (key_text p.0) p.1 × IsTrue (is_name p.0)) (ok_is b.0 x g.1)
     (subst (λ (k : ℕ). Takes c (k ∷ b.0.0) b.0.1) (sym t1.1) all, g.0)

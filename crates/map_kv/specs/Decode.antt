@@ -5,7 +5,7 @@ use Rattle.std.specs.Ordering.{nat_cmp, is_lt}
 use Rattle.std.specs.FinMap.{from_sorted}
 use Rattle.mon_bytes.specs.declared.command.MapRefused.{MapRefused}
 use Rattle.mon_bytes.specs.declared.command.MapRefused.TheVariants.{Form}
-use Rattle.mon_bytes.specs.Reading.{Reading, number, front}
+use Rattle.mon_bytes.specs.Reading.{Reading, number, next_bytes}
 use Rattle.mon_bytes.specs.Format.{Format}
 use Rattle.mon_bytes.specs.Texts.{is_name}
 use Rattle.mon_bytes.specs.Forms.{◌>>=◌, fitted, text_at, ended}
@@ -19,7 +19,7 @@ unfoldable pub name_at : Reading → Result (List ℕ × Reading) MapRefused
 name_at c = do
   n ← fitted (number 1 c)
   if n.0 == 0 then Err (Form c.at) else (do
-    bytes ← fitted (front n.0 n.1)
+    bytes ← fitted (next_bytes n.0 n.1)
     if is_name bytes.0 then Ok bytes else Err (Form n.1.at))
 
 unfoldable pub set_at : Reading → Result (KvInc × Reading) MapRefused

@@ -24,7 +24,7 @@ impl Decode for LogInc {
 
     ghost format = { inc_format };
 
-    ghost spelled = { inc_of };
+    ghost decoded = { inc_of };
 
     #[tactic(auto, using(crate::proofs::Laws::inc_is_lawful, crate::proofs::Laws::inc_is_whole), unfolding(crate::specs::Decode::inc_at))]
     fn read(alloc: Global, cursor: &mut Cursor<'_>) -> Result<LogInc, MapRefused> {
@@ -51,7 +51,7 @@ impl Decode for LogMap {
 
     ghost format = { map_format };
 
-    ghost spelled = { map_of };
+    ghost decoded = { map_of };
 
     #[tactic(auto, using(crate::proofs::Laws::map_is_lawful, crate::proofs::Laws::map_is_whole))]
     fn read(alloc: Global, cursor: &mut Cursor<'_>) -> Result<LogMap, MapRefused> {

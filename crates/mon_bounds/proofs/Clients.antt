@@ -25,7 +25,7 @@ use Rattle.mon_msg.specs.Protocol.Reads.{changes_after, is_standing, read, shown
 use Rattle.mon_msg.specs.Protocol.Readings.{Readings, epoch_of}
 use Rattle.mon_msg.specs.Protocol.Records.{longest}
 use Rattle.mon_msg.specs.Protocol.Sending.{answer_to, reply_to}
-use Rattle.mon_msg.specs.Protocol.Services.{kept_from, may_tell, service_first, service_last}
+use Rattle.mon_msg.specs.Protocol.Services.{kept_from, fits_reply, service_first, service_last}
 use Rattle.mon_msg.specs.Protocol.State.{lease_of}
 use Rattle.mon_msg.specs.Protocol.Value.{service_of, value}
 use Rattle.mon_msg.specs.declared.clients.Asked.{Asked}
@@ -99,7 +99,7 @@ module _ (me : Me) (now : ℕ) where
 
   made_value : (w : Readings) (c : Command) (asked : ℕ) (x : List Op) → IsCommand c → asked ≤ 14 → w.last ≤ 2 ^ 62 → suc (service_last w (service_of c)) ≤ 2 ^ 62 → value w c asked ≡ Ok x → MayPropose x
   made_value w c asked x form rank at fits h =
-      let V : IsValue w x = record { command = c; form = form; asked = asked; rank = rank; newer = x; made = h; spelled = older_itself x } in
+      let V : IsValue w x = record { command = c; form = form; asked = asked; rank = rank; newer = x; made = h; encoded = older_itself x } in
       let t = any_text w x V at fits in
       record { form = t.0; short = t.1 }
 
@@ -219,8 +219,8 @@ module _ (me : Me) (now : ℕ) where
 
   changes_answers : (w : Readings) (s : Service) (v : ℕ) (kept : List (List ℕ)) → v ≤ 2 ^ 62 → Answers me (changes_after w s v kept)
   changes_answers w s v kept h =
-      let told = longest may_tell kept in
-      let t = longest_passes may_tell kept refl in
+      let told = longest fits_reply kept in
+      let t = longest_passes fits_reply kept refl in
       let parts = and_parts (leb (length told) 65535) (leb (sum_by (λ bytes. length bytes + 4) told) 524288) t in
       let sum = leb-true (sum_by (λ bytes. length bytes + 4) told) 524288 parts.1 in
       let same = same_sum told in

@@ -11,7 +11,7 @@ use Rattle.mon_bytes.proofs.Fields.{guard_ok, chosen_ok, ok_is}
 use Rattle.mon_bytes.proofs.Formats.{tested}
 use Rattle.mon_bytes.proofs.Forms.{bind_ok, ended_ok}
 use Rattle.mon_bytes.specs.Forms.{◌>>=◌, fitted, text_at, ended}
-use Rattle.mon_bytes.specs.Reading.{Reading, number, front}
+use Rattle.mon_bytes.specs.Reading.{Reading, number, next_bytes}
 use Rattle.mon_bytes.specs.Texts.{is_name}
 use Rattle.mon_bytes.specs.declared.command.MapRefused.TheVariants as refused
 use Rattle.map_kv.proofs.Loop.{key_rises}
@@ -28,18 +28,18 @@ use Rattle.map_log.specs.declared.inc.LogInc.{LogInc}
 name_is : (c : Reading) (x : List ℕ × Reading) → name_at c ≡ Ok x → IsTrue (is_name x.0)
 unfolding name_at
 name_is c x e =
-    let rest = λ (n : ℕ × Reading). fitted (front n.0 n.1) >>= λ bytes. cond (is_name bytes.0) (Ok bytes) (Err (refused.Form n.1.at)) in
+    let rest = λ (n : ℕ × Reading). fitted (next_bytes n.0 n.1) >>= λ bytes. cond (is_name bytes.0) (Ok bytes) (Err (refused.Form n.1.at)) in
     let a = bind_ok (fitted (number 1 c)) (λ n. cond (eqb n.0 0) (Err (refused.Form c.at)) (rest n)) x e in
     let some = guard_ok (eqb a.0.0 0) (refused.Form c.at) (rest a.0) x a.2 in
-    let b = bind_ok (fitted (front a.0.0 a.0.1)) (λ bytes. cond (is_name bytes.0) (Ok bytes) (Err (refused.Form a.0.1.at))) x some.1 in
+    let b = bind_ok (fitted (next_bytes a.0.0 a.0.1)) (λ bytes. cond (is_name bytes.0) (Ok bytes) (Err (refused.Form a.0.1.at))) x some.1 in
     let g = chosen_ok (is_name b.0.0) (refused.Form a.0.1.at) (Ok b.0) x b.2 in
     subst (λ (p : List ℕ × Reading). IsTrue (is_name p.0)) (ok_is b.0 x g.1) g.0
 
 text_is : (c : Reading) (x : List ℕ × Reading) → text_at c ≡ Ok x → IsTrue (is_utf8 x.0)
 unfolding text_at
 text_is c x e =
-    let a = bind_ok (fitted (number 4 c)) (λ n. fitted (front n.0 n.1) >>= λ bytes. cond (is_utf8 bytes.0) (Ok bytes) (Err (refused.Form n.1.at))) x e in
-    let b = bind_ok (fitted (front a.0.0 a.0.1)) (λ bytes. cond (is_utf8 bytes.0) (Ok bytes) (Err (refused.Form a.0.1.at))) x a.2 in
+    let a = bind_ok (fitted (number 4 c)) (λ n. fitted (next_bytes n.0 n.1) >>= λ bytes. cond (is_utf8 bytes.0) (Ok bytes) (Err (refused.Form n.1.at))) x e in
+    let b = bind_ok (fitted (next_bytes a.0.0 a.0.1)) (λ bytes. cond (is_utf8 bytes.0) (Ok bytes) (Err (refused.Form a.0.1.at))) x a.2 in
     let g = chosen_ok (is_utf8 b.0.0) (refused.Form a.0.1.at) (Ok b.0) x b.2 in
     subst (λ (p : List ℕ × Reading). IsTrue (is_utf8 p.0)) (ok_is b.0 x g.1) g.0
 

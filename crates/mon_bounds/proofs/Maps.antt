@@ -38,7 +38,7 @@ use Rattle.mon_wire.specs.declared.reply.ShownMap.TheVariants as map
 use Rattle.mon_wire.specs.declared.request.Service.{Service}
 use Rattle.mon_wire.specs.declared.request.Service.TheVariants as service
 use Rattle.mon_msg.specs.Protocol.Commands.{most_text, text_length}
-use Rattle.mon_msg.specs.Protocol.Maps.{if_ok, empty_map, most_map, short_map, map_of, spelled_map, with_incremental, next_map}
+use Rattle.mon_msg.specs.Protocol.Maps.{if_ok, empty_map, most_map, short_map, map_of, decoded_map, with_incremental, next_map}
 use Rattle.mon_msg.specs.Protocol.Parts.{map_text}
 use Rattle.mon_msg.specs.Protocol.Readings.{Readings}
 use Rattle.mon_msg.specs.Protocol.Services.{service_last, full_latest, read_on, full_map, read_from, read_map}
@@ -86,21 +86,21 @@ abbrev IfGood : Service → Option ShownMap → Type 0
 IfGood s None = Unit {0}
 IfGood s (Some m) = Good s m
 
-where_short : (s : Service) (o : Option ShownMap) → IfWorded s o → IfGood s (option_and_then (short_map s) o)
-where_short s None h = tt
-where_short s (Some m) h = by (leb (length (map_text m)) (most_map s)) refl
+if_short_value : (s : Service) (o : Option ShownMap) → IfWorded s o → IfGood s (option_and_then (short_map s) o)
+if_short_value s None h = tt
+if_short_value s (Some m) h = by (leb (length (map_text m)) (most_map s)) refl
   where
     by : (b : Bool) → leb (length (map_text m)) (most_map s) ≡ b → IfGood s (cond b (Some m) None)
     by true e = record { worded = h; short = leb-true (length (map_text m)) (most_map s) e }
     by false e = tt
 
-spelled_good : (s : Service) (bytes : List ℕ) → length bytes ≤ most_map s → IfGood s (map_of s bytes)
-spelled_good service.Kv bytes le = by (kv_decode.map_of bytes) refl
+decoded_good : (s : Service) (bytes : List ℕ) → length bytes ≤ most_map s → IfGood s (map_of s bytes)
+decoded_good service.Kv bytes le = by (kv_decode.map_of bytes) refl
   where
     by : (r : Result kv.Kv MapRefused) → kv_decode.map_of bytes ≡ r → IfGood service.Kv (option_map map.Kv (if_ok r))
     by (Ok m) e = let w = kv_within bytes m e in record { worded = kv_map_is bytes m e; short = omega arith }
     by (Err f) e = tt
-spelled_good service.Log bytes le = by (log_decode.map_of bytes) refl
+decoded_good service.Log bytes le = by (log_decode.map_of bytes) refl
   where
     by : (r : Result (List LogInc) MapRefused) → log_decode.map_of bytes ≡ r → IfGood service.Log (option_map map.Log (if_ok r))
     by (Ok es) e = let w = log_within bytes es e in record { worded = log_map_is bytes es e; short = omega arith }
@@ -113,7 +113,7 @@ empty_good service.Log = let f = log_steps.fine_empty in record { worded = f.eac
 module _ (w : Readings) (s : Service) where
   next_good : (m : ShownMap) (c : Cell) → Good s m → IfGood s (option_and_then (next_map s m) c)
   next_good m None h = tt
-  next_good m (Some bytes) h = where_short s (with_incremental m bytes) (with_worded s m bytes h)
+  next_good m (Some bytes) h = if_short_value s (with_incremental m bytes) (with_worded s m bytes h)
 
   on_good : (count v : ℕ) (m : ShownMap) → Good s m → Good s (read_on w s count v m)
   unfolding read_on
@@ -125,12 +125,12 @@ module _ (w : Readings) (s : Service) where
       by None k go = h
       by (Some next) k go = go next k
 
-  if_good : (c : Cell) → IfGood s (option_and_then (spelled_map s) c)
+  if_good : (c : Cell) → IfGood s (option_and_then (decoded_map s) c)
   if_good None = tt
-  if_good (Some bytes) = cond_both (leb (length bytes) (most_map s)) (map_of s bytes) None (IfGood s) (λ t. spelled_good s bytes (leb-true (length bytes) (most_map s) t)) (λ _. tt)
+  if_good (Some bytes) = cond_both (leb (length bytes) (most_map s)) (map_of s bytes) None (IfGood s) (λ t. decoded_good s bytes (leb-true (length bytes) (most_map s) t)) (λ _. tt)
 
   full_good : IfGood s (full_map w s)
-  full_good = cond_both (leb (full_latest w s) (service_last w s)) (option_and_then (spelled_map s) (w.row s (key.Full (full_latest w s)))) None (IfGood s)
+  full_good = cond_both (leb (full_latest w s) (service_last w s)) (option_and_then (decoded_map s) (w.row s (key.Full (full_latest w s)))) None (IfGood s)
       (λ _. if_good (w.row s (key.Full (full_latest w s)))) (λ _. tt)
 
   read_good : Good s (read_map w s)

@@ -14,7 +14,7 @@ use Rattle.mon_msg.specs.Protocol.Parts.{reply_length, table_length}
 use Rattle.mon_msg.specs.declared.view.Me.{Me}
 use Rattle.mon_tx.specs.Decode.{HasText}
 use Rattle.mon_tx.specs.declared.op.Op.{Op}
-use Rattle.mon_wire.specs.Message.Bodies.{spelled}
+use Rattle.mon_wire.specs.Message.Bodies.{encoded}
 use Rattle.mon_wire.specs.Message.Client.{a_reply, is_routed}
 use Rattle.mon_wire.specs.Message.Parts as parts
 use Rattle.mon_wire.specs.Message.Whole.{asking}
@@ -45,9 +45,9 @@ few xs h = let l = leb-true (length xs) 65535 h in omega arith
 
 -- a body that a monitor may send
 pub record Said (me : Me) (b : Body) : Type 0 where
-  pub form : AllByRecursion IsNamed (entries_in b) → (spelled me.member.monitors me.member.rank b).Form
+  pub form : AllByRecursion IsNamed (entries_in b) → (encoded me.member.monitors me.member.rank b).Form
   pub fits : fits me.member.monitors b ≡ true
-  pub plain : eqb (spelled me.member.monitors me.member.rank b).tag asking ≡ false
+  pub plain : eqb (encoded me.member.monitors me.member.rank b).tag asking ≡ false
 
 module _ (me : Me) where
   abbrev n : ℕ

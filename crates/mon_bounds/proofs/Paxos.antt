@@ -4,11 +4,11 @@ use Rattle.std.proofs.lemmas.Bool.{and_parts, cond_both, leb-true, not-false}
 use Rattle.std.proofs.lemmas.List.Sums.{sum_by-take-drop}
 use Rattle.std.specs.List.{AllByRecursion}
 use Rattle.std.specs.Prelude.{is_some}
-use Rattle.mon_msg.specs.Protocol.Answers.{answer_of, last_answer, tells_all, told_of, told_values}
+use Rattle.mon_msg.specs.Protocol.Answers.{answer_of, last_answer, is_complete, told_of, sent_values}
 use Rattle.mon_msg.specs.Protocol.Changes.{Change, Promise, Vote}
 use Rattle.mon_msg.specs.Protocol.Course.{Course, leader_is, ◌▸◌}
 use Rattle.mon_msg.specs.Protocol.Found.{better, counts, is_newer}
-use Rattle.mon_msg.specs.Protocol.Leader.{all_accepted, all_answered, commit_any, hear_accept, hear_answer, hear_last, hear_lease_ack, hear_whole, is_one_of, note, note_answer, note_told, of_member, renew}
+use Rattle.mon_msg.specs.Protocol.Leader.{all_accepted, all_answered, commit_any, hear_accept, hear_answer, hear_last, hear_lease_ack, hear_whole, is_one_of, note, note_answer, note_pending, of_member, renew}
 use Rattle.mon_msg.specs.Protocol.Leading.{extend, is_alone}
 use Rattle.mon_msg.specs.Protocol.Learning.{learn, news, news_from}
 use Rattle.mon_msg.specs.Protocol.Length.{fits}
@@ -26,7 +26,7 @@ use Rattle.mon_tx.specs.declared.op.Op.{Op}
 use Rattle.mon_types.specs.Ranks.{has, with_rank}
 use Rattle.mon_types.specs.declared.names.Which.TheVariants as which
 use Rattle.mon_types.specs.declared.names.Which.{Which}
-use Rattle.mon_wire.specs.Message.Bodies.{spelled}
+use Rattle.mon_wire.specs.Message.Bodies.{encoded}
 use Rattle.mon_wire.specs.Message.Parts as parts
 use Rattle.mon_wire.specs.Message.PartLengths.{told_length, value_length}
 use Rattle.mon_wire.specs.declared.body.Body.TheVariants as body
@@ -72,7 +72,7 @@ module _ (me : Me) (now : ℕ) where
   better_is : (found : Option Found) (new : Found) → IfSome found (λ g. MayPropose g.value) → MayPropose new.value → IfSome (better found new) (λ g. MayPropose g.value)
   better_is found new F V = cond_both (is_newer new.version new.pn found) (Some new) found (λ o. IfSome o (λ g. MayPropose g.value)) (λ _. V) (λ _. F)
 
-  note_told_ok : (f last b : ℕ) (t : Option Told) (x : Course) → IfSome t (λ u. MayPropose u.value) → AreOthers x.state → Under me b x → Then (λ y. Under me b y × AreOthers y.state) (note_told f last t x)
+  note_told_ok : (f last b : ℕ) (t : Option Told) (x : Course) → IfSome t (λ u. MayPropose u.value) → AreOthers x.state → Under me b x → Then (λ y. Under me b y × AreOthers y.state) (note_pending f last t x)
   note_told_ok f last b None x T o A = done (note_answer_ok f last b x.state.leader.found x A.1.leader.found A, o)
   note_told_ok f last b (Some t) x T o A = where_fits _ which.Version (suc last) _ (λ short.
       done (note_answer_ok f last b _ x (better_is x.state.leader.found (record { version = suc last; pn = t.pn; value = t.value }) A.1.leader.found T) A, o))
@@ -110,7 +110,7 @@ module _ (me : Me) (now : ℕ) where
   told_part (Some t) = omega arith
 
   pub hear_last_ok : (f e : ℕ) (pn first last : ℕ) (whole : Bool) (from : ℕ) (values : List (List Op)) (t : Option Told) (x : Course) → eqb f me.member.rank ≡ false → f < n
-      → (spelled n f (body.Last pn first last whole from values t)).Form → fits n (body.Last pn first last whole from values t) ≡ true → Under me 0 x
+      → (encoded n f (body.Last pn first last whole from values t)).Form → fits n (body.Last pn first last whole from values t) ≡ true → Under me 0 x
       → Then (Over me) (hear_last me now f e pn first last whole from values t x)
   unfolding hear_last
   hear_last_ok f e pn first last whole from values t x ne lt form ok A =
@@ -177,7 +177,7 @@ module _ (me : Me) (now : ℕ) where
   unfolding answer_of
   answer_said w from short R =
       let p = promise_of w in
-      let values = told_values n p w.first w.last w.record_of from in
+      let values = sent_values n p w.first w.last w.record_of from in
       let told = told_of (pending w) in
       let test = λ (vs : List (List Op)). fits n (body.Last p w.first w.last false from vs None) in
       let run = run_from w.record_of w.last from in
@@ -185,7 +185,7 @@ module _ (me : Me) (now : ℕ) where
       let texts : AllByRecursion HasText values = cond_both (ltb w.last from || ltb from w.first) [] (longest test run) (AllByRecursion HasText) (λ _. tt) (λ _. longest_fine HasText test run (run_texts w.record_of w.last from)) in
       let passes : test values ≡ true = cond_both (ltb w.last from || ltb from w.first) [] (longest test run) (λ vs. test vs ≡ true) (λ _. refl) (λ _. longest_passes test run refl) in
       let T = told_is (pending w) w.pending_pn R.pending (pending_is w.record_of w.pending_v w.pending_pn w.last) in
-      cond_both (tells_all n p w.first w.last from values told) (body.Last p w.first w.last true from values told) (body.Last p w.first w.last false from values None) (Said me)
+      cond_both (is_complete n p w.first w.last from values told) (body.Last p w.first w.last true from values told) (body.Last p w.first w.last false from values None) (Said me)
       (λ t. said.last me p w.first w.last true from values told ps R.first R.last short texts T (and_parts (ltb w.last (from + length values)) (fits n (body.Last p w.first w.last true from values told)) t).1)
       (λ _. said.last me p w.first w.last false from values None ps R.first R.last short texts tt passes)
 
@@ -210,7 +210,7 @@ module _ (me : Me) (now : ℕ) where
       where_fits (Over me) which.Version (suc last) _ (λ from.
       over me 100 _ (omega arith) (tells me (last_answer n y.readings (suc last)) f 100 _ _ _ (answer_said y.readings (suc last) from B.0.numbers) lt B.0, B.1))))
 
-  pub hear_begin_ok : (f e : ℕ) (pn v : ℕ) (value : List Op) (x : Course) → f < n → (spelled n f (body.Begin pn v value)).Form → fits n (body.Begin pn v value) ≡ true → Under me 0 x
+  pub hear_begin_ok : (f e : ℕ) (pn v : ℕ) (value : List Op) (x : Course) → f < n → (encoded n f (body.Begin pn v value)).Form → fits n (body.Begin pn v value) ≡ true → Under me 0 x
       → Then (Over me) (hear_begin me f e pn v value x)
   unfolding hear_begin
   hear_begin_ok f e pn v value x lt form ok A =

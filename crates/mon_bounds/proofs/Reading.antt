@@ -4,7 +4,7 @@ use Rattle.std.proofs.lemmas.Bool.{cond_both, leb-true}
 use Rattle.std.specs.List.{AllByRecursion}
 use Rattle.std.specs.Option.{option_map}
 use Rattle.std.specs.Prelude.{if◌then◌else◌}
-use Rattle.mon_msg.specs.Protocol.Records.{found_as, longest, longest_onto, may_begin, most_value, pending_of, record_at, run_from, run_of, transaction_in, where_it_may_begin}
+use Rattle.mon_msg.specs.Protocol.Records.{found_as, longest, longest_onto, may_begin, most_value, pending_of, record_at, run_from, run_of, transaction_in, if_it_may_begin}
 use Rattle.mon_msg.specs.Protocol.Replay.{more_of, most_bytes, most_versions, step_of}
 use Rattle.mon_msg.specs.declared.paxos.Found.{Found}
 use Rattle.mon_tx.specs.Decision.{Cell}
@@ -15,7 +15,7 @@ use Rattle.mon_tx.specs.declared.refusal.TxRefused.{TxRefused}
 use Rattle.mon_wire.specs.declared.body.Body.TheVariants as body
 use Rattle.mon_bounds.proofs.Messages.{fits_length}
 use Rattle.mon_bounds.proofs.Sizes.{load, load-cons}
-use Rattle.mon_bounds.proofs.Values.{spelled_value}
+use Rattle.mon_bounds.proofs.Values.{encoded_value}
 use Rattle.mon_bounds.specs.Remembered.{MayPropose}
 
 -- a value that a record encodes
@@ -30,10 +30,10 @@ in_cell : (c : Cell) → IfRecord (transaction_in c)
 in_cell None = tt
 in_cell (Some bytes) = by (transaction_of bytes) refl
   where
-    by : (r : Result (List Op) TxRefused) → transaction_of bytes ≡ r → IfRecord (where_it_may_begin r)
+    by : (r : Result (List Op) TxRefused) → transaction_of bytes ≡ r → IfRecord (if_it_may_begin r)
     by (Err f) e = tt
     by (Ok value) e = cond_both (may_begin value) (Some value) None IfRecord
-        (λ t. record { form = spelled_value bytes value e; short = let l = fits_length 1 (body.Begin 0 0 value) t in omega arith }) (λ _. tt)
+        (λ t. record { form = encoded_value bytes value e; short = let l = fits_length 1 (body.Begin 0 0 value) t in omega arith }) (λ _. tt)
 
 -- ---- lists that are picked from the front
 

@@ -14,7 +14,7 @@ use Rattle.mon_tx.specs.declared.key.Key.{Key}
 use Rattle.mon_tx.specs.declared.key.Key.TheVariants as key
 use Rattle.mon_tx.specs.declared.op.Op.{Op}
 use Rattle.mon_tx.specs.declared.op.Op.TheVariants.{Put}
-use Rattle.mon_msg.specs.Protocol.Changes.{Change, Boot, Epoch, Numbers, Promise, Vote, Learn, Last, Mark, Unmark, ops_of, put_back, erase_all, spelled}
+use Rattle.mon_msg.specs.Protocol.Changes.{Change, Boot, Epoch, Numbers, Promise, Vote, Learn, Last, Mark, Unmark, ops_of, put_back, erase_all, encoded}
 use Rattle.mon_msg.specs.Protocol.Chunks.{record_changes, copy_changes}
 use Rattle.mon_msg.specs.Protocol.Learning.{learn_changes}
 use Rattle.mon_msg.specs.Puts.{put, put_number}
@@ -55,9 +55,9 @@ pub size-append : (a b : List Change) → size (a ++ b) ≡ size a + size b
 size-append [] b = omega arith
 size-append (c ∷ a) b = omega (arith, size-append a b)
 
-pub size_spelled : (cs : List Change) → span (spelled cs) ≡ size cs
-size_spelled [] = refl
-size_spelled (c ∷ cs) = omega (arith, span-append (ops_of c) (spelled cs), size_spelled cs)
+pub size_encoded : (cs : List Change) → span (encoded cs) ≡ size cs
+size_encoded [] = refl
+size_encoded (c ∷ cs) = omega (arith, span-append (ops_of c) (encoded cs), size_encoded cs)
 
 pub boot_size : (n : ℕ) → size (Boot n ∷ []) ≤ 100
 boot_size n = omega (arith, number_span area.Monitor key.BootCount n)

@@ -4,7 +4,7 @@ use Rattle.std.proofs.lemmas.Bool.{and_parts, eqb-false, eqb-true, lt-ltb, not-t
 use Rattle.std.specs.Prelude.{is_some}
 use Rattle.election_rules.proofs.FormLaws.{start_scores_is}
 use Rattle.mon_bytes.specs.declared.entry.Entry.{Entry}
-use Rattle.mon_msg.specs.Protocol.Changes.{spelled as change_ops}
+use Rattle.mon_msg.specs.Protocol.Changes.{encoded as change_ops}
 use Rattle.mon_msg.specs.Protocol.Course.{Course, disarm}
 use Rattle.mon_msg.specs.Protocol.Entering.{bootstrap}
 use Rattle.mon_msg.specs.Protocol.Hearing.{has_fitting_table, hear, is_heard}
@@ -22,7 +22,7 @@ use Rattle.mon_msg.specs.declared.view.Me.{Me}
 use Rattle.mon_tx.specs.Map.{Store}
 use Rattle.mon_tx.specs.declared.op.Op.{Op}
 use Rattle.mon_types.specs.declared.names.Which.{Which}
-use Rattle.mon_wire.specs.Message.Bodies.{spelled}
+use Rattle.mon_wire.specs.Message.Bodies.{encoded}
 use Rattle.mon_wire.specs.declared.body.Body.TheVariants as body
 use Rattle.mon_wire.specs.declared.body.Body.{Body}
 use Rattle.mon_wire.specs.declared.message.Message.{Message}
@@ -39,9 +39,9 @@ use Rattle.mon_bounds.proofs.Joins.{joined_text}
 use Rattle.mon_bounds.proofs.Messages.{within}
 use Rattle.mon_bounds.proofs.Paxos.{hear_accept_ok, hear_begin_ok, hear_collect_ok, hear_commit_ok, hear_last_ok, hear_lease_ack_ok, hear_lease_ok, renew_ok}
 use Rattle.mon_bounds.proofs.RankSets.{set_none}
-use Rattle.mon_bounds.proofs.Sizes.{size_spelled}
+use Rattle.mon_bounds.proofs.Sizes.{size_encoded}
 use Rattle.quorum_walk.proofs.Walk.{Then, by_test}
-use Rattle.mon_bounds.specs.Fitting.{IsBounded, MayCome}
+use Rattle.mon_bounds.specs.Fitting.{IsBounded, IsValidInput}
 use Rattle.mon_bounds.specs.Remembered.{MayPropose, MayRemember}
 
 module _ (me : Me) (now : ℕ) (shared : List Entry) where
@@ -53,7 +53,7 @@ module _ (me : Me) (now : ℕ) (shared : List Entry) where
   many f lt ne = let apart : f ≢ me.member.rank = eqb-false f me.member.rank ne in let own = me.member.in_map in omega arith
 
   -- what another monitor says that may come
-  hear_ok : (f e : ℕ) (b : Body) (x : Course) → f < n → eqb f me.member.rank ≡ false → e ≤ 2 ^ 62 → (spelled n f b).Form → fits n b ≡ true → Under me 0 x → Then (Over me) (hear me shared now f e b x)
+  hear_ok : (f e : ℕ) (b : Body) (x : Course) → f < n → eqb f me.member.rank ≡ false → e ≤ 2 ^ 62 → (encoded n f b).Form → fits n b ≡ true → Under me 0 x → Then (Over me) (hear me shared now f e b x)
   hear_ok f e body.Probe x lt ne s k ok A = hear_probe_ok me now f x lt A
   hear_ok f e (body.ProbeReply q first last) x lt ne s k ok A = hear_probe_reply_ok me now f q first last x lt (many f lt ne) A
   hear_ok f e (body.Propose table) x lt ne s k ok A = hear_propose_ok me now f e table x lt s k A
@@ -97,28 +97,28 @@ module _ (me : Me) (now : ℕ) (shared : List Entry) where
   timer_ok timer.Ping x A = ping_ok me now x A
 
   -- a message of the same map
-  deliver_ok : (m : Message) (x : Course) → MayCome (input.Deliver m) → is_heard me m ≡ true → Under me 0 x → Then (Over me) (hear me shared now m.from m.epoch m.body x)
+  deliver_ok : (m : Message) (x : Course) → IsValidInput (input.Deliver m) → is_heard me m ≡ true → Under me 0 x → Then (Over me) (hear me shared now m.from m.epoch m.body x)
   deliver_ok m x k t A =
       let parts = and_parts (not (eqb m.from me.member.rank) && eqb m.monitors me.member.monitors) (has_fitting_table me m.body) t in
       let both = and_parts (not (eqb m.from me.member.rank)) (eqb m.monitors me.member.monitors) parts.0 in
       let same = eqb-true m.monitors me.member.monitors both.1 in
       let M = k.0 in
       hear_ok m.from m.epoch m.body x (subst (λ (z : ℕ). m.from < z) same M.sender) (not-true (eqb m.from me.member.rank) both.0) M.epoch
-      (subst (λ (z : ℕ). (spelled z m.from m.body).Form) same M.body) (subst (λ (z : ℕ). fits z m.body ≡ true) same k.1) A
+      (subst (λ (z : ℕ). (encoded z m.from m.body).Form) same M.body) (subst (λ (z : ℕ). fits z m.body ≡ true) same k.1) A
 
-  before_ok : (came : Input) (x : Course) → MayCome came → Under me 0 x → Then (Over me) (before_start me now came x)
+  before_ok : (came : Input) (x : Course) → IsValidInput came → Under me 0 x → Then (Over me) (before_start me now came x)
   before_ok input.Start x k A = start_ok me now x A
   before_ok (input.Deliver m) x k A = over me 0 x (omega arith) A
   before_ok (input.Timer t) x k A = over me 0 x (omega arith) A
   before_ok (input.Client s r) x k A = over me 0 _ (omega arith) (replies_ok me now s reply.Unavailable x k.0 (unavailable me now) A)
 
-  running_ok : (came : Input) (x : Course) → MayCome came → Under me 0 x → Then (Over me) (running me shared now came x)
+  running_ok : (came : Input) (x : Course) → IsValidInput came → Under me 0 x → Then (Over me) (running me shared now came x)
   running_ok input.Start x k A = over me 0 x (omega arith) A
   running_ok (input.Deliver m) x k A = by_test (is_heard me m) (λ t. deliver_ok m x k t A) (λ _. over me 0 x (omega arith) A)
   running_ok (input.Timer t) x k A = by_test (is_some (end_of t x.state.timers)) (λ _. timer_ok t (disarm t x) A) (λ _. over me 0 x (omega arith) A)
   running_ok (input.Client s r) x k A = hear_client_ok me now s r x k.0 k.1 A
 
-  react_ok : (w : Readings) (s : State) (came : Input) → MayCome came → Under me 0 (at_rest w s) → Then (Over me) (react me shared now w s came)
+  react_ok : (w : Readings) (s : State) (came : Input) → IsValidInput came → Under me 0 (at_rest w s) → Then (Over me) (react me shared now w s came)
   unfolding react
   react_ok w s came k A = by_test (same_phase s.phase phase.Booting) (λ _. before_ok came (at_rest w s) k A) (λ _. running_ok came (at_rest w s) k A)
 
@@ -143,7 +143,7 @@ boot_ok me = record {
 pub begins_ok : (value : List Op) → MayPropose value → may_begin value ≡ true
 begins_ok value V = within 1 (body.Begin 0 0 value) (let short = V.short in omega arith) refl
 
-pub reaction_ok : (me : Me) (now : ℕ) (m : Store) (s : State) (came : Input) → MayRemember me s → MayCome came → IfOk (reaction me now m s came) (IsBounded me)
+pub reaction_ok : (me : Me) (now : ℕ) (m : Store) (s : State) (came : Input) → MayRemember me s → IsValidInput came → IfOk (reaction me now m s came) (IsBounded me)
 reaction_ok me now m s came R k = by (react me (shared_entries m) now (readings_of m) s came) (react_ok me now (shared_entries m) (readings_of m) s came k (at_rest_ok me m s R))
   where
     by : (r : Result Course Which) → Then (Over me) r → IfOk (any_reaction r) (IsBounded me)
@@ -155,7 +155,7 @@ reaction_ok me now m s came R k = by (react me (shared_entries m) now (readings_
         let O = K.others in
         let few = W.bytes in
         record {
-          transaction = omega (arith, joined_text (change_ops x.changes), size_spelled x.changes, few);
+          transaction = omega (arith, joined_text (change_ops x.changes), size_encoded x.changes, few);
           sends = W.sends;
           state = record { placed = K.placed; elector = O.elector; leader = K.leader; peon = O.peon; clients = O.clients; requester = O.requester };
         }

@@ -3,7 +3,7 @@ use Rattle.std.proofs.Common.{◌≡◌, ℕ, ◌<◌, ◌^◌, true, ◌↔◌,
 use Rattle.std.proofs.lemmas.Bool.{and_from, le-leb}
 use Rattle.mon_msg.specs.Protocol.Length.{fits, short_list, short_lists}
 use Rattle.mon_wire.proofs.BodyLengths.{length-message}
-use Rattle.mon_wire.specs.Message.Bodies.{spelled}
+use Rattle.mon_wire.specs.Message.Bodies.{encoded}
 use Rattle.mon_wire.specs.Message.Client.{a_reply, a_routed}
 use Rattle.mon_wire.specs.Message.Whole.{HasText, IsMessage}
 use Rattle.mon_wire.specs.declared.body.Body.TheVariants as body
@@ -38,7 +38,7 @@ replied_lists id reply.Unavailable h = refl
 replied_lists id (reply.NotReadable has lease) h = refl
 replied_lists id (reply.Busy waiting) h = refl
 
-lists : (n own : ℕ) (b : Body) → (spelled n own b).Form → short_lists b ≡ true
+lists : (n own : ℕ) (b : Body) → (encoded n own b).Form → short_lists b ≡ true
 lists n own (body.Last pn first last whole from values pending) h = counted values h.1.1.1.1.1.0.0
 lists n own (body.Commit from values) h = counted values h.1.1.0
 lists n own (body.Route seq r) h = routed_lists seq r h.1

@@ -4,12 +4,12 @@ use Rattle.std.proofs.lemmas.Bool.{ltb-true, ltb-false}
 use Rattle.std.specs.List.{list_any, AllByRecursion}
 use Rattle.mon_bytes.proofs.Fields.{guard_ok, chosen_ok, ok_is}
 use Rattle.mon_bytes.proofs.Formats.{bind_ok, at_fault_ok, tested}
-use Rattle.mon_bytes.specs.Reading.{Reading, moved, number, front}
+use Rattle.mon_bytes.specs.Reading.{Reading, moved, number, next_bytes}
 use Rattle.mon_bytes.specs.Texts.{is_word}
 use Rattle.mon_bytes.specs.declared.cursor.Short.{Short}
 use Rattle.mon_tx.proofs.Words.{is_word_by}
 use Rattle.mon_tx.specs.Decode.{put_at, erase_at, erase_prefix_at, erase_range_at, op_at, ops_at, ops_of, transaction_of, OpFits, HasText}
-use Rattle.mon_tx.specs.Fields.{◌>>=◌, cut, graphic_front, word_at, value_at, version_at, format_at}
+use Rattle.mon_tx.specs.Fields.{◌>>=◌, cut, graphic_prefix_len, word_at, value_at, version_at, format_at}
 use Rattle.mon_tx.specs.Text.{op_text, is_range, most}
 use Rattle.mon_tx.specs.declared.op.Op.{Op}
 use Rattle.mon_tx.specs.declared.op.Op.TheVariants.{Put, Erase, ErasePrefix, EraseRange}
@@ -26,7 +26,7 @@ Drawn c n after = length c.rest ≡ n + length after.rest
 abbrev Small : Reading → Type 0
 Small c = length c.rest ≤ most
 
-front_drawn : (n : ℕ) (c : Reading) (x : List ℕ × Reading) → front n c ≡ Ok x → Drawn c (length x.0) x.1 × (length x.0 ≡ n)
+front_drawn : (n : ℕ) (c : Reading) (x : List ℕ × Reading) → next_bytes n c ≡ Ok x → Drawn c (length x.0) x.1 × (length x.0 ≡ n)
 front_drawn n c x e =
     let g = guard_ok (ltb (length c.rest) n) (record { at = c.at }) (Ok (take n c.rest, moved n c)) x e in
     let long = ltb-false _ _ g.0 in
@@ -42,15 +42,15 @@ number_drawn k c x e =
 word_drawn : (limit : ℕ) (c : Reading) (x : List ℕ × Reading) → word_at limit c ≡ Ok x → Drawn c (1 + length x.0) x.1 × IsTrue (is_word limit x.0)
 unfolding word_at
 word_drawn limit c x e =
-    let rest = λ (n : ℕ × Reading). cut (front n.0 n.1) >>= λ bytes. cond (ltb (graphic_front bytes.0) (length bytes.0)) (Err (refused.Name (n.1.at + graphic_front bytes.0))) (Ok bytes) in
+    let rest = λ (n : ℕ × Reading). cut (next_bytes n.0 n.1) >>= λ bytes. cond (ltb (graphic_prefix_len bytes.0) (length bytes.0)) (Err (refused.Name (n.1.at + graphic_prefix_len bytes.0))) (Ok bytes) in
     let a = bind_ok (cut (number 1 c)) (λ n. cond (ltb n.0 1) (Err (refused.Name c.at)) (cond (ltb limit n.0) (Err (refused.Name c.at)) (rest n))) x e in
     let n = a.0 in
     let low = guard_ok (ltb n.0 1) (refused.Name c.at) (cond (ltb limit n.0) (Err (refused.Name c.at)) (rest n)) x a.2 in
     let high = guard_ok (ltb limit n.0) (refused.Name c.at) (rest n) x low.1 in
-    let b = bind_ok (cut (front n.0 n.1)) (λ bytes. cond (ltb (graphic_front bytes.0) (length bytes.0)) (Err (refused.Name (n.1.at + graphic_front bytes.0))) (Ok bytes)) x high.1 in
-    let good = guard_ok (ltb (graphic_front b.0.0) (length b.0.0)) (refused.Name (n.1.at + graphic_front b.0.0)) (Ok b.0) x b.2 in
+    let b = bind_ok (cut (next_bytes n.0 n.1)) (λ bytes. cond (ltb (graphic_prefix_len bytes.0) (length bytes.0)) (Err (refused.Name (n.1.at + graphic_prefix_len bytes.0))) (Ok bytes)) x high.1 in
+    let good = guard_ok (ltb (graphic_prefix_len b.0.0) (length b.0.0)) (refused.Name (n.1.at + graphic_prefix_len b.0.0)) (Ok b.0) x b.2 in
     let t0 = number_drawn 1 c n (cut_ok (number 1 c) n a.1) in
-    let t1 = front_drawn n.0 n.1 b.0 (cut_ok (front n.0 n.1) b.0 b.1) in
+    let t1 = front_drawn n.0 n.1 b.0 (cut_ok (next_bytes n.0 n.1) b.0 b.1) in
     let len = t1.1 in
     let all = t1.0 in
     let lo : 1 ≤ n.0 = ltb-false _ _ low.0 in
@@ -61,9 +61,9 @@ word_drawn limit c x e =
 value_drawn : (c : Reading) (x : List ℕ × Reading) → value_at c ≡ Ok x → Drawn c (4 + length x.0) x.1
 unfolding value_at
 value_drawn c x e =
-    let a = bind_ok (cut (number 4 c)) (λ n. cut (front n.0 n.1)) x e in
+    let a = bind_ok (cut (number 4 c)) (λ n. cut (next_bytes n.0 n.1)) x e in
     let t0 = number_drawn 4 c a.0 (cut_ok (number 4 c) a.0 a.1) in
-    let t1 = front_drawn a.0.0 a.0.1 x (cut_ok (front a.0.0 a.0.1) x a.2) in
+    let t1 = front_drawn a.0.0 a.0.1 x (cut_ok (next_bytes a.0.0 a.0.1) x a.2) in
     let all = t1.0 in
     omega (arith, t0, all)
 
@@ -195,9 +195,9 @@ whole_drawn c ops few e =
     let l2 = t2.all in
     subst HasText (ok_is b.0.0 ops h.1) (record { each = t2.each; short = omega (arith, t0, t1, l2, few, text_span b.0.0) })
 
-pub spelled_value : (bytes : List ℕ) (ops : List Op) → transaction_of bytes ≡ Ok ops → HasText ops
+pub encoded_value : (bytes : List ℕ) (ops : List Op) → transaction_of bytes ≡ Ok ops → HasText ops
 unfolding transaction_of
-spelled_value bytes ops e =
+encoded_value bytes ops e =
     let c : Reading = record { at = 0; rest = bytes } in
     let g = guard_ok (ltb most (length bytes)) (refused.TooLong (length bytes)) (ops_of c) ops e in
     whole_drawn c ops (ltb-false _ _ g.0) g.1

@@ -38,13 +38,13 @@ IsRequest (request.Log text) = MayAsk (command.Log text)
 IsRequest (request.Show s) = Unit {0}
 IsRequest (request.Since s version) = IsNumber version
 
--- an input that may come: a message has the form of messages and isn't too long, and a client's request has a valid
--- number
-abbrev pub MayCome : Input → Type 0
-MayCome input.Start = Unit {0}
-MayCome (input.Deliver m) = IsMessage m × IsTrue (fits m.monitors m.body)
-MayCome (input.Timer t) = Unit {0}
-MayCome (input.Client session r) = IsNumber session.id × IsRequest r
+-- a valid input: a message has the form of messages and isn't too long, and a client's request has the form of
+-- requests and a valid session number
+abbrev pub IsValidInput : Input → Type 0
+IsValidInput input.Start = Unit {0}
+IsValidInput (input.Deliver m) = IsMessage m × IsTrue (fits m.monitors m.body)
+IsValidInput (input.Timer t) = Unit {0}
+IsValidInput (input.Client session r) = IsNumber session.id × IsRequest r
 
 -- ---- messages that may be sent
 

@@ -1,5 +1,5 @@
 ghost use Rattle.std.specs.Prelude.{ℕ, List, IfOk, IsTrue, ◌↔◌};
-ghost use Rattle.mon_bounds.specs.Fitting.{IsBounded, MayCome};
+ghost use Rattle.mon_bounds.specs.Fitting.{IsBounded, IsValidInput};
 ghost use Rattle.mon_bounds.specs.Remembered.{MayPropose, MayRemember};
 ghost use Rattle.mon_msg.specs.Protocol.Length.{fits};
 ghost use Rattle.mon_msg.specs.Protocol.Reaction.{reaction};
@@ -19,7 +19,7 @@ ghost use Rattle.mon_wire.specs.declared.message.Message.{Message};
 pub fn law_reaction_fits()
     ensures boot { (me : Me) → MayRemember me (booting me.member.rank) }
     ensures begins { (value : List Op) → MayPropose value → IsTrue (may_begin value) }
-    ensures stays { (me : Me) (now : ℕ) (m : Store) (s : State) (came : Input) → MayRemember me s → MayCome came
+    ensures stays { (me : Me) (now : ℕ) (m : Store) (s : State) (came : Input) → MayRemember me s → IsValidInput came
         → IfOk (reaction me now m s came) (IsBounded me) }
 {}
 

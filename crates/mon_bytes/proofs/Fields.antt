@@ -3,7 +3,7 @@ use Rattle.std.proofs.Common.{◌≡◌, ℕ, ◌+◌, ◌^◌, ◌≤◌, ◌<�
 use Rattle.std.proofs.lemmas.Bool.{cases_lt, ltb-false, le-ltb}
 use Rattle.std.proofs.lemmas.List.{append-nil, take_at, drop_at, take-append-drop, length-append, length-take, get_or-drop, get_or-take, get_or_past}
 use Rattle.byteorder.specs.Endian.{little_bytes, little_number}
-use Rattle.mon_bytes.specs.Reading.{IsBytes, Reading, moved, number, front}
+use Rattle.mon_bytes.specs.Reading.{IsBytes, Reading, moved, number, next_bytes}
 pub use Rattle.mon_bytes.specs.Reading.{Takes, Found}
 use Rattle.mon_bytes.proofs.LittleEndian.{little_number-below, little_bytes-little_number}
 
@@ -35,7 +35,7 @@ Takes-then a b c x y p q = record { parts = p.parts ∙ ap (λ (t : List ℕ). x
 pub Takes-whole : (c after : Reading) (text : List ℕ) → Takes c text after → after.rest ≡ [] → c.rest ≡ text
 Takes-whole c after text t none = t.parts ∙ ap (λ (r : List ℕ). text ++ r) none ∙ append-nil text
 
-pub front_takes : (n : ℕ) (c : Reading) (x : List ℕ × Reading) → IsBytes c.rest → front n c ≡ Ok x → Takes c x.0 x.1 × (length x.0 ≡ n)
+pub front_takes : (n : ℕ) (c : Reading) (x : List ℕ × Reading) → IsBytes c.rest → next_bytes n c ≡ Ok x → Takes c x.0 x.1 × (length x.0 ≡ n)
 front_takes n c x fits e =
     let g = guard_ok (ltb (length c.rest) n) (record { at = c.at }) (Ok (take n c.rest, moved n c)) x e in
     let long : n ≤ length c.rest = ltb-false _ _ g.0 in
@@ -67,7 +67,7 @@ number_found k c bytes rest n e len is =
 pub byte_found : (c : Reading) (n : ℕ) (rest : List ℕ) → c.rest ≡ n ∷ rest → Found (number 1 c) n rest
 byte_found c n rest e = number_found 1 c (n ∷ []) rest n e refl (omega arith)
 
-pub front_found : (k : ℕ) (c : Reading) (bytes rest : List ℕ) → c.rest ≡ bytes ++ rest → length bytes ≡ k → Found (front k c) bytes rest
+pub front_found : (k : ℕ) (c : Reading) (bytes rest : List ℕ) → c.rest ≡ bytes ++ rest → length bytes ≡ k → Found (next_bytes k c) bytes rest
 front_found k c bytes rest e len =
     let first : take k c.rest ≡ bytes = ap (take k) e ∙ take_at bytes rest k len in
     let others : drop k c.rest ≡ rest = ap (drop k) e ∙ drop_at bytes rest k len in

@@ -10,7 +10,7 @@ use Rattle.mon_bytes.specs.Reading.{IsBytes, Reading, number}
 use Rattle.mon_bytes.proofs.Fields.{guard_ok, ok_is, Takes, Takes-then, number_takes, byte_takes, Found, number_found, byte_found}
 use Rattle.mon_bytes.specs.Answers.{◌>>=◌, at_fault, Fails, Unless}
 pub use Rattle.mon_bytes.specs.Format.{IsLawful}
-use Rattle.mon_bytes.specs.Format.{Faults, Reader, Format, nothing, dependent, seen_as, as_parts, items, u16_bytes, list, some, Spelling, variant, chosen, tagged}
+use Rattle.mon_bytes.specs.Format.{Faults, Reader, Format, nothing, dependent, seen_as, as_parts, items, u16_bytes, list, some, Encoding, variant, chosen, tagged}
 
 pub bind_ok : {A B E : Type 0} (r : Result A E) (f : A → Result B E) (y : B) → (r >>= f) ≡ Ok y → (x : A) × (r ≡ Ok x) × (f x ≡ Ok y)
 bind_ok (Ok x) f y e = (x, refl, e)
@@ -148,23 +148,23 @@ some-lawful {E} {A} faults f lf = record {
 -- ---- values of several kinds
 
 -- what a reader of a kind reads is encoded after that kind
-pub record IsTaken {E B : Type 0} (spelled : B → Spelling) (v : ℕ × Reader E B) (c : Reading) (x : B × Reading) : Type 0 where
-  pub tag : (spelled x.0).tag ≡ v.0
-  pub all : Takes c ((spelled x.0).text) x.1
-  pub form : (spelled x.0).Form
+pub record IsTaken {E B : Type 0} (encoded : B → Encoding) (v : ℕ × Reader E B) (c : Reading) (x : B × Reading) : Type 0 where
+  pub tag : (encoded x.0).tag ≡ v.0
+  pub all : Takes c ((encoded x.0).text) x.1
+  pub form : (encoded x.0).Form
 
-abbrev pub TakesVariant : {E B : Type 0} → (B → Spelling) → ℕ × Reader E B → Type 0
-TakesVariant {E} {B} spelled v = (c : Reading) (x : B × Reading) → IsBytes c.rest → v.1 c ≡ Ok x → IsTaken spelled v c x
+abbrev pub TakesVariant : {E B : Type 0} → (B → Encoding) → ℕ × Reader E B → Type 0
+TakesVariant {E} {B} encoded v = (c : Reading) (x : B × Reading) → IsBytes c.rest → v.1 c ≡ Ok x → IsTaken encoded v c x
 
-pub variant_takes : {E A B : Type 0} (spelled : B → Spelling) (tag : ℕ) (f : Format E A) (whole : A → B) → IsLawful f
-    → ((a : A) → (spelled (whole a)).tag ≡ tag)
-    → ((a : A) → (spelled (whole a)).text ≡ f.text a)
-    → ((a : A) → f.Form a → (spelled (whole a)).Form)
-    → TakesVariant spelled (tag, variant f whole)
-variant_takes spelled tag f whole lf same_tag same_text form c x fits e =
+pub variant_takes : {E A B : Type 0} (encoded : B → Encoding) (tag : ℕ) (f : Format E A) (whole : A → B) → IsLawful f
+    → ((a : A) → (encoded (whole a)).tag ≡ tag)
+    → ((a : A) → (encoded (whole a)).text ≡ f.text a)
+    → ((a : A) → f.Form a → (encoded (whole a)).Form)
+    → TakesVariant encoded (tag, variant f whole)
+variant_takes encoded tag f whole lf same_tag same_text form c x fits e =
     let a = bind_ok (f.read c) (λ x. Ok (whole x.0, x.1)) x e in
     let t = lf.takes c a.0 fits a.1 in
-    subst (IsTaken spelled (tag, variant f whole) c) (ok_is (whole a.0.0, a.0.1) x a.2)
+    subst (IsTaken encoded (tag, variant f whole) c) (ok_is (whole a.0.0, a.0.1) x a.2)
     (record { tag = same_tag a.0.0; all = subst (λ (bytes : List ℕ). Takes c bytes a.0.1) (sym (same_text a.0.0)) t.0; form = form a.0.0 t.1 })
 
 pub tested : {A E : Type 0} (m n : ℕ) (r s : Result A E) (x : A) → cond (eqb m n) r s ≡ Ok x → ((m ≡ n) × (r ≡ Ok x)) ⊎ (s ≡ Ok x)
@@ -174,21 +174,21 @@ tested m n r s x e =
       | inr ne ↦ let t : eqb m n ≡ false = grind (arith, nat_tests) in inr (rw t at e)
     ]
 
-chosen_takes : {E B : Type 0} (faults : Faults E) (spelled : B → Spelling) (vs : List (ℕ × Reader E B)) (at kind : ℕ) (r : Reader E B) (c : Reading) (x : B × Reading) → AllByRecursion (TakesVariant spelled) vs → IsBytes c.rest → chosen faults vs at kind c ≡ Ok x → IsTaken spelled (kind, r) c x
-chosen_takes faults spelled [] at kind r c x each fits e = absurd cc
-chosen_takes faults spelled (v ∷ vs) at kind r c x each fits e =
+chosen_takes : {E B : Type 0} (faults : Faults E) (encoded : B → Encoding) (vs : List (ℕ × Reader E B)) (at kind : ℕ) (r : Reader E B) (c : Reading) (x : B × Reading) → AllByRecursion (TakesVariant encoded) vs → IsBytes c.rest → chosen faults vs at kind c ≡ Ok x → IsTaken encoded (kind, r) c x
+chosen_takes faults encoded [] at kind r c x each fits e = absurd cc
+chosen_takes faults encoded (v ∷ vs) at kind r c x each fits e =
     elim (tested kind v.0 (v.1 c) (chosen faults vs at kind c) x e) [
       | inl h ↦ let t = each.0 c x fits h.1 in record { tag = t.tag ∙ sym h.0; all = t.all; form = t.form }
-      | inr h ↦ chosen_takes faults spelled vs at kind r c x each.1 fits h
+      | inr h ↦ chosen_takes faults encoded vs at kind r c x each.1 fits h
     ]
 
-pub choice_takes : {E B : Type 0} (faults : Faults E) (spelled : B → Spelling) (vs : List (ℕ × Reader E B)) → AllByRecursion (TakesVariant spelled) vs → (c : Reading) (x : B × Reading) → IsBytes c.rest → tagged faults vs c ≡ Ok x
-    → Takes c ((spelled x.0).tag ∷ (spelled x.0).text) x.1 × (spelled x.0).Form
-choice_takes faults spelled vs each c x fits e =
+pub choice_takes : {E B : Type 0} (faults : Faults E) (encoded : B → Encoding) (vs : List (ℕ × Reader E B)) → AllByRecursion (TakesVariant encoded) vs → (c : Reading) (x : B × Reading) → IsBytes c.rest → tagged faults vs c ≡ Ok x
+    → Takes c ((encoded x.0).tag ∷ (encoded x.0).text) x.1 × (encoded x.0).Form
+choice_takes faults encoded vs each c x fits e =
     let a = bind_ok (at_fault faults.cut (number 1 c)) (λ kind. chosen faults vs c.at kind.0 kind.1) x e in
     let t0 = byte_takes c a.0 fits (at_fault_ok faults.cut (number 1 c) a.0 a.1) in
-    let t1 = chosen_takes faults spelled vs c.at a.0.0 (tagged faults vs) a.0.1 x each t0.0.bytes a.2 in
-    let text = (spelled x.0).text in
+    let t1 = chosen_takes faults encoded vs c.at a.0.0 (tagged faults vs) a.0.1 x each t0.0.bytes a.2 in
+    let text = (encoded x.0).text in
     (subst (λ (n : ℕ). Takes c (n ∷ text) x.1) (sym t1.tag) (Takes-then c a.0.1 x.1 (a.0.0 ∷ []) text t0.0 t1.all), t1.form)
 
 pub variant_found : {E A B : Type 0} (faults : Faults E) (vs : List (ℕ × Reader E B)) (f : Format E A) (whole : A → B) (tag : ℕ) → IsLawful f → ((at : ℕ) (d : Reading) → chosen faults vs at tag d ≡ variant f whole d)

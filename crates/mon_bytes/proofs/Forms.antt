@@ -10,7 +10,7 @@ use Rattle.mon_bytes.specs.declared.cursor.Short.{Short}
 use Rattle.mon_bytes.specs.declared.command.MapRefused.{MapRefused}
 use Rattle.mon_bytes.specs.declared.command.MapRefused.TheVariants as refused
 use Rattle.mon_bytes.specs.Format.{Format, IsLawful}
-use Rattle.mon_bytes.specs.Reading.{IsBytes, Reading, number, front}
+use Rattle.mon_bytes.specs.Reading.{IsBytes, Reading, number, next_bytes}
 use Rattle.mon_bytes.specs.Forms.{◌>>=◌, fitted, u32_bytes, text_bytes, text_at, ended, whole, Gives}
 pub use Rattle.mon_bytes.proofs.Formats.{bind_ok}
 use Rattle.mon_bytes.proofs.Formats.{at_fault_ok}
@@ -39,12 +39,12 @@ counted c n after k bytes t is more =
 pub text_takes : (c : Reading) (x : List ℕ × Reading) → IsBytes c.rest → text_at c ≡ Ok x → Takes c (text_bytes x.0) x.1 × IsTrue (is_utf8 x.0) × (length x.0 < 2 ^ 32)
 unfolding text_at
 text_takes c x fits e =
-    let a = bind_ok (fitted (number 4 c)) (λ n. fitted (front n.0 n.1) >>= λ bytes. cond (is_utf8 bytes.0) (Ok bytes) (Err (refused.Form n.1.at))) x e in
+    let a = bind_ok (fitted (number 4 c)) (λ n. fitted (next_bytes n.0 n.1) >>= λ bytes. cond (is_utf8 bytes.0) (Ok bytes) (Err (refused.Form n.1.at))) x e in
     let n = a.0 in
-    let b = bind_ok (fitted (front n.0 n.1)) (λ bytes. cond (is_utf8 bytes.0) (Ok bytes) (Err (refused.Form n.1.at))) x a.2 in
+    let b = bind_ok (fitted (next_bytes n.0 n.1)) (λ bytes. cond (is_utf8 bytes.0) (Ok bytes) (Err (refused.Form n.1.at))) x a.2 in
     let g = chosen_ok (is_utf8 b.0.0) (refused.Form n.1.at) (Ok b.0) x b.2 in
     let t0 = u32_takes c n fits (fitted_ok (number 4 c) n a.1) in
-    let t1 = front_takes n.0 n.1 b.0 t0.0.bytes (fitted_ok (front n.0 n.1) b.0 b.1) in
+    let t1 = front_takes n.0 n.1 b.0 t0.0.bytes (fitted_ok (next_bytes n.0 n.1) b.0 b.1) in
     let all = Takes-then c n.1 b.0.1 (u32_bytes n.0) b.0.0 t0.0 t1.0 in
     subst (λ (p : List ℕ × Reading). Takes c (text_bytes p.0) p.1 × IsTrue (is_utf8 p.0) × (length p.0 < 2 ^ 32)) (ok_is b.0 x g.1)
     (subst (λ (k : ℕ). Takes c (u32_bytes k ++ b.0.0) b.0.1) (sym t1.1) all, g.0, omega (arith, t0.1, t1.1))

@@ -82,13 +82,13 @@ some faults f = record {
 -- ---- values of several kinds, with the kind in front
 
 -- a value of one of the kinds: the byte of its kind, the bytes that follow, and what its form asks
-pub record Spelling : Type 1 where
+pub record Encoding : Type 1 where
   pub tag : ℕ
   pub text : List ℕ
   pub Form : Type 0
 
-abbrev pub spelling : {E A : Type 0} → ℕ → Format E A → A → Spelling
-spelling tag f x = record { tag = tag; text = f.text x; Form = f.Form x }
+abbrev pub encoding : {E A : Type 0} → ℕ → Format E A → A → Encoding
+encoding tag f x = record { tag = tag; text = f.text x; Form = f.Form x }
 
 -- reading what follows the kind
 abbrev pub variant : {E A B : Type 0} → Format E A → (A → B) → Reader E B
@@ -102,9 +102,9 @@ chosen faults (v ∷ vs) at kind c = if kind == v.0 then v.1 c else chosen fault
 abbrev pub tagged : {E B : Type 0} → Faults E → List (ℕ × Reader E B) → Reader E B
 tagged faults vs c = at_fault faults.cut (number 1 c) >>= λ kind. chosen faults vs c.at kind.0 kind.1
 
-abbrev pub choice : {E B : Type 0} → (B → Spelling) → Reader E B → Format E B
-choice spelled read = record {
-  text = λ b. (spelled b).tag ∷ (spelled b).text;
+abbrev pub choice : {E B : Type 0} → (B → Encoding) → Reader E B → Format E B
+choice encoded read = record {
+  text = λ b. (encoded b).tag ∷ (encoded b).text;
   read = read;
-  Form = λ b. (spelled b).Form;
+  Form = λ b. (encoded b).Form;
 }

@@ -5,7 +5,7 @@ use Rattle.byteorder.specs.Endian.{little_bytes}
 use Rattle.mon_bytes.specs.declared.cursor.Short.{Short}
 use Rattle.mon_bytes.specs.declared.command.MapRefused.{MapRefused}
 use Rattle.mon_bytes.specs.declared.command.MapRefused.TheVariants as refused
-use Rattle.mon_bytes.specs.Reading.{Reading, number, front}
+use Rattle.mon_bytes.specs.Reading.{Reading, number, next_bytes}
 use Rattle.mon_bytes.specs.Answers as answers
 use Rattle.mon_bytes.specs.Answers.{at_fault}
 use Rattle.mon_bytes.specs.Format.{Format}
@@ -42,7 +42,7 @@ text_bytes text = u32_bytes (length text) ++ text
 unfoldable pub text_at : Reading → Result (List ℕ × Reading) MapRefused
 text_at c = do
   n ← fitted (number 4 c)
-  bytes ← fitted (front n.0 n.1)
+  bytes ← fitted (next_bytes n.0 n.1)
   if is_utf8 bytes.0 then Ok bytes else Err (refused.Form n.1.at)
 
 -- what was read, if nothing is left; the first byte too many is at fault

@@ -16,8 +16,8 @@ abbrev pub moved : ℕ → Reading → Reading
 moved n c = record { at = c.at + n; rest = drop n c.rest }
 
 -- the next n bytes, or the place where they are cut
-abbrev pub front : ℕ → Reading → Result (List ℕ × Reading) Short
-front n c = if nat_lt (length c.rest) n then Err (record { at = c.at }) else Ok (take n c.rest, moved n c)
+abbrev pub next_bytes : ℕ → Reading → Result (List ℕ × Reading) Short
+next_bytes n c = if nat_lt (length c.rest) n then Err (record { at = c.at }) else Ok (take n c.rest, moved n c)
 
 -- the number in the next n bytes, the lowest first
 abbrev pub number : ℕ → Reading → Result (ℕ × Reading) Short

@@ -1,5 +1,5 @@
 ghost use Rattle.std.specs.Prelude.{◌≡◌, ℕ, ◌≤◌, ◌<◌, ◌+◌, ◌^◌, length, IfOk};
-ghost use Rattle.mon_bytes.specs.Reading.{number, front, Steps};
+ghost use Rattle.mon_bytes.specs.Reading.{number, next_bytes, Steps};
 
 use byteorder::{ByteOrder, LittleEndian};
 use std::marker::Model;
@@ -57,7 +57,7 @@ impl<'a> Cursor<'a> {
 
     /// The next `n` bytes. `Short` if and only if fewer are left.
     pub fn take_bytes(&mut self, n: usize) -> Result<&'a [u8], Short>
-        ensures step { Steps (λ x. x.now) result self.old self.new (front n self.old) }
+        ensures step { Steps (λ x. x.now) result self.old self.new (next_bytes n self.old) }
         ensures len { IfOk result (λ x. length x.now ≡ n) }
         ensures within { self.new.at + length self.new.rest < 2 ^ 63 }
     {

@@ -16,15 +16,15 @@ pub trait Decode: Drop + Sized {
     ghost format: { Format MapRefused Self };
 
     /// The value that all of the bytes encode, or why there is none.
-    ghost spelled: { List ℕ → Result Self MapRefused };
+    ghost decoded: { List ℕ → Result Self MapRefused };
 
     /// Reads a value from the front of the cursor. After a refusal the cursor may be anywhere.
     fn read(alloc: Global, cursor: &mut Cursor<'_>) -> Result<Self, MapRefused>
         ensures value { Reads (λ x. x) result cursor.new (format.read cursor.old) }
         // Decoding accepts exactly the encodings.
         ensures lawful { IsLawful format }
-        // `spelled` reads one value, and nothing may follow it.
-        ensures whole { (bytes : List ℕ) → spelled bytes ≡ whole format bytes };
+        // `decoded` reads one value, and nothing may follow it.
+        ensures whole { (bytes : List ℕ) → decoded bytes ≡ whole format bytes };
 
     /// Decodes a value from all of the bytes. `Form` names the first byte of the first faulty field.
     final fn decode(alloc: Global, bytes: &[u8]) -> Result<Self, MapRefused>
@@ -33,7 +33,7 @@ pub trait Decode: Drop + Sized {
         // An encoding is read, unless memory runs out.
         ensures only { (x : Self) → format.Form x → bytes.now ≡ format.text x → Gives (λ x. x) result (Ok x) }
         // Which field is at fault.
-        ensures exact { Gives (λ x. x) result (spelled bytes.now) }
+        ensures exact { Gives (λ x. x) result (decoded bytes.now) }
     {
         read_whole(alloc, bytes)
     }
@@ -54,7 +54,7 @@ fn ended<T: Drop>(value: T, cursor: &Cursor<'_>) -> Result<T, MapRefused>
 fn read_whole<T: Decode>(alloc: Global, bytes: &[u8]) -> Result<T, MapRefused>
     ensures value { Gives (λ x. x) result (whole T.format bytes.now) }
     ensures lawful { IsLawful T.format }
-    ensures whole { (bytes : List _) → T.spelled bytes ≡ whole T.format bytes }
+    ensures whole { (bytes : List _) → T.decoded bytes ≡ whole T.format bytes }
 {
     let mut cursor = Cursor::new(bytes);
     let value = T::read(alloc, &mut cursor)?;

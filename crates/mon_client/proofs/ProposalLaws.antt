@@ -1,7 +1,7 @@
 -- What proposing a command does.
 use Rattle.std.proofs.Common.{◌≡◌, ◌≢◌, ℕ, suc, ◌+◌, ◌^◌, ◌<◌, ◌≤◌, min, List, [], ◌∷◌, Result, Ok, Err, refl, arith}
 use Rattle.std.proofs.lemmas.Bool.{le-leb, lt-leb}
-use Rattle.mon_bytes.specs.Makes.{Refuses}
+use Rattle.mon_bytes.specs.Makes.{RefusesAs}
 use Rattle.mon_bytes.specs.declared.command.Command.{Command}
 use Rattle.mon_bytes.specs.declared.command.CommandRefused.TheVariants as refused
 use Rattle.mon_bytes.specs.declared.command.CommandRefused.{CommandRefused}
@@ -23,7 +23,7 @@ use Rattle.mon_wire.specs.declared.phase.Timer.TheVariants as timer
 use Rattle.mon_plan.specs.Plans.{done, act}
 use Rattle.mon_client.proofs.Planned.{plan_of}
 
-pub refused_is : {X : Type 0} (e : CommandRefused) (wanted : Result X CommandRefused) → Refuses e wanted → e ≢ refused.OutOfMemory → wanted ≡ Err e
+pub refused_is : {X : Type 0} (e : CommandRefused) (wanted : Result X CommandRefused) → RefusesAs e wanted → e ≢ refused.OutOfMemory → wanted ≡ Err e
 refused_is refused.NoSuch wanted h ne = h
 refused_is (refused.TooLong len most) wanted h ne = h
 refused_is (refused.MapFull would_be) wanted h ne = h

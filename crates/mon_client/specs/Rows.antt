@@ -24,10 +24,10 @@ use Rattle.mon_wire.specs.declared.request.Request.TheVariants as request
 use Rattle.mon_wire.specs.declared.request.Request.{Request}
 
 -- what a peon hands on, and what its leader answers
-abbrev pub is_told : Body → Bool
-is_told (body.Forward seq c) = true
-is_told (body.Route seq r) = true
-is_told b = false
+abbrev pub is_role_message : Body → Bool
+is_role_message (body.Forward seq c) = true
+is_role_message (body.Route seq r) = true
+is_role_message b = false
 
 abbrev pub is_rung : Timer → Bool
 is_rung timer.Propose = true
@@ -40,7 +40,7 @@ is_asked r = true
 
 abbrev pub is_input : Input → Bool
 is_input input.Start = false
-is_input (input.Deliver m) = is_told m.body
+is_input (input.Deliver m) = is_role_message m.body
 is_input (input.Timer t) = is_rung t
 is_input (input.Client session r) = is_asked r
 

@@ -5,11 +5,11 @@ ghost use Rattle.mon_bytes.specs.declared.entry.Entry.{Entry};
 ghost use Rattle.mon_msg.specs.Protocol.Course.{clients_are};
 ghost use Rattle.mon_msg.specs.Protocol.Hearing.{hear, hear_client};
 ghost use Rattle.mon_msg.specs.Protocol.Readings.{readings_of};
-ghost use Rattle.mon_plan.specs.Inputs.{may_come, row};
+ghost use Rattle.mon_plan.specs.Inputs.{input_is_short, row};
 ghost use Rattle.mon_plan.specs.Leaves.{Leaves};
 ghost use Rattle.mon_plan.specs.Plans.{PlansRow};
 ghost use Rattle.mon_plan.specs.Seen.{IsMet};
-ghost use Rattle.mon_client.specs.Rows.{ByRow, is_told, is_asked, is_input};
+ghost use Rattle.mon_client.specs.Rows.{ByRow, is_role_message, is_asked, is_input};
 
 use crate::commands::{ask, propose_due};
 use crate::handed_on::{forward, route};
@@ -24,7 +24,7 @@ use std::alloc::Global;
 
 /// Hears a FORWARD or ROUTE of another monitor.
 fn hear(here: &Here<'_>, clients: Clients, message: &Message) -> Result<Plan<Clients>, RoleStop>
-    requires { IsTrue (is_told message.now.body) }
+    requires { IsTrue (is_role_message message.now.body) }
     ensures plans { (shared : List Entry) → ByRow here.now clients
         (hear here.now.me.now shared here.now.time message.now.from message.now.epoch message.now.body) result }
     ensures leaves { IfOk result (λ plan. Leaves here.now.view.now.phase plan.next plan.tx) }
@@ -89,7 +89,7 @@ pub fn step(
     now: Moment,
 ) -> Result<Plan<Clients>, RoleStop>
     requires input { IsTrue (is_input input.now) }
-    requires fits { IsTrue (may_come me.now.member.monitors input.now) }
+    requires fits { IsTrue (input_is_short me.now.member.monitors input.now) }
     ensures plans { (shared : List Entry) → PlansRow me.now now clients_are
         (IsMet me.now now (readings_of kv.now) view.now (λ s. s.clients) state.now)
         (row me.now shared now input.now) result }
@@ -112,7 +112,7 @@ pub fn step_owned(
     input: &Input,
 ) -> Result<Plan<Clients>, RoleStop>
     requires input { IsTrue (is_input input.now) }
-    requires fits { IsTrue (may_come here.now.me.now.member.monitors input.now) }
+    requires fits { IsTrue (input_is_short here.now.me.now.member.monitors input.now) }
     ensures plans { (shared : List Entry) → PlansRow here.now.me.now here.now.time clients_are
         (IsMet here.now.me.now here.now.time (readings_of here.now.kv.now) view.now (λ s. s.clients) clients)
         (row here.now.me.now shared here.now.time input.now) result }

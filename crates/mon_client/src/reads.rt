@@ -33,7 +33,7 @@ pub fn unreadable(alloc: Global, kv: &Kv, view: &View) -> Option<Reply>
 }
 
 /// The reply to a client that asks what changed after a version.
-fn told(here: &Here<'_>, service: Service, version: Version) -> Result<Reply, OutOfMemory>
+fn changes_reply(here: &Here<'_>, service: Service, version: Version) -> Result<Reply, OutOfMemory>
     ensures { IfOk result (λ reply. reply ≡
         unwrap_or (unreadable (readings_of here.now.kv.now) here.now.view.now)
         (changes_since (readings_of here.now.kv.now) service version)) }
@@ -56,6 +56,6 @@ pub(crate) fn since(
         (read here.now.me.now here.now.time session (λ w. changes_since w service version)) result }
     ensures leaves { IfOk result (λ plan. Leaves here.now.view.now.phase plan.next plan.tx) }
 {
-    let reply = told(here, service, version)?;
+    let reply = changes_reply(here, service, version)?;
     Ok(answered(here.alloc, clients, Sent::Reply { to: session, reply })?)
 }

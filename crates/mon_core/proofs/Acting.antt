@@ -30,11 +30,11 @@ use Rattle.mon_event.specs.declared.event.Event.{Event}
 -- the store's readers return what the event's transaction leaves
 pub tells : (m : Store) (e : Event) (x : Course) → IsUnderWay (readings_of m) e x → x.readings ≡ readings_of (apply e.tx m)
 tells m e x h =
-    h.readings ∙ sym (readings-after x.changes h.fit m) ∙ ap (λ (ops : List Op). readings_of (apply ops m)) (sym h.spelled)
+    h.readings ∙ sym (readings-after x.changes h.fit m) ∙ ap (λ (ops : List Op). readings_of (apply ops m)) (sym h.encoded)
 
-pub tells_epoch : (m : Store) (e : Event) (x : Course) → IsUnderWay (readings_of m) e x
+pub writes_epoch : (m : Store) (e : Event) (x : Course) → IsUnderWay (readings_of m) e x
     → (epoch : ℕ) → epoch ≡ epoch_of (readings_of (apply e.tx m)) → epoch_of x.readings ≡ epoch
-tells_epoch m e x h epoch is = ap epoch_of (tells m e x h) ∙ sym is
+writes_epoch m e x h epoch is = ap epoch_of (tells m e x h) ∙ sym is
 
 -- except for the epoch and the count of starts, they return the same
 pub kept : (m : Store) (e : Event) (x : Course) → IsUnderWay (readings_of m) e x → KeepsAll m e.tx
@@ -57,7 +57,7 @@ module _ {S : Type 0} (me : Me) (now : ℕ) (is : S → Course → Course) (B : 
     after = done is d.changes p (start x)
 
     under_way : IsUnderWay w c after
-    under_way = k.done d.changes d.fit d.spelled w (start x) h
+    under_way = k.done d.changes d.fit d.encoded w (start x) h
 
     -- and then the act that it names
     goes_on : (new : Event) (result : Result Unit RoleStop) → ((y : Course) → IsUnderWay w c y → Reaches w (act me now n y) new result)
@@ -95,7 +95,7 @@ module _ {S : Type 0} (me : Me) (now : ℕ) (m : Store) (is : S → Course → C
 -- ---- a row, of an event that has just begun
 
 pub rests : (me : Me) (m : Store) (e : Event) → IsReady me e → IsUnderWay (readings_of m) e (at_rest (readings_of m) (state_of e.state))
-rests me m e r = record { readings = refl; fit = tt; spelled = r.unwritten; out = r.unsent; state = refl }
+rests me m e r = record { readings = refl; fit = tt; encoded = r.unwritten; out = r.unsent; state = refl }
 
 -- the role that sets its state by `put` plans the row
 module _ {S : Type 0} (put : S → State → State) (role_in : State → S) (me : Me) (now : ℕ) (m : Store)
@@ -120,4 +120,4 @@ module _ {S : Type 0} (put : S → State → State) (role_in : State → S) (me 
   pub row_goes_on : (p : Plan S) → Does me now (remembering put) Before (λ x. x) wanted p → (new : Event) (result : Result Unit RoleStop)
       → Carried put me m now e p new result → AnswersRow me m now e came new result
   row_goes_on p d new result f =
-      subst (λ (x : Result Course Which). Reaches (readings_of m) x new result) (sym (d.row begins met)) (f d.changes d.fit d.spelled begins (rests me m e r))
+      subst (λ (x : Result Course Which). Reaches (readings_of m) x new result) (sym (d.row begins met)) (f d.changes d.fit d.encoded begins (rests me m e r))

@@ -2,7 +2,7 @@
 use Rattle.std.proofs.Common.{◌≡◌, ℕ, Bool, true, false, List, None, Result, Ok, is_some, sym, ap, subst, ◌∙◌, arith}
 use Rattle.std.proofs.lemmas.Bool.Decides.{nat_tests}
 use Rattle.std.specs.Prelude.{if◌then◌else◌}
-use Rattle.mon_bounds.specs.Fitting.{MayCome}
+use Rattle.mon_bounds.specs.Fitting.{IsValidInput}
 use Rattle.mon_bytes.specs.declared.entry.Entry.{Entry}
 use Rattle.mon_msg.specs.Protocol.Course.{Course, ◌▸◌, disarm, dropped}
 use Rattle.mon_msg.specs.Protocol.Hearing.{hear, is_heard}
@@ -20,7 +20,7 @@ use Rattle.mon_types.specs.declared.names.Which.{Which}
 use Rattle.mon_wire.specs.declared.message.Message.{Message}
 use Rattle.mon_wire.specs.declared.phase.Phase.TheVariants as phase
 use Rattle.mon_wire.specs.declared.phase.Timer.{Timer}
-use Rattle.mon_plan.specs.Inputs.{may_come, row}
+use Rattle.mon_plan.specs.Inputs.{input_is_short, row}
 use Rattle.mon_event.specs.Events.{Reaches}
 use Rattle.mon_event.specs.Roles.{hearer}
 use Rattle.mon_event.specs.State.{state_of}
@@ -37,7 +37,7 @@ drops me m e r wanted is = record { course = at_rest (readings_of m) (state_of e
 -- ---- messages
 
 -- a message that is taken isn't longer than one among this many monitors
-pub heard_fits : (me : Me) (m : Message) → is_heard me m ≡ true → MayCome (input.Deliver m) → may_come me.member.monitors (input.Deliver m) ≡ true
+pub heard_fits : (me : Me) (m : Message) → is_heard me m ≡ true → IsValidInput (input.Deliver m) → input_is_short me.member.monitors (input.Deliver m) ≡ true
 heard_fits me m heard may =
     let here : m.monitors ≡ me.member.monitors = grind (arith, nat_tests, heard) in
     subst (λ n. fits n m.body ≡ true) here may.1

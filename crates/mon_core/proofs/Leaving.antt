@@ -2,7 +2,7 @@
 use Rattle.std.proofs.Common.{◌≡◌, ℕ, ◌≤◌, ◌^◌, List, Some, [], ◌∷◌, ◌++◌, refl, sym, ap, subst, ◌∙◌, inl, inr, arith}
 use Rattle.std.proofs.lemmas.Bool.{lt-ltb}
 use Rattle.std.specs.List.{AllByRecursion}
-use Rattle.mon_msg.specs.Protocol.Changes.{Change, Boot, Epoch, spelled}
+use Rattle.mon_msg.specs.Protocol.Changes.{Change, Boot, Epoch, encoded}
 use Rattle.mon_msg.specs.Protocol.Course.{Course}
 use Rattle.mon_msg.specs.Protocol.Phases.{is_leading}
 use Rattle.mon_msg.specs.Protocol.Played.{Fits, played}
@@ -19,7 +19,7 @@ use Rattle.mon_tx.specs.Map.{Store, apply}
 use Rattle.mon_tx.specs.declared.op.Op.{Op}
 use Rattle.mon_wire.specs.declared.phase.Phase.TheVariants as phase
 use Rattle.mon_wire.specs.declared.phase.Phase.{Phase}
-use Rattle.mon_plan.specs.Leaves.{Ends, Leaves, TellsEpoch}
+use Rattle.mon_plan.specs.Leaves.{Ends, Leaves, WritesEpoch}
 use Rattle.mon_plan.specs.Plans.{done, stands, changed, arm_all, sending}
 use Rattle.mon_plan.proofs.Planning.{changed-state}
 use Rattle.mon_stored.proofs.Standing.{readings-after}
@@ -35,7 +35,7 @@ use Rattle.mon_event.specs.declared.event.Event.{Event}
 abbrev Kept : Readings → Readings → Type 0
 Kept w v = v ≡ record w { epoch = v.epoch; boot = v.boot }
 
-keeps : (m : Store) (tx : List Op) (cs : List Change) → AllByRecursion Fits cs → tx ≡ spelled cs
+keeps : (m : Store) (tx : List Op) (cs : List Change) → AllByRecursion Fits cs → tx ≡ encoded cs
     → Kept (readings_of m) (played cs (readings_of m)) → KeepsAll m tx
 keeps m tx cs fit is h =
     subst (λ (ops : List Op). KeepsAll m ops) (sym is) (subst (Kept (readings_of m)) (sym (readings-after cs fit m)) h)
@@ -43,14 +43,14 @@ keeps m tx cs fit is h =
 pub keeps_none : (m : Store) (tx : List Op) → tx ≡ [] → KeepsAll m tx
 keeps_none m tx is = keeps m tx [] tt is refl
 
-pub keeps_boot : (m : Store) (tx : List Op) (boot : ℕ) → boot ≤ 2 ^ 62 → tx ≡ spelled (Boot boot ∷ []) → KeepsAll m tx
+pub keeps_boot : (m : Store) (tx : List Op) (boot : ℕ) → boot ≤ 2 ^ 62 → tx ≡ encoded (Boot boot ∷ []) → KeepsAll m tx
 keeps_boot m tx boot short is = keeps m tx (Boot boot ∷ []) (short, tt) is refl
 
-pub keeps_first : (m : Store) (tx : List Op) (boot : ℕ) → boot ≤ 2 ^ 62 → tx ≡ spelled (Boot boot ∷ Epoch 1 ∷ []) → KeepsAll m tx
+pub keeps_first : (m : Store) (tx : List Op) (boot : ℕ) → boot ≤ 2 ^ 62 → tx ≡ encoded (Boot boot ∷ Epoch 1 ∷ []) → KeepsAll m tx
 keeps_first m tx boot short is = keeps m tx (Boot boot ∷ Epoch 1 ∷ []) (short, (omega arith, tt)) is refl
 
 -- so it does if the epoch is written after
-pub keeps_more : (m : Store) (before tx all : List Op) → all ≡ before ++ tx → KeepsAll m before → TellsEpoch tx → KeepsAll m all
+pub keeps_more : (m : Store) (before tx all : List Op) → all ≡ before ++ tx → KeepsAll m before → WritesEpoch tx → KeepsAll m all
 keeps_more m before tx all is k t =
     let m' : Store = apply before m in
     let one : readings_of (apply tx m') ≡ record (readings_of m') { epoch = Some t.epoch } =
@@ -68,13 +68,13 @@ sending-state (m ∷ ms) x = refl
 -- ---- plans
 
 module _ {S : Type 0} (put : S → State → State) (on : LeadsOn put) (me : Me) (m : Store) (e : Event) (r : IsReady me e)
-    (p : Plan S) (cs : List Change) (fit : AllByRecursion Fits cs) (spells : p.tx ≡ spelled cs)
+    (p : Plan S) (cs : List Change) (fit : AllByRecursion Fits cs) (encodes : p.tx ≡ encoded cs)
     (c : Event) (n : Next) (k : IsCarried (remembering put) e p c n) where
   abbrev begins : Course
   begins = at_rest (readings_of m) (state_of e.state)
 
   after : IsUnderWay (readings_of m) c (done (remembering put) cs p begins)
-  after = k.done cs fit spells (readings_of m) begins (rests me m e r)
+  after = k.done cs fit encodes (readings_of m) begins (rests me m e r)
 
   -- as the plan's role gets its new state
   abbrev by_then : Course

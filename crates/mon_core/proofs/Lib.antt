@@ -8,4 +8,4 @@ pub mod Reacting
 pub mod Regaining
 pub mod Starting
 pub mod Taking
-pub mod Told
+pub mod Shown

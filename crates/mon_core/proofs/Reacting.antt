@@ -30,7 +30,7 @@ module _ (me : Me) (m : Store) (now : ℕ) (came : Input) (begun : Event) where
   reacts done r tx joins out taken =
       ap any_reaction r.wanted_is
       ∙ (λ i. Ok (record {
-        transaction = sym (joins ∙ ap joined r.under_way.spelled) i;
+        transaction = sym (joins ∙ ap joined r.under_way.encoded) i;
         sends = sym (taken ∙ r.under_way.out) i;
         state = sym r.under_way.state i;
       }))

@@ -96,7 +96,7 @@ module _ {S : Type 0} (put : S → State → State) (old lent : Event) (tx : len
   as_lent x = record x { state = state_of lent.state }
 
   under_way : (w : Readings) (x : Course) → IsUnderWay w old x → IsUnderWay w lent (as_lent x)
-  under_way w x u = record { readings = u.readings; fit = u.fit; spelled = tx ∙ u.spelled; out = out ∙ u.out; state = refl }
+  under_way w x u = record { readings = u.readings; fit = u.fit; encoded = tx ∙ u.encoded; out = out ∙ u.out; state = refl }
 
   pub carried_whole : (new : Event) (n : Next) → IsCarried (remembering put) lent p new n → IsCarried (remembering put) old p new n
   carried_whole new n k = record {

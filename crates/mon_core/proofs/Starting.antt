@@ -2,7 +2,7 @@
 use Rattle.std.proofs.Common.{◌≡◌, ℕ, suc, ◌≤◌, ◌<◌, ◌^◌, Bool, true, false, not, List, [], ◌∷◌, ◌++◌, is_some, Err, refl, sym, ap, ◌∙◌, append-nil, arith}
 use Rattle.std.proofs.lemmas.Bool.{le-leb, lt-leb}
 use Rattle.std.specs.List.{AllByRecursion}
-use Rattle.mon_msg.specs.Protocol.Changes.{Boot, Epoch, spelled}
+use Rattle.mon_msg.specs.Protocol.Changes.{Boot, Epoch, encoded}
 use Rattle.mon_msg.specs.Protocol.Course.{Course, ◌▸◌, change, change_if, change_all, elector_is, arm_if}
 use Rattle.mon_msg.specs.Protocol.Entering.{bootstrap, scores_count}
 use Rattle.mon_msg.specs.Protocol.Played.{Fits}
@@ -28,7 +28,7 @@ first_changed : (boot : ℕ) (b : Bool) (x : Course) → change_if (not b) (Epoc
 first_changed boot true x = λ i. record (change (Boot boot) x) { changes = append-nil (x.changes ++ Boot boot ∷ []) i }
 first_changed boot false x = sym (changes-append (Boot boot ∷ []) (Epoch 1 ∷ []) x)
 
-pub first_keeps : (m : Store) (tx : List Op) (boot : ℕ) (b : Bool) → boot ≤ 2 ^ 62 → tx ≡ spelled (first_changes boot b) → KeepsAll m tx
+pub first_keeps : (m : Store) (tx : List Op) (boot : ℕ) (b : Bool) → boot ≤ 2 ^ 62 → tx ≡ encoded (first_changes boot b) → KeepsAll m tx
 first_keeps m tx boot true short is = keeps_boot m tx boot short is
 first_keeps m tx boot false short is = keeps_first m tx boot short is
 

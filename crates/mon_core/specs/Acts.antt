@@ -1,7 +1,7 @@
 -- The acts that plans name, and what they need of the event in which they are done.
 use Rattle.std.specs.List.{AllByRecursion}
 use Rattle.std.specs.Prelude.{◌≡◌, ℕ, true, false, nat_lt, List, Result, []}
-use Rattle.mon_msg.specs.Protocol.Changes.{Change, spelled}
+use Rattle.mon_msg.specs.Protocol.Changes.{Change, encoded}
 use Rattle.mon_msg.specs.Protocol.Course.{Course}
 use Rattle.mon_msg.specs.Protocol.Phases.{phase_of}
 use Rattle.mon_msg.specs.Protocol.Played.{Fits}
@@ -72,6 +72,6 @@ MayCarry put me m old p = (e : Event) (n : Next) → IsCarried (remembering put)
 -- a plan is carried out, and then the act that it names is done, whichever changes the plan's transaction encodes
 abbrev pub Carried : {S : Type 0} → (put : S → State → State) → Me → Store → (now : ℕ) → (old : Event) → Plan S →
     (new : Event) → Result Unit RoleStop → Type 0
-Carried put me m now old p new result = (cs : List Change) → AllByRecursion Fits cs → p.tx ≡ spelled cs →
+Carried put me m now old p new result = (cs : List Change) → AllByRecursion Fits cs → p.tx ≡ encoded cs →
     (x : Course) → IsUnderWay (readings_of m) old x →
     Reaches (readings_of m) (act me now p.next (done (remembering put) cs p x)) new result

@@ -17,9 +17,9 @@ use Rattle.mon_core.specs.Known.{known_by_then}
 use Rattle.mon_core.specs.declared.reaction.Reaction.{Reaction}
 
 -- the entries of a store in a message are named as they must be
-abbrev pub TellsNamed : Sent → Type 0
-TellsNamed (sent.Message to m) = AllByRecursion IsNamed (entries_in m.body)
-TellsNamed (sent.Reply to r) = Unit {0}
+abbrev pub SendsNamed : Sent → Type 0
+SendsNamed (sent.Message to m) = AllByRecursion IsNamed (entries_in m.body)
+SendsNamed (sent.Reply to r) = Unit {0}
 
 -- The protocol's reaction is answered: what is written and sent is neither too long nor malformed. What was kept of the
 -- services' maps follows what is written; before that a map that is shown is read.
@@ -28,7 +28,7 @@ pub record IsReaction (old new : Monitor) (m : Store) (now : ℕ) (came : Input)
   pub reacts : reaction old.me now m old.state came ≡
       Ok (record { transaction = r.tx; sends = r.out; state = new.state })
   pub bounded : IsBounded old.me (record { transaction = r.tx; sends = r.out; state = new.state })
-  pub named : AllByRecursion TellsNamed r.out
+  pub named : AllByRecursion SendsNamed r.out
   pub known : (s : Service)
       → known new.cache s ≡ known_after s r.tx (known_by_then old.me now (readings_of m) old.state came s
       (known old.cache s))

@@ -12,7 +12,7 @@ use Rattle.mon_msg.specs.declared.plan.RoleStop.{RoleStop}
 use Rattle.mon_msg.specs.declared.view.Me.{Me}
 use Rattle.mon_tx.specs.Map.{Store}
 use Rattle.mon_types.specs.declared.names.Which.{Which}
-use Rattle.mon_plan.specs.Inputs.{may_come, row}
+use Rattle.mon_plan.specs.Inputs.{input_is_short, row}
 use Rattle.mon_plan.specs.Plans.{changed}
 use Rattle.mon_wire.specs.declared.phase.Timer.TheVariants as timer
 use Rattle.mon_event.specs.Events.{Reaches}
@@ -30,7 +30,7 @@ pub record IsReady (me : Me) (e : Event) : Type 0 where
 -- An input of a role, which isn't too long if it is a message.
 pub record IsFor (me : Me) (r : Role) (came : Input) : Type 0 where
   pub role : role_of came ≡ Some r
-  pub comes : may_come me.member.monitors came ≡ true
+  pub comes : input_is_short me.member.monitors came ≡ true
 
 -- an event that has just begun reaches the wanted course
 abbrev pub ReachesFrom : Store → (old : Event) → (Course → Result Course Which) → (new : Event) →

@@ -2,8 +2,8 @@
 
 ghost use Rattle.std.specs.Prelude.{◌≡◌, ◌≤◌, ◌^◌, ◌++◌, false, is_some, IfOk, OnOk};
 ghost use Rattle.std.specs.List.{AllByRecursion};
-ghost use Rattle.mon_bounds.specs.Fitting.{MayCome};
-ghost use Rattle.mon_msg.specs.Protocol.Changes.{spelled};
+ghost use Rattle.mon_bounds.specs.Fitting.{IsValidInput};
+ghost use Rattle.mon_msg.specs.Protocol.Changes.{encoded};
 ghost use Rattle.mon_msg.specs.Protocol.Course.{arm_if};
 ghost use Rattle.mon_msg.specs.Protocol.Entering.{scores_count};
 ghost use Rattle.mon_msg.specs.Protocol.Phases.{same_phase};
@@ -32,7 +32,7 @@ use std::alloc::Global;
 /// The start is counted, and an epoch that isn't there is put as 1.
 fn first_changes(alloc: Global, stored: &Stored<'_>, boot: u64) -> Result<Transaction, OutOfMemory>
     requires { boot ≤ 2 ^ 62 }
-    ensures changes { IfOk result (λ tx. tx ≡ spelled (first_changes boot (is_some (readings_of stored.now).epoch))) }
+    ensures changes { IfOk result (λ tx. tx ≡ encoded (first_changes boot (is_some (readings_of stored.now).epoch))) }
     ensures fit { AllByRecursion Fits (first_changes boot (is_some (readings_of stored.now).epoch)) }
 {
     let mut tx = Transaction::new(alloc);
@@ -84,7 +84,7 @@ fn count_start(
     ensures goes { OnOk result (Goes event.old event.new
         (started me.now now boot (is_some (readings_of stored.now).epoch) event.old.state.elector)) }
     ensures written { OnOk result (event.new.tx ≡ event.old.tx ++
-        spelled (first_changes boot (is_some (readings_of stored.now).epoch))) }
+        encoded (first_changes boot (is_some (readings_of stored.now).epoch))) }
 {
     let elector = measuring(me, &event.state.elector, boot, now);
     let first = first_changes(alloc, stored, boot)?;
@@ -135,7 +135,7 @@ fn deliver(
     input: &Input,
 ) -> Result<(), RoleStop>
     requires is { input.now ≡ Input.Deliver message.now }
-    requires comes { MayCome input.now }
+    requires comes { IsValidInput input.now }
     requires ready { IsReady here.now.me.now event.old }
     ensures { ReachesFrom here.now.kv.now event.old (running here.now.me.now (shared_entries here.now.kv.now) here.now.time input.now) event.new result }
 {
@@ -171,7 +171,7 @@ fn is_booting(phase: Phase) -> bool
 /// Does what the protocol says at an input that asks for no map.
 pub(crate) fn run(here: &Here<'_>, event: &mut Event, input: &Input) -> Result<(), RoleStop>
     requires asks { asks_any_map input.now ≡ false }
-    requires comes { MayCome input.now }
+    requires comes { IsValidInput input.now }
     requires ready { IsReady here.now.me.now event.old }
     ensures { AnswersInput here.now.me.now here.now.kv.now here.now.time event.old input.now event.new result }
 {

@@ -2,7 +2,7 @@
 
 ghost use Rattle.std.specs.Prelude.{◌≡◌, None, OnOk};
 ghost use Rattle.std.specs.Option.{option_copied, option_map};
-ghost use Rattle.mon_bounds.specs.Fitting.{MayCome};
+ghost use Rattle.mon_bounds.specs.Fitting.{IsValidInput};
 ghost use Rattle.mon_msg.specs.Protocol.Readings.{Readings, readings_of};
 ghost use Rattle.mon_msg.specs.Protocol.State.{booting};
 ghost use Rattle.mon_msg.specs.Protocol.Timers.{due};
@@ -66,7 +66,7 @@ fn played(
     input: &Input,
 ) -> Result<(), CoreStop>
     requires follows { Follows cache.old (readings_of here.now.kv.now) }
-    requires comes { MayCome input.now }
+    requires comes { IsValidInput input.now }
     requires ready { IsReady here.now.me.now event.old }
     ensures comes { AnswersInput here.now.me.now here.now.kv.now here.now.time event.old input.now event.new result }
     ensures known { OnOk result ((s : services.Service) → known cache.new s
@@ -94,7 +94,7 @@ fn react_to(
     input: &Input,
 ) -> Result<Reaction, CoreStop>
     requires follows { Follows cache.old (readings_of here.now.kv.now) }
-    requires comes { MayCome input.now }
+    requires comes { IsValidInput input.now }
     requires ready { IsReady here.now.me.now event.old }
     ensures reacts { Reacts (record { me = here.now.me.now; state = state_of event.old.state; cache = cache.old })
         (record { me = here.now.me.now; state = state_of event.new.state; cache = cache.new }) here.now.kv.now here.now.time input.now result }
@@ -169,7 +169,7 @@ impl Core {
         now: Moment,
     ) -> Result<Reaction, CoreStop>
         requires follows { Follows self.old.cache (readings_of kv.now) }
-        requires comes { MayCome input.now }
+        requires comes { IsValidInput input.now }
         ensures { Reacts self.old self.new kv.now now input.now result }
     {
         let here = Here {

@@ -3,7 +3,7 @@
 
 ghost use Rattle.std.specs.List.{AllByRecursion};
 ghost use Rattle.mon_bounds.specs.Fitting.{IsNamed};
-ghost use Rattle.mon_core.specs.Reacts.{TellsNamed};
+ghost use Rattle.mon_core.specs.Reacts.{SendsNamed};
 
 use mon_bytes::Entry;
 use mon_msg::Body;
@@ -25,7 +25,7 @@ fn see_entries(entries: &[Entry])
 }
 
 fn see_sent(sent: &Sent)
-    ensures { TellsNamed sent.now }
+    ensures { SendsNamed sent.now }
 {
     let Sent::Message { message, .. } = sent else {
         return;
@@ -39,7 +39,7 @@ fn see_sent(sent: &Sent)
 
 /// Each message that is sent.
 pub(crate) fn see_named(out: &[Sent])
-    ensures { AllByRecursion TellsNamed out.now }
+    ensures { AllByRecursion SendsNamed out.now }
 {
     for sent in out {
         see_sent(sent);

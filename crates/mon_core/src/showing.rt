@@ -42,7 +42,7 @@ fn shown(alloc: Global, kv: &Kv, cache: &mut Cache, service: Service) -> Result<
 }
 
 /// The reply to a client that asks for a map: the map, or the refusal if nothing may be read now.
-fn told(
+fn map_reply(
     alloc: Global,
     kv: &Kv,
     view: &View,
@@ -82,7 +82,7 @@ pub(crate) fn show(
     ensures follows { OnOk result (Follows cache.new (readings_of here.now.kv.now)) }
 {
     let view = view(here.alloc, here.kv, here.me, &event.state, here.time);
-    let answer = told(here.alloc, here.kv, &view, cache, service)?;
+    let answer = map_reply(here.alloc, here.kv, &view, cache, service)?;
     event.reply(session, answer)?;
     Ok(())
 }

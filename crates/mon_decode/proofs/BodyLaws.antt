@@ -11,7 +11,7 @@ use Rattle.mon_wire.specs.Message.Fields.{numeral, flag, set, value}
 use Rattle.mon_wire.specs.Message.Parts.{optional, cookie, told, place, entry, a_command}
 use Rattle.mon_wire.specs.Message.Client.{a_request, a_reply, a_routed}
 use Rattle.mon_wire.specs.Message.Scores.{table}
-use Rattle.mon_wire.specs.Message.Bodies.{probe_reply, scored, collect, last, begin, accept, commit, forward, route, granted, asked, chunk, last_chunk, request, reply, spelled, body_at}
+use Rattle.mon_wire.specs.Message.Bodies.{probe_reply, scored, collect, last, begin, accept, commit, forward, route, granted, asked, chunk, last_chunk, request, reply, encoded, body_at}
 use Rattle.mon_bytes.proofs.Formats.{IsLawful, nothing-lawful, list-lawful, some-lawful, TakesVariant, variant_takes}
 use Rattle.mon_decode.specs.Headers.{kind_byte, kind_in}
 use Rattle.mon_decode.proofs.FieldLaws.{numeral-lawful, flag-lawful, value-lawful}
@@ -82,34 +82,34 @@ reply-lawful = then-lawful numeral a_reply numeral-lawful a_reply-lawful
 
 -- ---- by kind
 
-pub body_takes : (n own : ℕ) → n ≤ 15 → (k : Kind) → TakesVariant (spelled n own) (kind_byte k, body_at n own k)
-body_takes n own few kind.Probe = variant_takes (spelled n own) 1 nothing (λ x. body.Probe) nothing-lawful (λ a. refl) (λ a. refl) (λ a h. h)
-body_takes n own few kind.ProbeReply = variant_takes (spelled n own) 2 (probe_reply n) (λ p. body.ProbeReply p.0 p.1.0 p.1.1) (probe_reply-lawful n few) (λ a. refl) (λ a. refl) (λ a h. h)
-body_takes n own few kind.Propose = variant_takes (spelled n own) 3 (scored n own) (λ t. body.Propose t) (scored-lawful n own few) (λ a. refl) (λ a. refl) (λ a h. h)
-body_takes n own few kind.Ack = variant_takes (spelled n own) 4 nothing (λ x. body.Ack) nothing-lawful (λ a. refl) (λ a. refl) (λ a h. h)
-body_takes n own few kind.Victory = variant_takes (spelled n own) 5 (set n) (λ quorum. body.Victory quorum) (set-lawful n few) (λ a. refl) (λ a. refl) (λ a h. h)
-body_takes n own few kind.Collect = variant_takes (spelled n own) 6 collect (λ p. body.Collect p.0 p.1.0 p.1.1) collect-lawful (λ a. refl) (λ a. refl) (λ a h. h)
-body_takes n own few kind.Last = variant_takes (spelled n own) 7 last (λ p. body.Last p.0 p.1.0 p.1.1.0 p.1.1.1.0 p.1.1.1.1.0 p.1.1.1.1.1.0 p.1.1.1.1.1.1) last-lawful (λ a. refl) (λ a. refl) (λ a h. h)
-body_takes n own few kind.Begin = variant_takes (spelled n own) 8 begin (λ p. body.Begin p.0 p.1.0 p.1.1) begin-lawful (λ a. refl) (λ a. refl) (λ a h. h)
-body_takes n own few kind.Accept = variant_takes (spelled n own) 9 accept (λ p. body.Accept p.0 p.1) accept-lawful (λ a. refl) (λ a. refl) (λ a h. h)
-body_takes n own few kind.Commit = variant_takes (spelled n own) 10 commit (λ p. body.Commit p.0 p.1) commit-lawful (λ a. refl) (λ a. refl) (λ a h. h)
-body_takes n own few kind.Lease = variant_takes (spelled n own) 11 numeral (λ l. body.Lease l) numeral-lawful (λ a. refl) (λ a. refl) (λ a h. h)
-body_takes n own few kind.LeaseAck = variant_takes (spelled n own) 12 numeral (λ l. body.LeaseAck l) numeral-lawful (λ a. refl) (λ a. refl) (λ a h. h)
-body_takes n own few kind.Forward = variant_takes (spelled n own) 13 forward (λ p. body.Forward p.0 p.1) forward-lawful (λ a. refl) (λ a. refl) (λ a h. h)
-body_takes n own few kind.Route = variant_takes (spelled n own) 14 route (λ p. body.Route p.0 p.1) route-lawful (λ a. refl) (λ a. refl) (λ a h. h)
-body_takes n own few kind.GetCookieFull = variant_takes (spelled n own) 15 nothing (λ x. body.GetCookieFull) nothing-lawful (λ a. refl) (λ a. refl) (λ a h. h)
-body_takes n own few kind.GetCookieRecent = variant_takes (spelled n own) 16 numeral (λ l. body.GetCookieRecent l) numeral-lawful (λ a. refl) (λ a. refl) (λ a h. h)
-body_takes n own few kind.Cookie = variant_takes (spelled n own) 17 granted (λ p. body.Cookie p.0 p.1.0 p.1.1) granted-lawful (λ a. refl) (λ a. refl) (λ a h. h)
-body_takes n own few kind.GetChunk = variant_takes (spelled n own) 18 asked (λ p. body.GetChunk p.0 p.1) asked-lawful (λ a. refl) (λ a. refl) (λ a h. h)
-body_takes n own few kind.Chunk = variant_takes (spelled n own) 19 chunk (λ p. body.Chunk p.0 p.1.0 p.1.1.0 p.1.1.1.0 p.1.1.1.1) chunk-lawful (λ a. refl) (λ a. refl) (λ a h. h)
-body_takes n own few kind.LastChunk = variant_takes (spelled n own) 20 last_chunk (λ p. body.LastChunk p.0 p.1.0 p.1.1.0 p.1.1.1.0 p.1.1.1.1) last_chunk-lawful (λ a. refl) (λ a. refl) (λ a h. h)
-body_takes n own few kind.NoCookie = variant_takes (spelled n own) 21 cookie (λ k. body.NoCookie k) cookie-lawful (λ a. refl) (λ a. refl) (λ a h. h)
-body_takes n own few kind.Ping = variant_takes (spelled n own) 22 (scored n own) (λ t. body.Ping t) (scored-lawful n own few) (λ a. refl) (λ a. refl) (λ a h. h)
-body_takes n own few kind.PingReply = variant_takes (spelled n own) 23 (scored n own) (λ t. body.PingReply t) (scored-lawful n own few) (λ a. refl) (λ a. refl) (λ a h. h)
-body_takes n own few kind.Request = variant_takes (spelled n own) 24 request (λ p. body.Request p.0 p.1) request-lawful (λ a. refl) (λ a. refl) (λ a h. h)
-body_takes n own few kind.Reply = variant_takes (spelled n own) 25 reply (λ p. body.Reply p.0 p.1) reply-lawful (λ a. refl) (λ a. refl) (λ a h. h)
+pub body_takes : (n own : ℕ) → n ≤ 15 → (k : Kind) → TakesVariant (encoded n own) (kind_byte k, body_at n own k)
+body_takes n own few kind.Probe = variant_takes (encoded n own) 1 nothing (λ x. body.Probe) nothing-lawful (λ a. refl) (λ a. refl) (λ a h. h)
+body_takes n own few kind.ProbeReply = variant_takes (encoded n own) 2 (probe_reply n) (λ p. body.ProbeReply p.0 p.1.0 p.1.1) (probe_reply-lawful n few) (λ a. refl) (λ a. refl) (λ a h. h)
+body_takes n own few kind.Propose = variant_takes (encoded n own) 3 (scored n own) (λ t. body.Propose t) (scored-lawful n own few) (λ a. refl) (λ a. refl) (λ a h. h)
+body_takes n own few kind.Ack = variant_takes (encoded n own) 4 nothing (λ x. body.Ack) nothing-lawful (λ a. refl) (λ a. refl) (λ a h. h)
+body_takes n own few kind.Victory = variant_takes (encoded n own) 5 (set n) (λ quorum. body.Victory quorum) (set-lawful n few) (λ a. refl) (λ a. refl) (λ a h. h)
+body_takes n own few kind.Collect = variant_takes (encoded n own) 6 collect (λ p. body.Collect p.0 p.1.0 p.1.1) collect-lawful (λ a. refl) (λ a. refl) (λ a h. h)
+body_takes n own few kind.Last = variant_takes (encoded n own) 7 last (λ p. body.Last p.0 p.1.0 p.1.1.0 p.1.1.1.0 p.1.1.1.1.0 p.1.1.1.1.1.0 p.1.1.1.1.1.1) last-lawful (λ a. refl) (λ a. refl) (λ a h. h)
+body_takes n own few kind.Begin = variant_takes (encoded n own) 8 begin (λ p. body.Begin p.0 p.1.0 p.1.1) begin-lawful (λ a. refl) (λ a. refl) (λ a h. h)
+body_takes n own few kind.Accept = variant_takes (encoded n own) 9 accept (λ p. body.Accept p.0 p.1) accept-lawful (λ a. refl) (λ a. refl) (λ a h. h)
+body_takes n own few kind.Commit = variant_takes (encoded n own) 10 commit (λ p. body.Commit p.0 p.1) commit-lawful (λ a. refl) (λ a. refl) (λ a h. h)
+body_takes n own few kind.Lease = variant_takes (encoded n own) 11 numeral (λ l. body.Lease l) numeral-lawful (λ a. refl) (λ a. refl) (λ a h. h)
+body_takes n own few kind.LeaseAck = variant_takes (encoded n own) 12 numeral (λ l. body.LeaseAck l) numeral-lawful (λ a. refl) (λ a. refl) (λ a h. h)
+body_takes n own few kind.Forward = variant_takes (encoded n own) 13 forward (λ p. body.Forward p.0 p.1) forward-lawful (λ a. refl) (λ a. refl) (λ a h. h)
+body_takes n own few kind.Route = variant_takes (encoded n own) 14 route (λ p. body.Route p.0 p.1) route-lawful (λ a. refl) (λ a. refl) (λ a h. h)
+body_takes n own few kind.GetCookieFull = variant_takes (encoded n own) 15 nothing (λ x. body.GetCookieFull) nothing-lawful (λ a. refl) (λ a. refl) (λ a h. h)
+body_takes n own few kind.GetCookieRecent = variant_takes (encoded n own) 16 numeral (λ l. body.GetCookieRecent l) numeral-lawful (λ a. refl) (λ a. refl) (λ a h. h)
+body_takes n own few kind.Cookie = variant_takes (encoded n own) 17 granted (λ p. body.Cookie p.0 p.1.0 p.1.1) granted-lawful (λ a. refl) (λ a. refl) (λ a h. h)
+body_takes n own few kind.GetChunk = variant_takes (encoded n own) 18 asked (λ p. body.GetChunk p.0 p.1) asked-lawful (λ a. refl) (λ a. refl) (λ a h. h)
+body_takes n own few kind.Chunk = variant_takes (encoded n own) 19 chunk (λ p. body.Chunk p.0 p.1.0 p.1.1.0 p.1.1.1.0 p.1.1.1.1) chunk-lawful (λ a. refl) (λ a. refl) (λ a h. h)
+body_takes n own few kind.LastChunk = variant_takes (encoded n own) 20 last_chunk (λ p. body.LastChunk p.0 p.1.0 p.1.1.0 p.1.1.1.0 p.1.1.1.1) last_chunk-lawful (λ a. refl) (λ a. refl) (λ a h. h)
+body_takes n own few kind.NoCookie = variant_takes (encoded n own) 21 cookie (λ k. body.NoCookie k) cookie-lawful (λ a. refl) (λ a. refl) (λ a h. h)
+body_takes n own few kind.Ping = variant_takes (encoded n own) 22 (scored n own) (λ t. body.Ping t) (scored-lawful n own few) (λ a. refl) (λ a. refl) (λ a h. h)
+body_takes n own few kind.PingReply = variant_takes (encoded n own) 23 (scored n own) (λ t. body.PingReply t) (scored-lawful n own few) (λ a. refl) (λ a. refl) (λ a h. h)
+body_takes n own few kind.Request = variant_takes (encoded n own) 24 request (λ p. body.Request p.0 p.1) request-lawful (λ a. refl) (λ a. refl) (λ a h. h)
+body_takes n own few kind.Reply = variant_takes (encoded n own) 25 reply (λ p. body.Reply p.0 p.1) reply-lawful (λ a. refl) (λ a. refl) (λ a h. h)
 
-pub tag-is : (n own : ℕ) (b : Body) → (spelled n own b).tag ≡ kind_byte (kind_in b)
+pub tag-is : (n own : ℕ) (b : Body) → (encoded n own b).tag ≡ kind_byte (kind_in b)
 tag-is n own body.Probe = refl
 tag-is n own (body.ProbeReply quorum first last) = refl
 tag-is n own (body.Propose t) = refl
@@ -139,7 +139,7 @@ tag-is n own (body.Reply id r) = refl
 found_by : {A B : Type 0} (f : Format A) (whole : A → B) → IsLawful f → (c : Reading) (a : A) (rest : List ℕ) → c.rest ≡ f.text a ++ rest → f.Form a → Found (variant f whole c) (whole a) rest
 found_by f whole lf c a rest e form = let b = lf.found c a rest e form in (b.0, b.1, rw b.2 refl)
 
-pub body_found : (n own : ℕ) → n ≤ 15 → (b : Body) (c : Reading) (rest : List ℕ) → c.rest ≡ (spelled n own b).text ++ rest → (spelled n own b).Form
+pub body_found : (n own : ℕ) → n ≤ 15 → (b : Body) (c : Reading) (rest : List ℕ) → c.rest ≡ (encoded n own b).text ++ rest → (encoded n own b).Form
     → Found (body_at n own (kind_in b) c) b rest
 body_found n own few body.Probe c rest e form = found_by nothing (λ x. body.Probe) nothing-lawful c tt rest e form
 body_found n own few (body.ProbeReply quorum first last) c rest e form = found_by (probe_reply n) (λ p. body.ProbeReply p.0 p.1.0 p.1.1) (probe_reply-lawful n few) c (quorum, (first, last)) rest e form

@@ -10,7 +10,7 @@ use Rattle.mon_wire.specs.declared.request.Request.TheVariants as request
 use Rattle.mon_wire.specs.Message.Format.{faults, cut, Reader, Format, nothing, ◌⊗◌, list, variant, chosen, tagged}
 use Rattle.mon_wire.specs.Message.Fields.{numeral, flag, utf8, name, blob, service}
 use Rattle.mon_wire.specs.Message.Parts.{shown_map}
-use Rattle.mon_wire.specs.Message.Client.{request_spelled, request_kinds, request_at, a_request, shown, since, reply_spelled, routed_kinds, reply_kinds, routed_at, reply_at, a_reply, is_routed, a_routed}
+use Rattle.mon_wire.specs.Message.Client.{request_encoded, request_kinds, request_at, a_request, shown, since, reply_encoded, routed_kinds, reply_kinds, routed_at, reply_at, a_reply, is_routed, a_routed}
 use Rattle.mon_bytes.proofs.Formats.{bind_ok, tested, IsLawful, nothing-lawful, dependent-lawful, list-lawful, TakesVariant, variant_takes, choice_takes, variant_found}
 use Rattle.mon_decode.proofs.FieldLaws.{numeral-lawful, flag-lawful, blob-lawful, utf8-lawful, word-lawful, service-lawful}
 use Rattle.mon_decode.proofs.PartLaws.{then-lawful, set-lawful, shown_map-lawful}
@@ -20,15 +20,15 @@ since_request-lawful = then-lawful service numeral service-lawful numeral-lawful
 
 request_takes : (c : Reading) (x : Request × Reading) → IsBytes c.rest → request_at c ≡ Ok x → Takes c (a_request.text x.0) x.1 × a_request.Form x.0
 unfolding request_at
-request_takes = choice_takes faults request_spelled request_kinds (
-  variant_takes request_spelled 1 (name ⊗ utf8) (λ p. request.Set p.0 p.1) set-lawful (λ a. refl) (λ a. refl) (λ a h. h),
+request_takes = choice_takes faults request_encoded request_kinds (
+  variant_takes request_encoded 1 (name ⊗ utf8) (λ p. request.Set p.0 p.1) set-lawful (λ a. refl) (λ a. refl) (λ a h. h),
   (
-    variant_takes request_spelled 2 name (λ key. request.Remove key) (word-lawful 255) (λ a. refl) (λ a. refl) (λ a h. h),
+    variant_takes request_encoded 2 name (λ key. request.Remove key) (word-lawful 255) (λ a. refl) (λ a. refl) (λ a h. h),
     (
-      variant_takes request_spelled 3 utf8 (λ text. request.Log text) utf8-lawful (λ a. refl) (λ a. refl) (λ a h. h),
+      variant_takes request_encoded 3 utf8 (λ text. request.Log text) utf8-lawful (λ a. refl) (λ a. refl) (λ a h. h),
       (
-        variant_takes request_spelled 4 service (λ s. request.Show s) service-lawful (λ a. refl) (λ a. refl) (λ a h. h),
-        (variant_takes request_spelled 5 (service ⊗ numeral) (λ p. request.Since p.0 p.1) since_request-lawful (λ a. refl) (λ a. refl) (λ a h. h), tt),
+        variant_takes request_encoded 4 service (λ s. request.Show s) service-lawful (λ a. refl) (λ a. refl) (λ a h. h),
+        (variant_takes request_encoded 5 (service ⊗ numeral) (λ p. request.Since p.0 p.1) since_request-lawful (λ a. refl) (λ a. refl) (λ a h. h), tt),
       ),
     ),
   ),
@@ -61,16 +61,16 @@ since-lawful : IsLawful since
 since-lawful = then-lawful service (numeral ⊗ flag ⊗ list blob) service-lawful
     (then-lawful numeral (flag ⊗ list blob) numeral-lawful (then-lawful flag (list blob) flag-lawful (list-lawful faults blob blob-lawful)))
 
-routed_are_taken : AllByRecursion (TakesVariant reply_spelled) routed_kinds
+routed_are_taken : AllByRecursion (TakesVariant reply_encoded) routed_kinds
 routed_are_taken = (
-  variant_takes reply_spelled 1 numeral (λ version. reply.Done version) numeral-lawful (λ a. refl) (λ a. refl) (λ a h. h),
+  variant_takes reply_encoded 1 numeral (λ version. reply.Done version) numeral-lawful (λ a. refl) (λ a. refl) (λ a h. h),
   (
-    variant_takes reply_spelled 4 nothing (λ x. reply.NoSuch) nothing-lawful (λ a. refl) (λ a. refl) (λ a h. h),
+    variant_takes reply_encoded 4 nothing (λ x. reply.NoSuch) nothing-lawful (λ a. refl) (λ a. refl) (λ a h. h),
     (
-      variant_takes reply_spelled 5 (numeral ⊗ numeral) (λ p. reply.TooLong p.0 p.1) two-lawful (λ a. refl) (λ a. refl) (λ a h. h),
+      variant_takes reply_encoded 5 (numeral ⊗ numeral) (λ p. reply.TooLong p.0 p.1) two-lawful (λ a. refl) (λ a. refl) (λ a h. h),
       (
-        variant_takes reply_spelled 6 numeral (λ would_be. reply.MapFull would_be) numeral-lawful (λ a. refl) (λ a. refl) (λ a h. h),
-        (variant_takes reply_spelled 9 numeral (λ waiting. reply.Busy waiting) numeral-lawful (λ a. refl) (λ a. refl) (λ a h. h), tt),
+        variant_takes reply_encoded 6 numeral (λ would_be. reply.MapFull would_be) numeral-lawful (λ a. refl) (λ a. refl) (λ a h. h),
+        (variant_takes reply_encoded 9 numeral (λ waiting. reply.Busy waiting) numeral-lawful (λ a. refl) (λ a. refl) (λ a h. h), tt),
       ),
     ),
   ),
@@ -78,13 +78,13 @@ routed_are_taken = (
 
 reply_takes : (c : Reading) (x : Reply × Reading) → IsBytes c.rest → reply_at c ≡ Ok x → Takes c (a_reply.text x.0) x.1 × a_reply.Form x.0
 unfolding reply_at
-reply_takes = choice_takes faults reply_spelled reply_kinds (
-  variant_takes reply_spelled 2 shown (λ p. reply.Shown p.0 p.1.0 p.1.1.0 p.1.1.1) shown-lawful (λ a. refl) (λ a. refl) (λ a h. h),
+reply_takes = choice_takes faults reply_encoded reply_kinds (
+  variant_takes reply_encoded 2 shown (λ p. reply.Shown p.0 p.1.0 p.1.1.0 p.1.1.1) shown-lawful (λ a. refl) (λ a. refl) (λ a h. h),
   (
-    variant_takes reply_spelled 3 since (λ p. reply.Since p.0 p.1.0 p.1.1.1 p.1.1.0) since-lawful (λ a. refl) (λ a. refl) (λ a h. h),
+    variant_takes reply_encoded 3 since (λ p. reply.Since p.0 p.1.0 p.1.1.1 p.1.1.0) since-lawful (λ a. refl) (λ a. refl) (λ a h. h),
     (
-      variant_takes reply_spelled 7 nothing (λ x. reply.Unavailable) nothing-lawful (λ a. refl) (λ a. refl) (λ a h. h),
-      (variant_takes reply_spelled 8 (numeral ⊗ flag) (λ p. reply.NotReadable p.0 p.1) readable-lawful (λ a. refl) (λ a. refl) (λ a h. h), routed_are_taken),
+      variant_takes reply_encoded 7 nothing (λ x. reply.Unavailable) nothing-lawful (λ a. refl) (λ a. refl) (λ a h. h),
+      (variant_takes reply_encoded 8 (numeral ⊗ flag) (λ p. reply.NotReadable p.0 p.1) readable-lawful (λ a. refl) (λ a. refl) (λ a h. h), routed_are_taken),
     ),
   ),
 )
@@ -146,7 +146,7 @@ routed_holds c x e =
 
 routed_takes : (c : Reading) (x : Reply × Reading) → IsBytes c.rest → routed_at c ≡ Ok x → Takes c (a_routed.text x.0) x.1 × a_routed.Form x.0
 unfolding routed_at
-routed_takes c x fits e = let t = choice_takes faults reply_spelled routed_kinds routed_are_taken c x fits e in (t.0, (routed_holds c x e, t.1))
+routed_takes c x fits e = let t = choice_takes faults reply_encoded routed_kinds routed_are_taken c x fits e in (t.0, (routed_holds c x e, t.1))
 
 routed_found : (c : Reading) (x : Reply) (rest : List ℕ) → c.rest ≡ a_routed.text x ++ rest → a_routed.Form x → Found (routed_at c) x rest
 unfolding routed_at

@@ -17,7 +17,7 @@ use Rattle.mon_wire.specs.Message.Format.{Reader, u16_bytes, ◌⊗◌, list}
 use Rattle.mon_wire.specs.Message.Fields.{number_bytes, set_bytes, numeral, flag, value}
 use Rattle.mon_wire.specs.Message.Parts.{optional, cookie, told, place, entry, a_command}
 use Rattle.mon_wire.specs.Message.Client.{a_request, a_reply, a_routed}
-use Rattle.mon_wire.specs.Message.Bodies.{spelled}
+use Rattle.mon_wire.specs.Message.Bodies.{encoded}
 use Rattle.mon_wire.specs.Message.Whole.{kind_of, text, IsMessage, HasText}
 use Rattle.mon_wire.proofs.PartLengths.{length-number_bytes, length-set_bytes}
 use Rattle.mon_decode.specs.declared.header.Header.{Header}
@@ -97,49 +97,49 @@ begins_ranks : (s : List Bool) → to_bits s < 2 ^ 16 → Begins ranks_at (to_bi
 begins_ranks s low = record { bytes = set_bytes s; others = []; parts = sym (append-nil (set_bytes s)); few = omega (arith, length-set_bytes s); found = ranks_found s low }
 
 -- the numbers that a body begins with are found
-begins : (n own : ℕ) → n ≤ 15 → (b : Body) → (spelled n own b).Form → Begins (numbers_at (kind_in b)) (numbers_in b) (spelled n own b).text
+begins : (n own : ℕ) → n ≤ 15 → (b : Body) → (encoded n own b).Form → Begins (numbers_at (kind_in b)) (numbers_in b) (encoded n own b).text
 begins n own few body.Probe form = begins_none []
-begins n own few (body.ProbeReply quorum first last) form = begins_none (spelled n own (body.ProbeReply quorum first last)).text
-begins n own few (body.Propose t) form = begins_none (spelled n own (body.Propose t)).text
+begins n own few (body.ProbeReply quorum first last) form = begins_none (encoded n own (body.ProbeReply quorum first last)).text
+begins n own few (body.Propose t) form = begins_none (encoded n own (body.Propose t)).text
 begins n own few body.Ack form = begins_none []
 begins n own few (body.Victory quorum) form = let most : 2 ^ n ≤ 2 ^ 15 = pow-le-pow_right (omega arith) few in begins_ranks quorum (omega (arith, form.1, most))
-begins n own few (body.Collect pn first last) form = begins_one pn (spelled n own (body.Collect pn first last)).text (number_bytes first ++ number_bytes last) form.0 refl
+begins n own few (body.Collect pn first last) form = begins_one pn (encoded n own (body.Collect pn first last)).text (number_bytes first ++ number_bytes last) form.0 refl
 begins n own few (body.Last pn first l whole from values pending) form =
-    begins_one pn (spelled n own (body.Last pn first l whole from values pending)).text
+    begins_one pn (encoded n own (body.Last pn first l whole from values pending)).text
     ((numeral ⊗ numeral ⊗ flag ⊗ numeral ⊗ list value ⊗ optional told).text (first, (l, (whole, (from, (values, pending)))))) form.0 refl
 begins n own few (body.Begin pn version v) form =
-    begins_two pn version (spelled n own (body.Begin pn version v)).text (value.text v) form.0 form.1.0 (sym (append_assoc (number_bytes pn) (number_bytes version) (value.text v)))
+    begins_two pn version (encoded n own (body.Begin pn version v)).text (value.text v) form.0 form.1.0 (sym (append_assoc (number_bytes pn) (number_bytes version) (value.text v)))
 begins n own few (body.Accept pn version) form = begins_two pn version (number_bytes pn ++ number_bytes version) [] form.0 form.1 (sym (append-nil (number_bytes pn ++ number_bytes version)))
-begins n own few (body.Commit from values) form = begins_range from (length values) (spelled n own (body.Commit from values)).text (flat_map value.text values) form.0 form.1.1.0 refl
+begins n own few (body.Commit from values) form = begins_range from (length values) (encoded n own (body.Commit from values)).text (flat_map value.text values) form.0 form.1.1.0 refl
 begins n own few (body.Lease l) form = begins_one l (number_bytes l) [] form (sym (append-nil (number_bytes l)))
 begins n own few (body.LeaseAck l) form = begins_one l (number_bytes l) [] form (sym (append-nil (number_bytes l)))
-begins n own few (body.Forward seq command) form = begins_one seq (spelled n own (body.Forward seq command)).text (a_command.text command) form.0 refl
-begins n own few (body.Route seq reply) form = begins_one seq (spelled n own (body.Route seq reply)).text (a_routed.text reply) form.0 refl
+begins n own few (body.Forward seq command) form = begins_one seq (encoded n own (body.Forward seq command)).text (a_command.text command) form.0 refl
+begins n own few (body.Route seq reply) form = begins_one seq (encoded n own (body.Route seq reply)).text (a_routed.text reply) form.0 refl
 begins n own few body.GetCookieFull form = begins_none []
 begins n own few (body.GetCookieRecent l) form = begins_one l (number_bytes l) [] form (sym (append-nil (number_bytes l)))
-begins n own few (body.Cookie full k l) form = begins_none (spelled n own (body.Cookie full k l)).text
-begins n own few (body.GetChunk k at) form = begins_two k.boot k.seq (spelled n own (body.GetChunk k at)).text (place.text at) form.0.0 form.0.1 refl
+begins n own few (body.Cookie full k l) form = begins_none (encoded n own (body.Cookie full k l)).text
+begins n own few (body.GetChunk k at) form = begins_two k.boot k.seq (encoded n own (body.GetChunk k at)).text (place.text at) form.0.0 form.0.1 refl
 begins n own few (body.Chunk k at values entries done) form =
-    begins_two k.boot k.seq (spelled n own (body.Chunk k at values entries done)).text ((place ⊗ list value ⊗ list entry ⊗ flag).text (at, (values, (entries, done)))) form.0.0 form.0.1 refl
+    begins_two k.boot k.seq (encoded n own (body.Chunk k at values entries done)).text ((place ⊗ list value ⊗ list entry ⊗ flag).text (at, (values, (entries, done)))) form.0.0 form.0.1 refl
 begins n own few (body.LastChunk k at values entries l) form =
-    begins_two k.boot k.seq (spelled n own (body.LastChunk k at values entries l)).text ((place ⊗ list value ⊗ list entry ⊗ numeral).text (at, (values, (entries, l)))) form.0.0 form.0.1 refl
+    begins_two k.boot k.seq (encoded n own (body.LastChunk k at values entries l)).text ((place ⊗ list value ⊗ list entry ⊗ numeral).text (at, (values, (entries, l)))) form.0.0 form.0.1 refl
 begins n own few (body.NoCookie k) form = begins_two k.boot k.seq (cookie.text k) [] form.0 form.1 (sym (append-nil (cookie.text k)))
-begins n own few (body.Ping t) form = begins_none (spelled n own (body.Ping t)).text
-begins n own few (body.PingReply t) form = begins_none (spelled n own (body.PingReply t)).text
-begins n own few (body.Request id r) form = begins_one id (spelled n own (body.Request id r)).text (a_request.text r) form.0 refl
-begins n own few (body.Reply id r) form = begins_one id (spelled n own (body.Reply id r)).text (a_reply.text r) form.0 refl
+begins n own few (body.Ping t) form = begins_none (encoded n own (body.Ping t)).text
+begins n own few (body.PingReply t) form = begins_none (encoded n own (body.PingReply t)).text
+begins n own few (body.Request id r) form = begins_one id (encoded n own (body.Request id r)).text (a_request.text r) form.0 refl
+begins n own few (body.Reply id r) form = begins_one id (encoded n own (body.Reply id r)).text (a_reply.text r) form.0 refl
 
 -- ---- the header before them
 
 -- the fields of a header, as they are encoded
 fields : Message → List ℕ → List ℕ
-fields m bytes = 1 ∷ (spelled m.monitors m.from m.body).tag ∷ m.from ∷ m.monitors ∷ (number_bytes m.epoch ++ bytes)
+fields m bytes = 1 ∷ (encoded m.monitors m.from m.body).tag ∷ m.from ∷ m.monitors ∷ (number_bytes m.epoch ++ bytes)
 
-header_found : (m : Message) → IsMessage m → (b : Begins (numbers_at (kind_in m.body)) (numbers_in m.body) (spelled m.monitors m.from m.body).text)
+header_found : (m : Message) → IsMessage m → (b : Begins (numbers_at (kind_in m.body)) (numbers_in m.body) (encoded m.monitors m.from m.body).text)
     → (c : Reading) (rest : List ℕ) → c.rest ≡ fields m (b.bytes ++ rest) → Found (header_at c) (heading m) rest
 unfolding header_at fields
 header_found m form b c rest e =
-    let s = spelled m.monitors m.from m.body in
+    let s = encoded m.monitors m.from m.body in
     let said = b.bytes ++ rest in
     let tag : s.tag ≡ kind_byte (kind_in m.body) = tag-is m.monitors m.from m.body in
     let is : kind_of s.tag ≡ kind_in m.body = ap kind_of tag ∙ kind_of_byte (kind_in m.body) in
@@ -163,7 +163,7 @@ length-fields : (m : Message) (bytes : List ℕ) → length (fields m bytes) ≡
 unfolding fields
 length-fields m bytes = omega (arith, length-append (number_bytes m.epoch) bytes, length-number_bytes m.epoch)
 
-text_is : (m : Message) → text m ≡ fields m (spelled m.monitors m.from m.body).text
+text_is : (m : Message) → text m ≡ fields m (encoded m.monitors m.from m.body).text
 unfolding fields
 text_is m = refl
 

@@ -5,7 +5,7 @@ use Rattle.mon_bytes.specs.declared.command.Command.TheVariants as command
 use Rattle.mon_bytes.specs.declared.command.MapRefused.{MapRefused}
 use Rattle.mon_bytes.specs.declared.entry.KeyPlace.{KeyPlace}
 use Rattle.mon_bytes.specs.declared.entry.KeyPlace.TheVariants.{Start, After, Done}
-use Rattle.mon_bytes.specs.Reading.{IsBytes, Reading, number, front}
+use Rattle.mon_bytes.specs.Reading.{IsBytes, Reading, number, next_bytes}
 use Rattle.mon_bytes.specs.Forms.{text_bytes}
 use Rattle.mon_bytes.proofs.Fields.{ok_is, Takes, Found}
 use Rattle.map_kv.specs.Text.{map_text as kv_text}
@@ -22,7 +22,7 @@ use Rattle.mon_wire.specs.declared.request.Service.{Service}
 use Rattle.mon_wire.specs.declared.request.Service.TheVariants as service
 use Rattle.mon_wire.specs.Message.Format.{faults, ◌>>=◌, cut, Format, nothing, ◌⊗◌, tagged}
 use Rattle.mon_wire.specs.Message.Fields.{numeral, utf8, name, prefix, blob, value}
-use Rattle.mon_wire.specs.Message.Parts.{option_spelled, option_kinds, optional, cookie, told, key_place_spelled, key_place_kinds, key_place_at, key_place, place, entry, command_spelled, command_kinds, command_at, a_command, map_at, shown_map_at, shown_text, ShownFits, shown_map}
+use Rattle.mon_wire.specs.Message.Parts.{option_encoded, option_kinds, optional, cookie, told, key_place_encoded, key_place_kinds, key_place_at, key_place, place, entry, command_encoded, command_kinds, command_at, a_command, map_at, shown_map_at, shown_text, ShownFits, shown_map}
 use Rattle.mon_bytes.proofs.Formats.{bind_ok, IsLawful, nothing-lawful, dependent-lawful, as_parts-lawful, variant_takes, choice_takes, variant_found}
 use Rattle.mon_decode.proofs.FieldLaws.{numeral-lawful, blob-lawful, utf8-lawful, word-lawful, value-lawful, length_takes, length_found, counted_bytes}
 
@@ -31,9 +31,9 @@ then-lawful f g lf lg = dependent-lawful f (λ x. g) lf (λ x. lg)
 
 pub optional-lawful : {A : Type 0} (f : Format A) → IsLawful f → IsLawful (optional f)
 optional-lawful {A} f lf = record {
-  takes = choice_takes faults (option_spelled f) (option_kinds f) (
-    variant_takes (option_spelled f) 0 nothing (λ x. None) nothing-lawful (λ a. refl) (λ a. refl) (λ a h. h),
-    (variant_takes (option_spelled f) 1 f (λ x. Some x) lf (λ a. refl) (λ a. refl) (λ a h. h), tt),
+  takes = choice_takes faults (option_encoded f) (option_kinds f) (
+    variant_takes (option_encoded f) 0 nothing (λ x. None) nothing-lawful (λ a. refl) (λ a. refl) (λ a h. h),
+    (variant_takes (option_encoded f) 1 f (λ x. Some x) lf (λ a. refl) (λ a. refl) (λ a h. h), tt),
   );
   found = found;
 }
@@ -55,11 +55,11 @@ after-lawful = then-lawful prefix name (word-lawful 32) (word-lawful 255)
 
 key_place_takes : (c : Reading) (x : KeyPlace × Reading) → IsBytes c.rest → key_place_at c ≡ Ok x → Takes c (key_place.text x.0) x.1 × key_place.Form x.0
 unfolding key_place_at
-key_place_takes = choice_takes faults key_place_spelled key_place_kinds (
-  variant_takes key_place_spelled 0 nothing (λ x. Start) nothing-lawful (λ a. refl) (λ a. refl) (λ a h. h),
+key_place_takes = choice_takes faults key_place_encoded key_place_kinds (
+  variant_takes key_place_encoded 0 nothing (λ x. Start) nothing-lawful (λ a. refl) (λ a. refl) (λ a h. h),
   (
-    variant_takes key_place_spelled 1 (prefix ⊗ name) (λ p. After p.0 p.1) after-lawful (λ a. refl) (λ a. refl) (λ a h. h),
-    (variant_takes key_place_spelled 2 nothing (λ x. Done) nothing-lawful (λ a. refl) (λ a. refl) (λ a h. h), tt),
+    variant_takes key_place_encoded 1 (prefix ⊗ name) (λ p. After p.0 p.1) after-lawful (λ a. refl) (λ a. refl) (λ a h. h),
+    (variant_takes key_place_encoded 2 nothing (λ x. Done) nothing-lawful (λ a. refl) (λ a. refl) (λ a h. h), tt),
   ),
 )
 
@@ -86,11 +86,11 @@ set-lawful = then-lawful name utf8 (word-lawful 255) utf8-lawful
 
 command_takes : (c : Reading) (x : Command × Reading) → IsBytes c.rest → command_at c ≡ Ok x → Takes c (a_command.text x.0) x.1 × a_command.Form x.0
 unfolding command_at
-command_takes = choice_takes faults command_spelled command_kinds (
-  variant_takes command_spelled 1 (name ⊗ utf8) (λ p. command.Set p.0 p.1) set-lawful (λ a. refl) (λ a. refl) (λ a h. h),
+command_takes = choice_takes faults command_encoded command_kinds (
+  variant_takes command_encoded 1 (name ⊗ utf8) (λ p. command.Set p.0 p.1) set-lawful (λ a. refl) (λ a. refl) (λ a h. h),
   (
-    variant_takes command_spelled 2 name (λ key. command.Remove key) (word-lawful 255) (λ a. refl) (λ a. refl) (λ a h. h),
-    (variant_takes command_spelled 3 utf8 (λ text. command.Log text) utf8-lawful (λ a. refl) (λ a. refl) (λ a h. h), tt),
+    variant_takes command_encoded 2 name (λ key. command.Remove key) (word-lawful 255) (λ a. refl) (λ a. refl) (λ a h. h),
+    (variant_takes command_encoded 3 utf8 (λ text. command.Log text) utf8-lawful (λ a. refl) (λ a. refl) (λ a h. h), tt),
   ),
 )
 
@@ -112,16 +112,16 @@ map_ok shown at after (Err d) x e = absurd cc
 shown_map_takes : (s : Service) (c : Reading) (x : ShownMap × Reading) → IsBytes c.rest → shown_map_at s c ≡ Ok x → Takes c (shown_text x.0) x.1 × ShownFits s x.0
 unfolding shown_map_at
 shown_map_takes service.Kv c x fits e =
-    let a = bind_ok (cut (number 4 c)) (λ n. cut (front n.0 n.1) >>= λ bytes. map_at map.Kv n.1.at bytes.1 (kv_of bytes.0)) x e in
-    let b = bind_ok (cut (front a.0.0 a.0.1)) (λ bytes. map_at map.Kv a.0.1.at bytes.1 (kv_of bytes.0)) x a.2 in
+    let a = bind_ok (cut (number 4 c)) (λ n. cut (next_bytes n.0 n.1) >>= λ bytes. map_at map.Kv n.1.at bytes.1 (kv_of bytes.0)) x e in
+    let b = bind_ok (cut (next_bytes a.0.0 a.0.1)) (λ bytes. map_at map.Kv a.0.1.at bytes.1 (kv_of bytes.0)) x a.2 in
     let t = length_takes c a.0 b.0 fits a.1 b.1 in
     let m = map_ok map.Kv a.0.1.at b.0.1 (kv_of b.0.0) x b.2 in
     let is = kv_is_found b.0.0 (Ok m.0) (counted_bytes c b.0.1 b.0.0 fits t.0) m.1 in
     subst (λ (p : ShownMap × Reading). Takes c (shown_text p.0) p.1 × ShownFits service.Kv p.0) m.2
     (subst (λ (bytes : List ℕ). Takes c (text_bytes bytes) b.0.1) is.1 t.0, (is.0, subst (λ (bytes : List ℕ). length bytes < 2 ^ 32) is.1 t.1))
 shown_map_takes service.Log c x fits e =
-    let a = bind_ok (cut (number 4 c)) (λ n. cut (front n.0 n.1) >>= λ bytes. map_at map.Log n.1.at bytes.1 (log_of bytes.0)) x e in
-    let b = bind_ok (cut (front a.0.0 a.0.1)) (λ bytes. map_at map.Log a.0.1.at bytes.1 (log_of bytes.0)) x a.2 in
+    let a = bind_ok (cut (number 4 c)) (λ n. cut (next_bytes n.0 n.1) >>= λ bytes. map_at map.Log n.1.at bytes.1 (log_of bytes.0)) x e in
+    let b = bind_ok (cut (next_bytes a.0.0 a.0.1)) (λ bytes. map_at map.Log a.0.1.at bytes.1 (log_of bytes.0)) x a.2 in
     let t = length_takes c a.0 b.0 fits a.1 b.1 in
     let m = map_ok map.Log a.0.1.at b.0.1 (log_of b.0.0) x b.2 in
     let is = log_is_found b.0.0 (Ok m.0) (counted_bytes c b.0.1 b.0.0 fits t.0) m.1 in

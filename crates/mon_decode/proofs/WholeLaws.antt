@@ -12,7 +12,7 @@ use Rattle.mon_wire.specs.declared.refusal.MsgRefused.{MsgRefused}
 use Rattle.mon_wire.specs.declared.refusal.MsgRefused.TheVariants as refused
 use Rattle.mon_wire.specs.Message.Format.{faults, ◌>>=◌, cut, Gives}
 use Rattle.mon_wire.specs.Message.Fields.{number_bytes, number_at}
-use Rattle.mon_wire.specs.Message.Bodies.{spelled, body_at}
+use Rattle.mon_wire.specs.Message.Bodies.{encoded, body_at}
 use Rattle.mon_wire.specs.Message.Length.{most_message}
 use Rattle.mon_wire.specs.Message.Whole.{asking, kind_of, text, IsMessage, HasText, format_at, kind_at, sender_at, epoch_at, message_at, ended, whole_at, message_of}
 use Rattle.mon_bytes.proofs.Formats.{bind_ok, at_fault_ok, not_zero, above_zero}
@@ -111,8 +111,8 @@ message_takes c x fits e =
     let t2 = sender_takes kind k.0.1 s.0 t1.0.bytes s.1 in
     let t3 = epoch_takes kind s.0.1 p.0 t2.all.bytes p.1 in
     let t4 = body_takes n rank t2.monitors (kind_of kind) p.0.1 b.0 t3.0.bytes b.1 in
-    let tag : (spelled n rank b.0.0).tag ≡ kind = t4.tag ∙ byte_of_kind kind t1.1 t1.2 in
-    let said = (spelled n rank b.0.0).text in
+    let tag : (encoded n rank b.0.0).tag ≡ kind = t4.tag ∙ byte_of_kind kind t1.1 t1.2 in
+    let said = (encoded n rank b.0.0).text in
     let all = Takes-then c a.0.1 b.0.1 (1 ∷ []) (kind ∷ rank ∷ n ∷ (number_bytes p.0.0 ++ said)) t0
     (Takes-then a.0.1 k.0.1 b.0.1 (kind ∷ []) (rank ∷ n ∷ (number_bytes p.0.0 ++ said)) t1.0
     (Takes-then k.0.1 s.0.1 b.0.1 (rank ∷ n ∷ []) (number_bytes p.0.0 ++ said) t2.all (Takes-then s.0.1 p.0.1 b.0.1 (number_bytes p.0.0) said t3.0 t4.all))) in
@@ -181,7 +181,7 @@ epoch_found kind c n rest e le asks =
 message_found : (c : Reading) (m : Message) → c.rest ≡ text m → IsMessage m → Found (message_at c) m []
 unfolding message_at
 message_found c m e form =
-    let s = spelled m.monitors m.from m.body in
+    let s = encoded m.monitors m.from m.body in
     let said = s.text in
     let tag : s.tag ≡ kind_byte (kind_in m.body) = tag-is m.monitors m.from m.body in
     let is : kind_of s.tag ≡ kind_in m.body = ap kind_of tag ∙ kind_of_byte (kind_in m.body) in

@@ -14,33 +14,33 @@ use Rattle.mon_disk.proofs.Following.{still}
 
 -- out of memory
 pub unmade : (d : MemoryState) → Unmade (state_of d) (state_of (after_call Sync (Some OutOfMemory) d))
-unmade d = record { seen = refl; any_moment = still (content_of d.past d.life) (images (content_of d.past d.life)) (λ c left. left); known = refl; told = refl; wants = refl }
+unmade d = record { seen = refl; any_time = still (content_of d.past d.life) (images (content_of d.past d.life)) (λ c left. left); known = refl; observed = refl; refusals = refl }
 
 pub write_called : (d : MemoryState) (at : ℕ) (bytes : List ℕ) (stop : Option Stop) → IsFor stop d.life
     → Called (Write at bytes ∷ []) (TornFrom (content_of d.past d.life) at bytes) stop (state_of d) (state_of (after_call (Write at bytes) stop d))
 write_called d at bytes None right =
-    record { tells = refl; any_moment = write_goes d.past d.life at bytes; made = inr (inr (right, (refl, λ is. absurd cc))); faults = refl; wants = refl }
+    record { visible = refl; any_time = write_goes d.past d.life at bytes; made = inr (inr (right, (refl, λ is. absurd cc))); faults = refl; refusals = refl }
 write_called d at bytes (Some Failed) right =
-    record { tells = refl; any_moment = write_goes d.past d.life at bytes; made = inr (inl (refl, refl, right)); faults = refl; wants = refl }
+    record { visible = refl; any_time = write_goes d.past d.life at bytes; made = inr (inl (refl, refl, right)); faults = refl; refusals = refl }
 write_called d at bytes (Some OutOfMemory) right = record {
-  tells = refl;
-  any_moment = still (content_of d.past d.life) (TornFrom (content_of d.past d.life) at bytes) (λ c left. (c, left, torn_not at bytes c));
+  visible = refl;
+  any_time = still (content_of d.past d.life) (TornFrom (content_of d.past d.life) at bytes) (λ c left. (c, left, torn_not at bytes c));
   made = inl (refl, refl);
   faults = refl;
-  wants = inr refl;
+  refusals = inr refl;
 }
 
 pub sync_called : (d : MemoryState) (stop : Option Stop) → IsFor stop d.life → Called (Sync ∷ []) (images (content_of d.past d.life)) stop (state_of d) (state_of (after_call Sync stop d))
 sync_called d None right =
-    record { tells = refl; any_moment = sync_goes d.past d.life; made = inr (inr (right, (refl, λ is. absurd cc))); faults = refl; wants = refl }
+    record { visible = refl; any_time = sync_goes d.past d.life; made = inr (inr (right, (refl, λ is. absurd cc))); faults = refl; refusals = refl }
 sync_called d (Some Failed) right =
-    record { tells = refl; any_moment = sync_goes d.past d.life; made = inr (inl (refl, refl, right)); faults = refl; wants = refl }
+    record { visible = refl; any_time = sync_goes d.past d.life; made = inr (inl (refl, refl, right)); faults = refl; refusals = refl }
 sync_called d (Some OutOfMemory) right = record {
-  tells = refl;
-  any_moment = still (content_of d.past d.life) (images (content_of d.past d.life)) (λ c left. left);
+  visible = refl;
+  any_time = still (content_of d.past d.life) (images (content_of d.past d.life)) (λ c left. left);
   made = inl (refl, refl);
   faults = refl;
-  wants = inr refl;
+  refusals = inr refl;
 }
 
 pub sync_durable : (d : MemoryState) → IsFor None d.life → Only (content_of d.past (and_call Sync d.life))

@@ -45,9 +45,9 @@ pub left_now : (past : List Lived) (life : Lived) (c : List ℕ) → Cut life c 
 left_now past life c left = subst (λ (l : Lived). Leaves l c) (sym (as_now (earlier past life) life)) (inr (inr left))
 
 -- one point more
-one_more : (old new : Content) (P : List ℕ → Type 0) → new.moment ≡ suc old.moment
-    → ((t : ℕ) (c : List ℕ) → t ≤ old.moment → new.images_at t c → old.images_at t c)
-    → ((t : ℕ) (c : List ℕ) → t ≤ old.moment → old.images_at t c → new.images_at t c)
+one_more : (old new : Content) (P : List ℕ → Type 0) → new.time ≡ suc old.time
+    → ((t : ℕ) (c : List ℕ) → t ≤ old.time → new.images_at t c → old.images_at t c)
+    → ((t : ℕ) (c : List ℕ) → t ≤ old.time → old.images_at t c → new.images_at t c)
     → ((c : List ℕ) → images old c → P c)
     → ((c : List ℕ) → images new c → P c)
     → LeavesOnly old new P
@@ -57,13 +57,13 @@ one_more old new P next back on before after = record {
   kept = on;
   each = λ t c from to left.
       ⊎_elim
-      (λ (still : t ≤ old.moment).
-      let same : t ≡ old.moment = omega (arith, from, still) in
+      (λ (still : t ≤ old.time).
+      let same : t ≡ old.time = omega (arith, from, still) in
       before c (subst (λ (m : ℕ). old.images_at m c) same (back t c still left)))
-      (λ (past : suc old.moment ≤ t).
-      let same : t ≡ new.moment = omega (arith, to, past, next) in
+      (λ (past : suc old.time ≤ t).
+      let same : t ≡ new.time = omega (arith, to, past, next) in
       after c (subst (λ (m : ℕ). new.images_at m c) same left))
-      (le_or_gt t old.moment);
+      (le_or_gt t old.time);
 }
   where
     le_or_gt : (m n : ℕ) → (m ≤ n) ⊎ (suc n ≤ m)
@@ -77,8 +77,8 @@ stays (l ∷ lives) life next zero le = refl
 stays (l ∷ lives) life next (suc t) le = stays lives life next t (omega (arith, le))
 
 module _ (past more : List Lived) (life next : Lived) (is : earlier more next ≡ earlier past life ++ life ∷ []) where
-  at_moment : (t : ℕ) → t ≤ length (earlier past life) → get_or (earlier more next) t next ≡ get_or (earlier past life) t life
-  at_moment t le = ap (λ (l : List Lived). get_or l t next) is ∙ stays (earlier past life) life next t le
+  at_time : (t : ℕ) → t ≤ length (earlier past life) → get_or (earlier more next) t next ≡ get_or (earlier past life) t life
+  at_time t le = ap (λ (l : List Lived). get_or l t next) is ∙ stays (earlier past life) life next t le
 
   goes_to : (P : List ℕ → Type 0) → ((c : List ℕ) → images (content_of past life) c → P c) → ((c : List ℕ) → images (content_of more next) c → P c)
       → LeavesOnly (content_of past life) (content_of more next) P
@@ -88,8 +88,8 @@ module _ (past more : List Lived) (life next : Lived) (is : earlier more next �
       (content_of more next)
       P
       (ap length is ∙ omega (arith, length-append (earlier past life) (life ∷ [])))
-      (λ t c le left. subst (λ (l : Lived). Leaves l c) (at_moment t le) left)
-      (λ t c le left. subst (λ (l : Lived). Leaves l c) (sym (at_moment t le)) left)
+      (λ t c le left. subst (λ (l : Lived). Leaves l c) (at_time t le) left)
+      (λ t c le left. subst (λ (l : Lived). Leaves l c) (sym (at_time t le)) left)
 
 -- one call more
 pub write_goes : (past : List Lived) (life : Lived) (at : ℕ) (bytes : List ℕ) → LeavesOnly (content_of past life) (content_of past (and_call (Write at bytes) life)) (TornFrom (content_of past life) at bytes)

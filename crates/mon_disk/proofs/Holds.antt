@@ -8,12 +8,12 @@ use Rattle.mon_disk.specs.declared.unsynced.Unsynced.{Unsynced}
 use Rattle.mon_disk.specs.declared.holding.Countdown.{Countdown}
 use Rattle.mon_disk.specs.Images.{overwritten}
 use Rattle.mon_disk.specs.Calls.{is_past}
-use Rattle.mon_disk.specs.Memory.{Upset, Lived, begins_with, from_of, first_write, lost_of, done_of, done, seen_after, part, placed, imaged, settled_as, settled}
-use Rattle.mon_disk.specs.MemoryDisk.{and_call, fails, upset_life}
-use Rattle.mon_disk.specs.Holding.{HoldingState, holds_only, is_over, counted, write_of, written_on, synced_on, first_lost, lost_on, failed_on, upset_on, undone, all_undone, call_of, lost_calls, settled_with, settled_from, since_sync, at_sync, left_of, Holds}
+use Rattle.mon_disk.specs.Memory.{InjectedFault, Lived, begins_with, from_of, first_write, lost_of, done_of, done, seen_after, part, placed, imaged, settled_as, settled}
+use Rattle.mon_disk.specs.MemoryDisk.{and_call, fails, injected_life}
+use Rattle.mon_disk.specs.Holding.{HoldingState, holds_only, is_over, counted, write_of, written_on, synced_on, first_lost, lost_on, failed_on, injected_on, undone, all_undone, call_of, lost_calls, settled_with, settled_from, since_sync, at_sync, left_of, Holds}
 use Rattle.mon_disk.proofs.Writes.{take-overwritten, drop-overwritten}
 use Rattle.mon_disk.proofs.Lives.{done_done, done_failed, lost_done, lost_write, lost_still, seen_written, seen_synced, seen_failed, length_more}
-use Rattle.mon_disk.proofs.Upsets.{all_done}
+use Rattle.mon_disk.proofs.InjectedFaults.{all_done}
 
 -- ---- a write that is taken back
 
@@ -61,7 +61,7 @@ taken_back at bytes file within =
 
 -- ---- the countdown
 
-counts : (made : ℕ) (u : Option Upset) → counted (left_of made u) ≡ left_of (suc made) u
+counts : (made : ℕ) (u : Option InjectedFault) → counted (left_of made u) ≡ left_of (suc made) u
 counts made None = refl
 counts made (Some u) =
     let less : u.from - suc made - 1 ≡ u.from - suc (suc made) = omega arith in
@@ -71,7 +71,7 @@ counts_call : (c : HoldingState) (life : Lived) (call : DiskCall) → c.upset �
 counts_call c life call is =
     ap counted is ∙ counts (length life.calls) life.upset ∙ ap (λ (n : ℕ). left_of n life.upset) (sym (length_more life.calls call))
 
-over_of : (made : ℕ) (u : Option Upset) → is_over (left_of made u) ≡ is_past (from_of u) (suc made)
+over_of : (made : ℕ) (u : Option InjectedFault) → is_over (left_of made u) ≡ is_past (from_of u) (suc made)
 over_of made None = refl
 over_of made (Some u) = zero_test u.from (suc made)
   where
@@ -141,14 +141,14 @@ holds_failed c life h fails =
       counts_call c life Sync h.4,
     )
 
-pub holds_upset : (c : HoldingState) (life : Lived) (call image : ℕ) → Holds c life → life.upset ≡ None → 1 ≤ call → Holds (upset_on call image c) (upset_life call image life)
-holds_upset c life call image h none some =
-    let u : Upset = record { from = length life.calls + call; image = image } in
+pub holds_injected : (c : HoldingState) (life : Lived) (call image : ℕ) → Holds c life → life.upset ≡ None → 1 ≤ call → Holds (injected_on call image c) (injected_life call image life)
+holds_injected c life call image h none some =
+    let u : InjectedFault = record { from = length life.calls + call; image = image } in
     let before : length life.calls < length life.calls + call = omega (arith, some) in
-    let sound : done life ≡ reverse life.calls = ap (λ (o : Option Upset). reverse (done_of (from_of o) life.calls)) none in
-    let calls : done (upset_life call image life) ≡ done life = all_done life.first u life.calls before ∙ sym sound in
+    let sound : done life ≡ reverse life.calls = ap (λ (o : Option InjectedFault). reverse (done_of (from_of o) life.calls)) none in
+    let calls : done (injected_life call image life) ≡ done life = all_done life.first u life.calls before ∙ sym sound in
     let lost : lost_of (Some u.from) life.calls ≡ [] = ap first_write (drop_all (pred u.from) life.calls (omega (arith, before))) in
-    let none_lost : lost_of (from_of life.upset) life.calls ≡ [] = ap (λ (o : Option Upset). lost_of (from_of o) life.calls) none in
+    let none_lost : lost_of (from_of life.upset) life.calls ≡ [] = ap (λ (o : Option InjectedFault). lost_of (from_of o) life.calls) none in
     let left : call - 1 ≡ length life.calls + call - suc (length life.calls) = omega arith in (
       h.0 ∙ ap (seen_after life.first) (sym calls),
       h.1 ∙ ap since_sync (sym calls),
@@ -168,7 +168,7 @@ imaged_lost : (image : ℕ) (first : List ℕ) (w : Option Unsynced) (calls : Li
 imaged_lost image first None calls = imaged_since image first calls
 imaged_lost image first (Some w) calls = ap (placed w.at (part image w.bytes)) (imaged_since image first calls)
 
-settles_as : (c : HoldingState) (life : Lived) (u : Option Upset) → Holds c life → settled_with (left_of (length life.calls) u) c ≡ settled_as u life
+settles_as : (c : HoldingState) (life : Lived) (u : Option InjectedFault) → Holds c life → settled_with (left_of (length life.calls) u) c ≡ settled_as u life
 settles_as c life None h = h.0
 settles_as c life (Some u) h =
     let writes = lost_calls c.lost in

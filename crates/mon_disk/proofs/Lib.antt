@@ -4,6 +4,6 @@ pub mod Contents
 pub mod Following
 pub mod Holds
 pub mod Lives
-pub mod Upsets
+pub mod InjectedFaults
 pub mod Walks
 pub mod Writes

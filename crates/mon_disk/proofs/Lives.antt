@@ -6,7 +6,7 @@ use Rattle.mon_disk.specs.declared.disk.DiskCall.{DiskCall}
 use Rattle.mon_disk.specs.declared.disk.DiskCall.TheVariants.{Write, Sync}
 use Rattle.mon_disk.specs.Images.{overwritten, Torn}
 use Rattle.mon_disk.specs.Calls.{is_past}
-use Rattle.mon_disk.specs.Memory.{Upset, Lived, from_of, done_of, first_write, lost_of, done, begun, seen_after, LeftAfter, part, imaged, seen_of, settled_as, settled}
+use Rattle.mon_disk.specs.Memory.{InjectedFault, Lived, from_of, done_of, first_write, lost_of, done, begun, seen_after, LeftAfter, part, imaged, seen_of, settled_as, settled}
 use Rattle.mon_disk.specs.MemoryDisk.{and_call, fails, Leaves}
 use Rattle.mon_disk.proofs.Writes.{torn_not, torn_whole, torn_part, length-part, one_byte}
 
@@ -41,7 +41,7 @@ seen_left_of (Some from) first calls =
 pub seen_left : (life : Lived) → Cut life (seen_of life)
 seen_left life = seen_left_of (from_of life.upset) life.first life.calls
 
-settled_left_of : (u : Option Upset) (life : Lived) → Cut life (settled_as u life)
+settled_left_of : (u : Option InjectedFault) (life : Lived) → Cut life (settled_as u life)
 settled_left_of None life = seen_left life
 settled_left_of (Some u) life = image_left u.image life.first (begun life)
 

@@ -5,7 +5,7 @@ use Rattle.mon_disk.specs.declared.disk.DiskCall.TheVariants.{Write, Sync}
 use Rattle.mon_disk.specs.declared.unsynced.Unsynced.{Unsynced}
 use Rattle.mon_disk.specs.declared.holding.Countdown.{Countdown}
 use Rattle.mon_disk.specs.Images.{overwritten}
-use Rattle.mon_disk.specs.Memory.{Upset, Lived, from_of, lost_of, done, seen_after, imaged, seen_of}
+use Rattle.mon_disk.specs.Memory.{InjectedFault, Lived, from_of, lost_of, done, seen_after, imaged, seen_of}
 
 -- What a read gives; the writes since the last sync, oldest first; the first write that failed; and how many calls are
 -- done before one fails.
@@ -53,8 +53,8 @@ lost_on at bytes c = record { bytes = c.bytes; unsynced = c.unsynced; lost = fir
 abbrev pub failed_on : HoldingState → HoldingState
 failed_on c = record { bytes = c.bytes; unsynced = c.unsynced; lost = c.lost; upset = counted c.upset }
 
-abbrev pub upset_on : ℕ → ℕ → HoldingState → HoldingState
-upset_on call image c = record { bytes = c.bytes; unsynced = c.unsynced; lost = c.lost; upset = Some (record { left = call - 1; image = image }) }
+abbrev pub injected_on : ℕ → ℕ → HoldingState → HoldingState
+injected_on call image c = record { bytes = c.bytes; unsynced = c.unsynced; lost = c.lost; upset = Some (record { left = call - 1; image = image }) }
 
 -- ---- what it settles to
 
@@ -94,7 +94,7 @@ at_sync first [] = first
 at_sync first (Write at bytes ∷ older) = at_sync first older
 at_sync first (Sync ∷ older) = seen_after first older
 
-abbrev pub left_of : ℕ → Option Upset → Option Countdown
+abbrev pub left_of : ℕ → Option InjectedFault → Option Countdown
 left_of made None = None
 left_of made (Some u) = Some (record { left = u.from - suc made; image = u.image })
 

@@ -5,16 +5,16 @@ use Rattle.std.specs.Prelude.{◌≡◌, ◌≢◌, ◌<◌, ◌≤◌, ◌⊎�
 -- what a crash at each point so far may leave. A disk whose contents can't be seen has no such image.
 pub record Content : Type 1 where
   pub seen : Option (List ℕ)
-  pub moment : ℕ
+  pub time : ℕ
   pub images_at : ℕ → List ℕ → Type 0
 
 -- a disk whose contents can't be seen
-abbrev pub untold : Content
-untold = record { seen = None; moment = 0; images_at = λ t c. ⊥ }
+abbrev pub unobserved : Content
+unobserved = record { seen = None; time = 0; images_at = λ t c. ⊥ }
 
 -- what a crash may leave now
 abbrev pub images : Content → List ℕ → Type 0
-images x = x.images_at x.moment
+images x = x.images_at x.time
 
 -- a file with these bytes at a place
 abbrev pub overwritten : ℕ → List ℕ → List ℕ → List ℕ
@@ -55,7 +55,7 @@ Only x = (c : List ℕ) → images x c → x.seen ≡ Some c
 -- Time goes on from old to new: what a crash might have left at an earlier point stays so, and at each point from old to new
 -- it leaves a file that has P.
 pub record LeavesOnly (old new : Content) (P : List ℕ → Type 0) : Type 0 where
-  pub later : old.moment ≤ new.moment
-  pub past : (t : ℕ) (c : List ℕ) → t ≤ old.moment → new.images_at t c → old.images_at t c
-  pub kept : (t : ℕ) (c : List ℕ) → t ≤ old.moment → old.images_at t c → new.images_at t c
-  pub each : (t : ℕ) (c : List ℕ) → old.moment ≤ t → t ≤ new.moment → new.images_at t c → P c
+  pub later : old.time ≤ new.time
+  pub past : (t : ℕ) (c : List ℕ) → t ≤ old.time → new.images_at t c → old.images_at t c
+  pub kept : (t : ℕ) (c : List ℕ) → t ≤ old.time → old.images_at t c → new.images_at t c
+  pub each : (t : ℕ) (c : List ℕ) → old.time ≤ t → t ≤ new.time → new.images_at t c → P c

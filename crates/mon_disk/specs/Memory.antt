@@ -6,7 +6,7 @@ use Rattle.mon_disk.specs.Images.{overwritten, Torn}
 
 -- an injected fault: the number, counted from 1, of the first write or sync that fails, and the image that the disk
 -- settles to
-pub record Upset : Type 0 where
+pub record InjectedFault : Type 0 where
   pub from : ℕ
   pub image : ℕ
 
@@ -15,7 +15,7 @@ pub record Upset : Type 0 where
 pub record Lived : Type 0 where
   pub first : List ℕ
   pub calls : List DiskCall
-  pub upset : Option Upset
+  pub upset : Option InjectedFault
 
 -- the lives that ended with a settling, oldest first, and the one that goes on
 pub record Lives : Type 0 where
@@ -27,7 +27,7 @@ abbrev pub begins_with : List ℕ → Lived
 begins_with file = record { first = file; calls = []; upset = None }
 
 -- the number, from 1, of the first call that fails
-abbrev pub from_of : Option Upset → Option ℕ
+abbrev pub from_of : Option InjectedFault → Option ℕ
 from_of None = None
 from_of (Some u) = Some u.from
 
@@ -86,7 +86,7 @@ abbrev pub seen_of : Lived → List ℕ
 seen_of life = seen_after life.first (done life)
 
 -- what the disk settles to: without an injected fault, what a read gives
-abbrev pub settled_as : Option Upset → Lived → List ℕ
+abbrev pub settled_as : Option InjectedFault → Lived → List ℕ
 settled_as None life = seen_of life
 settled_as (Some u) life = imaged u.image life.first (begun life)
 

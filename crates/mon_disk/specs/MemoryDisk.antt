@@ -9,7 +9,7 @@ use Rattle.mon_disk.specs.declared.disk.DiskCall.TheVariants.{Write, Sync}
 use Rattle.mon_disk.specs.declared.history.Step.{Step}
 use Rattle.mon_disk.specs.declared.history.Step.TheVariants as step
 use Rattle.mon_disk.specs.Images.{Content}
-use Rattle.mon_disk.specs.Calls.{Told, DiskState, is_past}
+use Rattle.mon_disk.specs.Calls.{Observed, DiskState, is_past}
 use Rattle.mon_disk.specs.Memory.{Lived, Lives, begins_with, LeftAfter, begun, seen_of, settled, from_of}
 
 -- the lives that ended with a settling, oldest first, and the one that goes on; the known length; the faults, and the failed
@@ -19,7 +19,7 @@ pub record MemoryState : Type 0 where
   pub life : Lived
   pub known : ℕ
   pub faults : ℕ
-  pub wants : ℕ
+  pub refusals : ℕ
 
 -- the life with these calls
 abbrev pub with_calls : Lived → List DiskCall → Lived
@@ -49,16 +49,16 @@ earlier past life = flat_map (λ l. before_calls l ++ l ∷ []) past ++ before_c
 abbrev pub content_of : List Lived → Lived → Content
 content_of past life = record {
   seen = Some (seen_of life);
-  moment = length (earlier past life);
+  time = length (earlier past life);
   images_at = λ t. Leaves (get_or (earlier past life) t life);
 }
 
-abbrev pub tells : Lived → Told
-tells life = record { made = life.calls; fails_from = from_of life.upset; settles = λ calls. settled (with_calls life calls) }
+abbrev pub observed_of : Lived → Observed
+observed_of life = record { made = life.calls; fails_from = from_of life.upset; settles = λ calls. settled (with_calls life calls) }
 
 -- what can be seen of the disk
 abbrev pub state_of : MemoryState → DiskState
-state_of d = record { content = content_of d.past d.life; known = d.known; told = Some (tells d.life); faults = d.faults; wants = d.wants }
+state_of d = record { content = content_of d.past d.life; known = d.known; observed = Some (observed_of d.life); faults = d.faults; refusals = d.refusals }
 
 -- whether the next write or sync fails
 abbrev pub fails : Lived → Bool
@@ -72,9 +72,9 @@ known_after Sync known = known
 -- The disk after a call with this result: a call that was made is added to the life, failed or not; without memory a
 -- failed allocation is counted.
 abbrev pub after_call : DiskCall → Option Stop → MemoryState → MemoryState
-after_call call None d = record { past = d.past; life = and_call call d.life; known = known_after call d.known; faults = d.faults; wants = d.wants }
-after_call call (Some Failed) d = record { past = d.past; life = and_call call d.life; known = d.known; faults = risen d.faults; wants = d.wants }
-after_call call (Some OutOfMemory) d = record { past = d.past; life = d.life; known = d.known; faults = d.faults; wants = risen d.wants }
+after_call call None d = record { past = d.past; life = and_call call d.life; known = known_after call d.known; faults = d.faults; refusals = d.refusals }
+after_call call (Some Failed) d = record { past = d.past; life = and_call call d.life; known = d.known; faults = risen d.faults; refusals = d.refusals }
+after_call call (Some OutOfMemory) d = record { past = d.past; life = d.life; known = d.known; faults = d.faults; refusals = risen d.refusals }
 
 -- A result that the life allows: Failed if and only if the injected fault applies to the call. OutOfMemory is always
 -- allowed.
@@ -84,24 +84,24 @@ IsFor (Some Failed) life = fails life ≡ true
 IsFor (Some OutOfMemory) life = Unit {0}
 
 -- the life in which the call-th write or sync from now is the first that fails
-abbrev pub upset_life : ℕ → ℕ → Lived → Lived
-upset_life call image life = record {
+abbrev pub injected_life : ℕ → ℕ → Lived → Lived
+injected_life call image life = record {
   first = life.first;
   calls = life.calls;
   upset = Some (record { from = length life.calls + call; image = image });
 }
 
 -- the disk after an injected fault
-abbrev pub upset_by : ℕ → ℕ → MemoryState → MemoryState
-upset_by call image d = record { past = d.past; life = upset_life call image d.life; known = d.known; faults = d.faults; wants = d.wants }
+abbrev pub injected_by : ℕ → ℕ → MemoryState → MemoryState
+injected_by call image d = record { past = d.past; life = injected_life call image d.life; known = d.known; faults = d.faults; refusals = d.refusals }
 
 -- the disk after it settled
 abbrev pub settle_of : MemoryState → MemoryState
-settle_of d = record { past = d.past ++ d.life ∷ []; life = begins_with (settled d.life); known = 0; faults = d.faults; wants = d.wants }
+settle_of d = record { past = d.past ++ d.life ∷ []; life = begins_with (settled d.life); known = 0; faults = d.faults; refusals = d.refusals }
 
 -- the lives after what happens to a disk
 abbrev pub lives_after : Step → Lives → Lives
 lives_after (step.Write at bytes) d = record { past = d.past; life = and_call (Write at bytes.now) d.life }
 lives_after step.Sync d = record { past = d.past; life = and_call Sync d.life }
-lives_after (step.Upset call image) d = record { past = d.past; life = upset_life call image d.life }
+lives_after (step.InjectedFault call image) d = record { past = d.past; life = injected_life call image d.life }
 lives_after step.Settle d = record { past = d.past ++ d.life ∷ []; life = begins_with (settled d.life) }

@@ -76,5 +76,5 @@ pub trait Disk {
     ghost as_read: { (d : Self) → IfSome (state d).content.seen (images (state d).content) };
 
     /// What a disk settles to is one of its images.
-    ghost settled: { (d : Self) → IfSome (state d).told (λ t. images (state d).content (t.settles t.made)) };
+    ghost settled: { (d : Self) → IfSome (state d).observed (λ t. images (state d).content (t.settles t.made)) };
 }

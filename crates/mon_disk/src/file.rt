@@ -2,7 +2,7 @@
 
 ghost use Rattle.std.specs.Prelude.{◌≡◌, None, length, is_some, IsErr, IsTrue, option_map};
 ghost use Rattle.mon_types.specs.Faults.{risen};
-ghost use Rattle.mon_disk.specs.Images.{untold};
+ghost use Rattle.mon_disk.specs.Images.{unobserved};
 
 use crate::device::DeviceFile;
 use crate::disk::Disk;
@@ -200,7 +200,13 @@ impl<R: Files + Copy> Disk for FileDisk<R>
 where
     R::File: DeviceFile,
 {
-    ghost state = { λ d. record { content = untold; known = d.known; told = None; faults = d.faults; wants = 0 } };
+    ghost state = { λ d. record {
+      content = unobserved;
+      known = d.known;
+      observed = None;
+      faults = d.faults;
+      refusals = 0;
+    } };
 
     ghost as_read = { λ _. tt };
 

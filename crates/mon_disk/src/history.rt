@@ -19,7 +19,7 @@ impl Model for History {
 pub(crate) enum Step<'a> {
     Write { at: u64, bytes: &'a [u8] },
     Sync,
-    Upset { call: u64, image: u8 },
+    InjectedFault { call: u64, image: u8 },
     Settle,
 }
 

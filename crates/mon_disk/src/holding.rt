@@ -1,7 +1,7 @@
 //! The contents of a disk in memory: what a read returns, and the writes that its images need beside that.
 
 ghost use Rattle.std.specs.Prelude.{◌≡◌, ◌≤◌, ◌+◌, length, IfOk, OnOk, OnErr};
-ghost use Rattle.mon_disk.specs.Holding.{holds_only, is_over, counted, written_on, synced_on, lost_on, failed_on, upset_on, settled_from};
+ghost use Rattle.mon_disk.specs.Holding.{holds_only, is_over, counted, written_on, synced_on, lost_on, failed_on, injected_on, settled_from};
 
 use crate::undoing::{keep_parts, undo_all};
 use crate::unsynced::{Unsynced, bytes_at, keep_part, overwrite};
@@ -63,7 +63,7 @@ impl Holding {
     /// Makes the `call`-th write or sync from now the first that fails.
     pub(crate) fn upset(&mut self, call: u64, image: u8)
         requires { 1 ≤ call }
-        ensures { self.new ≡ upset_on call image self.old }
+        ensures { self.new ≡ injected_on call image self.old }
     {
         self.upset = Some(Countdown {
             left: call - 1,

@@ -2,7 +2,7 @@ ghost use Rattle.std.specs.Prelude.{◌≡◌, ◌≤◌, ◌<◌, ◌+◌, ◌^
 ghost use Rattle.std.specs.Result.{result_err};
 ghost use Rattle.mon_disk.specs.Images.{images, Only, LeavesOnly};
 ghost use Rattle.mon_disk.specs.Memory.{begins_with, seen_of};
-ghost use Rattle.mon_disk.specs.MemoryDisk.{content_of, state_of, after_call, IsFor, upset_by, settle_of};
+ghost use Rattle.mon_disk.specs.MemoryDisk.{content_of, state_of, after_call, IsFor, injected_by, settle_of};
 ghost use Rattle.mon_disk.specs.Laws.{as_read, settles};
 
 use crate::disk::{Disk, DiskCall};
@@ -25,7 +25,7 @@ pub struct MemoryDisk {
     history: History,
     known: u64,
     faults: u64,
-    wants: u64,
+    refusals: u64,
 }
 
 impl Model for MemoryDisk {
@@ -40,7 +40,7 @@ impl Model for MemoryDisk {
       life = d.history.lives.life;
       known = d.known;
       faults = d.faults;
-      wants = d.wants;
+      refusals = d.refusals;
     } };
 
     ghost invariant = { λ d. Holds d.held d.history.lives.life × (d.known ≤ length d.held.bytes) };
@@ -49,7 +49,7 @@ impl Model for MemoryDisk {
 impl MemoryDisk {
     /// An empty disk, of which no call was made yet. It takes no memory.
     pub fn new(alloc: Global) -> MemoryDisk
-        ensures { result ≡ record { past = []; life = begins_with []; known = 0; faults = 0; wants = 0 } }
+        ensures { result ≡ record { past = []; life = begins_with []; known = 0; faults = 0; refusals = 0 } }
     {
         MemoryDisk {
             alloc,
@@ -57,7 +57,7 @@ impl MemoryDisk {
             history: History::new(),
             known: 0,
             faults: 0,
-            wants: 0,
+            refusals: 0,
         }
     }
 
@@ -68,13 +68,13 @@ impl MemoryDisk {
         requires none { self.old.life.upset ≡ None }
         requires first { 1 ≤ call }
         requires image { image ≤ 3 }
-        ensures state { self.new ≡ upset_by call image self.old }
+        ensures state { self.new ≡ injected_by call image self.old }
         ensures seen { seen_of self.new.life ≡ seen_of self.old.life }
-        ensures any_moment { let old = content_of self.old.past self.old.life in
+        ensures any_time { let old = content_of self.old.past self.old.life in
             LeavesOnly old (content_of self.new.past self.new.life) (images old) }
     {
         self.held.upset(call, image);
-        self.history = self.history.then(&Step::Upset { call, image });
+        self.history = self.history.then(&Step::InjectedFault { call, image });
     }
 
     /// Turns the disk into what a crash leaves: the image of its injected fault, which ends, or what a read gives if
@@ -83,7 +83,7 @@ impl MemoryDisk {
         ensures ok { OnOk result (self.new ≡ settle_of self.old) }
         ensures err { OnErr result (self.new ≡ self.old) }
         ensures durable { OnOk result (Only (content_of self.new.past self.new.life)) }
-        ensures any_moment { let old = content_of self.old.past self.old.life in
+        ensures any_time { let old = content_of self.old.past self.old.life in
             LeavesOnly old (content_of self.new.past self.new.life) (images old) }
     {
         let file = self.held.settled(self.alloc)?;
@@ -98,7 +98,7 @@ impl MemoryDisk {
         ensures stop { result ≡ Stop.OutOfMemory }
         ensures state { self.new ≡ after_call DiskCall.Sync (Some Stop.OutOfMemory) self.old }
     {
-        self.wants = raised(self.wants);
+        self.refusals = raised(self.refusals);
         Stop::OutOfMemory
     }
 

@@ -20,7 +20,7 @@ use Rattle.mon_types.specs.declared.names.Which.TheVariants as which
 use Rattle.mon_wire.specs.declared.body.Body.TheVariants as body
 use Rattle.mon_wire.specs.declared.phase.Phase.TheVariants as phase
 use Rattle.mon_wire.specs.declared.phase.Timer.TheVariants as timer
-use Rattle.mon_elector.specs.Rows.{IsCalled, table_told}
+use Rattle.mon_elector.specs.Rows.{IsCalled, sent_table}
 use Rattle.mon_elector.proofs.Known.{planned}
 
 module _ (me : Me) (now : ℕ) where
@@ -28,7 +28,7 @@ module _ (me : Me) (now : ℕ) where
   stands s = record s { candidate = true; acked = only me.member.rank; deferred = None }
 
   abbrev pub asks : ℕ → Elector → List Sent
-  asks e s = map (message_to me e (body.Propose (table_told me.rule s.scores))) (others me)
+  asks e s = map (message_to me e (body.Propose (sent_table me.rule s.scores))) (others me)
 
   abbrev pub called : List Change → ℕ → Elector → Course → Course
   called cs e s x =

@@ -1,7 +1,7 @@
 -- What is known of an event under way, by what an elector sees and remembers.
 use Rattle.std.proofs.Common.{◌≡◌, ℕ, Bool, List, [], Result, Ok, refl, sym, subst}
 use Rattle.std.specs.List.{AllByRecursion}
-use Rattle.mon_msg.specs.Protocol.Changes.{Change, spelled}
+use Rattle.mon_msg.specs.Protocol.Changes.{Change, encoded}
 use Rattle.mon_msg.specs.Protocol.Course.{Course, elector_is}
 use Rattle.mon_msg.specs.Protocol.Entering.{elect}
 use Rattle.mon_msg.specs.Protocol.Played.{Fits}
@@ -23,7 +23,7 @@ use Rattle.mon_elector.specs.declared.here.Here.{Here}
 
 -- a plan by its parts
 abbrev pub plan_of : List Change → List Sent → List Arming → Elector → Next → Plan Elector
-plan_of cs ms ts s n = record { tx = spelled cs; out = ms; timers = ts; state = s; next = n }
+plan_of cs ms ts s n = record { tx = encoded cs; out = ms; timers = ts; state = s; next = n }
 
 abbrev pub planned : List Change → List Sent → List Arming → Elector → Next → Course → Course
 planned cs ms ts s n x = done elector_is cs (plan_of cs ms ts s n) x

@@ -16,7 +16,7 @@ use Rattle.mon_plan.proofs.Planning.{sending-is}
 use Rattle.mon_types.specs.Ranks.{has}
 use Rattle.mon_wire.specs.declared.body.Body.TheVariants as body
 use Rattle.mon_wire.specs.declared.phase.Timer.TheVariants as timer
-use Rattle.mon_elector.specs.Rows.{table_told}
+use Rattle.mon_elector.specs.Rows.{sent_table}
 use Rattle.mon_elector.specs.declared.here.Here.{Here}
 use Rattle.mon_elector.proofs.Known.{Met, planned, along}
 
@@ -24,7 +24,7 @@ module _ (here : Here) (x : Course) (b : Met here x) (f : ℕ) (table : Scores) 
   abbrev pub answers : Readings → Elector → Type 0
   answers r t =
       hear_ping here.me.now f (Some table) x
-      ≡ Ok (planned [] (message_to here.me.now (epoch_of r) (body.PingReply (table_told here.me.now.rule (with_heard f table t).scores)) f ∷ []) [] (with_heard f table t) next.Stay x)
+      ≡ Ok (planned [] (message_to here.me.now (epoch_of r) (body.PingReply (sent_table here.me.now.rule (with_heard f table t).scores)) f ∷ []) [] (with_heard f table t) next.Stay x)
 
   pub ping-answered : answers (readings_of here.stored.now) here.state.now
   unfolding hear_ping
@@ -46,7 +46,7 @@ unfolding hear_ping_reply
 ping_reply-untold f x = refl
 
 abbrev pub asks : Me → (now e : ℕ) → Elector → List Sent
-asks me now e t = map (message_to me e (body.Ping (table_told me.rule (measure me now t).scores))) (others me)
+asks me now e t = map (message_to me e (body.Ping (sent_table me.rule (measure me now t).scores))) (others me)
 
 module _ (here : Here) (x : Course) (b : Met here x) where
   abbrev pub pings : Readings → Elector → Type 0

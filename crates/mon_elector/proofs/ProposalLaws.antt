@@ -4,7 +4,7 @@ use Rattle.std.proofs.lemmas.Bool.{or_parts}
 use Rattle.election_rules.specs.declared.scores.Scores.{Scores}
 use Rattle.mon_msg.specs.Protocol.Changes.{Epoch}
 use Rattle.mon_msg.specs.Protocol.Course.{Course}
-use Rattle.mon_msg.specs.Protocol.Elections.{hear_propose, is_allowed, stands_before, may_defer, table_or, merged_if_told}
+use Rattle.mon_msg.specs.Protocol.Elections.{hear_propose, is_allowed, stands_before, may_defer, table_or, merged_if_sent}
 use Rattle.mon_msg.specs.Protocol.Entering.{is_even, elect, adopt}
 use Rattle.mon_msg.specs.Protocol.Phases.{votes}
 use Rattle.mon_msg.specs.Protocol.Readings.{Readings, epoch_of, readings_of}
@@ -23,7 +23,7 @@ use Rattle.mon_elector.proofs.CallLaws.{adopts-elects}
 use Rattle.mon_elector.proofs.Known.{Met, epoch_in, planned, along, at_phase, at_epoch, at_role}
 
 abbrev pub told_to : Option Scores → Elector → Elector
-told_to table s = record s { scores = merged_if_told table s.scores }
+told_to table s = record s { scores = merged_if_sent table s.scores }
 
 abbrev pub joins : Elector → Elector
 joins s = record s { candidate = false; acked = no_ranks; deferred = None }

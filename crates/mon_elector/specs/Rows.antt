@@ -2,7 +2,7 @@
 use Rattle.std.specs.Prelude.{◌≡◌, ℕ, suc, ◌≤◌, ◌<◌, ◌^◌, Bool, true, false, List, Option, Some, None, Result, Ok, Err, if◌then◌else◌, [], ◌∷◌}
 use Rattle.election_rules.specs.declared.rule.Rule.{Rule}
 use Rattle.election_rules.specs.declared.scores.Scores.{Scores}
-use Rattle.mon_msg.specs.Protocol.Changes.{Epoch, spelled}
+use Rattle.mon_msg.specs.Protocol.Changes.{Epoch, encoded}
 use Rattle.mon_msg.specs.Protocol.Course.{Course, elector_is}
 use Rattle.mon_msg.specs.Protocol.Entering.{scores_count}
 use Rattle.mon_msg.specs.Protocol.Readings.{Readings, epoch_of, readings_of}
@@ -26,13 +26,13 @@ use Rattle.mon_wire.specs.declared.phase.Timer.{Timer}
 use Rattle.mon_elector.specs.declared.here.Here.{Here}
 
 -- what monitors say to each other of elections and of their connections
-abbrev pub is_told : Body → Bool
-is_told (body.Propose table) = true
-is_told body.Ack = true
-is_told (body.Victory quorum) = true
-is_told (body.Ping table) = true
-is_told (body.PingReply table) = true
-is_told b = false
+abbrev pub is_role_message : Body → Bool
+is_role_message (body.Propose table) = true
+is_role_message body.Ack = true
+is_role_message (body.Victory quorum) = true
+is_role_message (body.Ping table) = true
+is_role_message (body.PingReply table) = true
+is_role_message b = false
 
 abbrev pub is_rung : Timer → Bool
 is_rung timer.Election = true
@@ -42,7 +42,7 @@ is_rung t = false
 -- the inputs of an elector
 abbrev pub is_input : Input → Bool
 is_input input.Start = false
-is_input (input.Deliver m) = is_told m.body
+is_input (input.Deliver m) = is_role_message m.body
 is_input (input.Timer t) = is_rung t
 is_input (input.Client session r) = false
 
@@ -64,14 +64,14 @@ pub record IsCalled (e : ℕ) (s : Elector) (x : Course) : Type 0 where
   pub role : x.state.elector ≡ s
 
 -- the own table, if scores count
-abbrev pub table_told : Rule → Scores → Option Scores
-table_told rule scores = if scores_count rule then Some scores else None
+abbrev pub sent_table : Rule → Scores → Option Scores
+sent_table rule scores = if scores_count rule then Some scores else None
 
 -- The next epoch begins, and the monitor wins it with those that deferred to it, unless the epoch would pass 2^62.
 abbrev pub Wins : (epoch : ℕ) → Elector → (acked : List Bool) → Result (Plan Elector) RoleStop → Type 0
 Wins epoch s acked (Ok p) =
     (suc epoch ≤ 2 ^ 62) × (p ≡ record {
-      tx = spelled (Epoch (suc epoch) ∷ []);
+      tx = encoded (Epoch (suc epoch) ∷ []);
       out = [];
       timers = [];
       state = s;

@@ -9,10 +9,10 @@ ghost use Rattle.mon_msg.specs.declared.plan.Next.TheVariants as next;
 ghost use Rattle.mon_plan.specs.Plans.{PlansAct};
 ghost use Rattle.mon_wire.specs.declared.body.Body.TheVariants as body;
 ghost use Rattle.mon_wire.specs.declared.phase.Timer.TheVariants as timer;
-ghost use Rattle.mon_elector.specs.Rows.{IsCalled, table_told};
+ghost use Rattle.mon_elector.specs.Rows.{IsCalled, sent_table};
 
-use crate::seen::{is_even, table_told};
-use crate::steps::{tell_others, tell_until, to_epoch};
+use crate::seen::{is_even, sent_table};
+use crate::steps::{plan_until, send_to_others, to_epoch};
 use mon_bytes::OutOfMemory;
 use mon_msg::{Body, Elector, Me, Plan, RoleStop, Timer};
 use mon_plan::armed;
@@ -21,7 +21,7 @@ use mon_types::{Epoch, Moment, RankSet, Which};
 use std::alloc::Global;
 
 /// The elector's state as a candidate to which only itself has deferred.
-fn standing(me: &Me, state: &Elector) -> Elector
+fn as_candidate(me: &Me, state: &Elector) -> Elector
     ensures { result ≡ record state.now { candidate = true; acked = only me.now.member.rank; deferred = None } }
 {
     Elector {
@@ -43,16 +43,16 @@ fn call(
 ) -> Result<Plan<Elector>, OutOfMemory>
     ensures { IfOk result (λ p. p ≡ record {
       tx = tx;
-      out = map (message_to me.now epoch (body.Propose (table_told me.now.rule state.now.scores))) (others me.now);
+      out = map (message_to me.now epoch (body.Propose (sent_table me.now.rule state.now.scores))) (others me.now);
       timers = arming.Arm timer.Election (min (now + 5000) (2 ^ 62)) ∷ [];
       state = record state.now { candidate = true; acked = only me.now.member.rank; deferred = None };
       next = next.Stay;
     }) }
 {
-    let table = table_told(alloc, &me.rule, &state.scores)?;
-    let out = tell_others(alloc, me, epoch, Body::Propose { table })?;
+    let table = sent_table(alloc, &me.rule, &state.scores)?;
+    let out = send_to_others(alloc, me, epoch, Body::Propose { table })?;
     let arming = armed(now, Timer::Election);
-    tell_until(alloc, tx, out, standing(me, state), arming)
+    plan_until(alloc, tx, out, as_candidate(me, state), arming)
 }
 
 /// What an elector does if its monitor calls an election. `epoch` is the epoch after the earlier acts of the event. If

@@ -7,7 +7,7 @@ ghost use Rattle.mon_msg.specs.Protocol.Readings.{readings_of};
 ghost use Rattle.mon_msg.specs.Protocol.Table.{timer_comes};
 ghost use Rattle.mon_plan.specs.Inputs.{row};
 ghost use Rattle.mon_plan.specs.Leaves.{Leaves};
-ghost use Rattle.mon_elector.specs.Rows.{is_told, is_rung, is_input, PlansElection, ByRow};
+ghost use Rattle.mon_elector.specs.Rows.{is_role_message, is_rung, is_input, PlansElection, ByRow};
 
 use crate::acks::{election_ends, hear_ack};
 use crate::here::Here;
@@ -23,7 +23,7 @@ use std::alloc::Global;
 
 /// Hears a PROPOSE, ACK, VICTORY, PING or PING_REPLY of another monitor.
 fn hear(here: &Here<'_>, message: &Message) -> Result<Plan<Elector>, RoleStop>
-    requires { IsTrue (is_told message.now.body) }
+    requires { IsTrue (is_role_message message.now.body) }
     ensures plans { (shared : List Entry) → ByRow here.now
         (hear here.now.me.now shared here.now.time message.now.from message.now.epoch message.now.body) result }
     ensures leaves { IfOk result (λ p. Leaves here.now.view.now.phase p.next p.tx) }

@@ -7,8 +7,8 @@ ghost use Rattle.mon_plan.specs.Leaves.{Leaves};
 ghost use Rattle.mon_elector.specs.Rows.{ByRow};
 
 use crate::here::Here;
-use crate::seen::table_told;
-use crate::steps::{tell_others, tell_until};
+use crate::seen::sent_table;
+use crate::steps::{plan_until, send_to_others};
 use election_rules::Scores;
 use mon_bytes::OutOfMemory;
 use mon_msg::{Body, Elector, Plan, RoleStop, ScoreTable, Timer};
@@ -42,7 +42,7 @@ pub(crate) fn hear_ping(
         return Ok(stay(here.alloc, *here.state));
     };
     let heard = with_heard(here.state, from, table.scores());
-    let table = table_told(here.alloc, &here.me.rule, &heard.scores)?;
+    let table = sent_table(here.alloc, &here.me.rule, &heard.scores)?;
     let body = Body::PingReply { table };
     let sent = message(here.me, here.stored.epoch(), body, from);
     let out = one(here.alloc, sent)?;
@@ -109,10 +109,10 @@ pub(crate) fn ping(here: &Here<'_>) -> Result<Plan<Elector>, RoleStop>
     ensures leaves { IfOk result (λ p. Leaves here.now.view.now.phase p.next p.tx) }
 {
     let elector = measured(here)?;
-    let table = table_told(here.alloc, &here.me.rule, &elector.scores)?;
+    let table = sent_table(here.alloc, &here.me.rule, &elector.scores)?;
     let body = Body::Ping { table };
-    let out = tell_others(here.alloc, here.me, here.stored.epoch(), body)?;
+    let out = send_to_others(here.alloc, here.me, here.stored.epoch(), body)?;
     let tx = Transaction::new(here.alloc);
     let arming = armed(here.time, Timer::Ping);
-    Ok(tell_until(here.alloc, tx, out, elector, arming)?)
+    Ok(plan_until(here.alloc, tx, out, elector, arming)?)
 }

@@ -8,7 +8,7 @@ ghost use Rattle.mon_msg.specs.Protocol.Phases.{votes, same_phase};
 ghost use Rattle.mon_msg.specs.Protocol.Readings.{epoch_of, readings_of};
 ghost use Rattle.mon_types.specs.Ranks.{has, is_majority};
 ghost use Rattle.mon_wire.specs.declared.phase.Phase.TheVariants as phase_is;
-ghost use Rattle.mon_elector.specs.Rows.{table_told};
+ghost use Rattle.mon_elector.specs.Rows.{sent_table};
 
 use election_rules::{Rule, Scores, outranks};
 use mon_bytes::OutOfMemory;
@@ -144,12 +144,12 @@ pub(crate) fn may_follow(me: &Me, quorum: RankSet, leader: Rank) -> bool
 }
 
 /// The table that a monitor sends: its own if scores count, and otherwise none.
-pub(crate) fn table_told(
+pub(crate) fn sent_table(
     alloc: Global,
     rule: &Rule,
     scores: &Scores,
 ) -> Result<Option<ScoreTable>, OutOfMemory>
-    ensures { IfOk result (λ table. table ≡ table_told rule.now scores.now) }
+    ensures { IfOk result (λ table. table ≡ sent_table rule.now scores.now) }
 {
     match rule {
         Rule::Classic | Rule::Disallow(_) => Ok(None),

@@ -1,8 +1,8 @@
 //! The steps of which an elector's plans are made.
 
 ghost use Rattle.std.specs.Prelude.{◌≡◌, [], ◌∷◌, Some, None, false, map, IfOk};
-ghost use Rattle.mon_msg.specs.Protocol.Changes.{Epoch as ToEpoch, spelled};
-ghost use Rattle.mon_msg.specs.Protocol.Elections.{merged_if_told};
+ghost use Rattle.mon_msg.specs.Protocol.Changes.{Epoch as ToEpoch, encoded};
+ghost use Rattle.mon_msg.specs.Protocol.Elections.{merged_if_sent};
 ghost use Rattle.mon_msg.specs.Protocol.Played.{Fits};
 ghost use Rattle.mon_msg.specs.Protocol.Readings.{epoch_of, readings_of};
 ghost use Rattle.mon_msg.specs.Protocol.Sending.{message_to, others};
@@ -25,7 +25,7 @@ use std::alloc::Global;
 
 /// The elector's state with the table of a message, if it has one, merged into its own.
 pub(crate) fn merged(table: &Option<ScoreTable>, state: &Elector) -> Elector
-    ensures { result ≡ record state.now { scores = merged_if_told table.now state.now.scores } }
+    ensures { result ≡ record state.now { scores = merged_if_sent table.now state.now.scores } }
 {
     let mut scores = state.scores;
     if let Some(table) = table {
@@ -60,7 +60,7 @@ fn deferring(state: &Elector, from: Rank) -> Elector
 
 /// The transaction that puts an epoch.
 pub(crate) fn to_epoch(alloc: Global, epoch: Epoch) -> Result<Transaction, OutOfMemory>
-    ensures changes { IfOk result (λ tx. tx ≡ spelled (ToEpoch epoch ∷ [])) }
+    ensures changes { IfOk result (λ tx. tx ≡ encoded (ToEpoch epoch ∷ [])) }
     ensures fit { Fits (ToEpoch epoch) }
 {
     let mut tx = Transaction::new(alloc);
@@ -76,7 +76,7 @@ pub(crate) fn enter_epoch(
     next: Next,
 ) -> Result<Plan<Elector>, OutOfMemory>
     ensures plan { IfOk result
-        (λ p. p ≡ record { tx = spelled (ToEpoch epoch ∷ []); out = []; timers = []; state = state; next = next }) }
+        (λ p. p ≡ record { tx = encoded (ToEpoch epoch ∷ []); out = []; timers = []; state = state; next = next }) }
     ensures fit { Fits (ToEpoch epoch) }
 {
     let tx = to_epoch(alloc, epoch)?;
@@ -93,7 +93,7 @@ pub(crate) fn enter_epoch_until(
 ) -> Result<Plan<Elector>, OutOfMemory>
     ensures plan { IfOk result
         (λ p. p ≡ record {
-          tx = spelled (ToEpoch epoch ∷ []);
+          tx = encoded (ToEpoch epoch ∷ []);
           out = [];
           timers = arming ∷ [];
           state = state;
@@ -113,7 +113,7 @@ pub(crate) fn enter_epoch_until(
 }
 
 /// A copy of a message for each other monitor of the map.
-fn tell_copies(
+fn send_copies(
     alloc: Global,
     me: &Me,
     epoch: Epoch,
@@ -128,7 +128,7 @@ fn tell_copies(
 }
 
 /// A message for each other monitor of the map.
-pub(crate) fn tell_others(
+pub(crate) fn send_to_others(
     alloc: Global,
     me: &Me,
     epoch: Epoch,
@@ -136,13 +136,13 @@ pub(crate) fn tell_others(
 ) -> Result<Items<Sent>, OutOfMemory>
     ensures { IfOk result (λ out. out ≡ map (message_to me.now epoch body) (others me.now)) }
 {
-    let out = tell_copies(alloc, me, epoch, &body);
+    let out = send_copies(alloc, me, epoch, &body);
     drop(body);
     out
 }
 
 /// The plan with these changes and messages, which sets one timer and names no act.
-pub(crate) fn tell_until(
+pub(crate) fn plan_until(
     alloc: Global,
     tx: Transaction,
     out: Items<Sent>,
@@ -197,7 +197,7 @@ pub(crate) fn join_and_defer(
     arming: Arming,
 ) -> Result<Plan<Elector>, OutOfMemory>
     ensures plan { IfOk result (λ p. p ≡ record {
-      tx = spelled (ToEpoch epoch ∷ []);
+      tx = encoded (ToEpoch epoch ∷ []);
       out = message_to me.now epoch body.Ack from ∷ [];
       timers = arming ∷ [];
       state = record state.now { candidate = false; acked = no_ranks; deferred = Some from };

@@ -2,7 +2,7 @@
 use Rattle.std.specs.List.{AllByRecursion}
 use Rattle.std.specs.Prelude.{◌≡◌, ◌++◌, List, Result, Ok, Err}
 use Rattle.mon_bytes.specs.declared.memory.OutOfMemory.{OutOfMemory}
-use Rattle.mon_msg.specs.Protocol.Changes.{Change, spelled}
+use Rattle.mon_msg.specs.Protocol.Changes.{Change, encoded}
 use Rattle.mon_msg.specs.Protocol.Course.{Course}
 use Rattle.mon_msg.specs.Protocol.Played.{Fits, played}
 use Rattle.mon_msg.specs.Protocol.Readings.{Readings}
@@ -20,7 +20,7 @@ use Rattle.mon_event.specs.declared.event.Event.{Event}
 pub record IsUnderWay (w : Readings) (e : Event) (x : Course) : Type 0 where
   pub readings : x.readings ≡ played x.changes w
   pub fit : AllByRecursion Fits x.changes
-  pub spelled : e.tx ≡ spelled x.changes
+  pub encoded : e.tx ≡ encoded x.changes
   pub out : e.out ≡ x.out
   pub state : state_of e.state ≡ x.state
 
@@ -52,7 +52,7 @@ pub record IsCarried {S : Type 0} (is : S → Course → Course) (old : Event) (
     (n : Next) : Type 0 where
   pub next : n ≡ p.next
   pub written : new.tx ≡ old.tx ++ p.tx
-  pub done : (cs : List Change) → AllByRecursion Fits cs → p.tx ≡ spelled cs → Goes old new (done is cs p)
+  pub done : (cs : List Change) → AllByRecursion Fits cs → p.tx ≡ encoded cs → Goes old new (done is cs p)
 
 abbrev pub Carries : {S : Type 0} → (S → Course → Course) → (old : Event) → Plan S → (new : Event) →
     Result Next OutOfMemory → Type 0

@@ -2,7 +2,7 @@
 
 ghost use Rattle.std.specs.Prelude.{◌≡◌, ◌++◌, OnOk, IfOk, List, [], None};
 ghost use Rattle.std.specs.List.{AllByRecursion};
-ghost use Rattle.mon_msg.specs.Protocol.Changes.{Change, spelled};
+ghost use Rattle.mon_msg.specs.Protocol.Changes.{Change, encoded};
 ghost use Rattle.mon_msg.specs.Protocol.Course.{in_phase, forget_clients, peon_is};
 ghost use Rattle.mon_msg.specs.Protocol.Played.{Fits};
 ghost use Rattle.mon_msg.specs.Protocol.Sending.{reply_to};
@@ -137,7 +137,7 @@ impl Event {
 
     /// Does the part of a plan that precedes the role's new state: the phase, and then the transaction.
     fn begin(&mut self, alloc: Global, next: &Next, tx: Transaction) -> Result<(), OutOfMemory>
-        ensures goes { OnOk result ((cs : List Change) → AllByRecursion Fits cs → tx ≡ spelled cs
+        ensures goes { OnOk result ((cs : List Change) → AllByRecursion Fits cs → tx ≡ encoded cs
             → Goes self.old self.new (λ x. changed cs (stands next.now x))) }
         ensures written { OnOk result (self.new.tx ≡ self.old.tx ++ tx) }
     {

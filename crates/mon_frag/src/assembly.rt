@@ -6,7 +6,7 @@ ghost use Rattle.mon_frag.specs.Headers.{is_piece};
 ghost use Rattle.mon_frag.specs.Keeping.{Takes, taken, piece_taken, at_found, joined_with, first_of, oldest_against, is_client, is_of, same_peer, without};
 
 use crate::cutting::DATAGRAM;
-use crate::header::{Header, PART, PIECE, behind_header, read_header};
+use crate::header::{Header, PART, PIECE, piece_payload, read_header};
 use crate::partial::{Joined, Partial};
 use crate::refused::FragRefused;
 use mon_bytes::{Bytes, OutOfMemory};
@@ -204,7 +204,7 @@ impl Assembly {
             return Ok(Some(copied(alloc, datagram)?));
         }
         let header = read_header(datagram)?;
-        self.take_piece(alloc, from, header, behind_header(datagram))
+        self.take_piece(alloc, from, header, piece_payload(datagram))
     }
 }
 

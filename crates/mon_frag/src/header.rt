@@ -98,7 +98,7 @@ fn check(count: usize, header: Header) -> Result<Header, FragRefused>
 
 /// The bytes of its message that a piece has.
 #[tactic(auto, using(std::proofs::lemmas::List::drop_min))]
-pub fn behind_header(datagram: &[u8]) -> &[u8]
+pub fn piece_payload(datagram: &[u8]) -> &[u8]
     ensures { result.now ≡ drop PIECE_HEADER datagram.now }
 {
     let (_, bytes) = datagram.split_at(PIECE_HEADER.min(datagram.len()));
@@ -111,5 +111,5 @@ pub fn read_header(datagram: &[u8]) -> Result<Header, FragRefused>
     ensures within { IfOk result (λ h. h.place < h.total) }
 {
     let header = read_fields(datagram)?;
-    check(behind_header(datagram).len(), header)
+    check(piece_payload(datagram).len(), header)
 }

@@ -6,7 +6,7 @@ use Rattle.byteorder.specs.Endian.{little_bytes}
 use Rattle.byteorder.specs.Numbers.{little_number-reads_back}
 use Rattle.mon_types.specs.Ranks.{to_bits, from_bits, low_bits}
 use Rattle.mon_types.proofs.Bits.{to_bits-low_bits, low_bits-to_bits}
-use Rattle.mon_bytes.specs.Reading.{IsBytes, Reading, number, front}
+use Rattle.mon_bytes.specs.Reading.{IsBytes, Reading, number, next_bytes}
 use Rattle.mon_bytes.specs.Forms.{◌>>=◌, fitted}
 use Rattle.mon_bytes.specs.Format.{IsLawful, nothing, items, u16_bytes}
 use Rattle.mon_bytes.proofs.Fields.{chosen_ok, ok_is, Takes, Takes-then, front_takes, number_takes, byte_takes, Found, number_found, byte_found, front_found}
@@ -16,7 +16,7 @@ use Rattle.mon_bytes.specs.declared.command.MapRefused.TheVariants.{Form}
 use Rattle.election_rules.specs.declared.rule.Rule.{Rule}
 use Rattle.election_rules.specs.declared.rule.Rule.TheVariants as rule
 use Rattle.mon_link.specs.declared.udp.Address.{Address}
-use Rattle.mon_hello.specs.Formats.{faults, byte_at, byte, counted_at, counted, set_bytes, set_at, set, address_at, address_text, an_address, all_addresses, rule_spelled, rule_kinds, rule_at, a_rule}
+use Rattle.mon_hello.specs.Formats.{faults, byte_at, byte, counted_at, counted, set_bytes, set_at, set, address_at, address_text, an_address, all_addresses, rule_encoded, rule_kinds, rule_at, a_rule}
 
 -- ---- a byte
 
@@ -39,12 +39,12 @@ byte-lawful test = record { takes = byte_is_taken test; found = byte_is_found te
 counted_is_taken : (test : List ℕ → Bool) (c : Reading) (x : List ℕ × Reading) → IsBytes c.rest → counted_at test c ≡ Ok x → Takes c (length x.0 ∷ x.0) x.1 × IsTrue (test x.0)
 unfolding counted_at
 counted_is_taken test c x fits e =
-    let a = bind_ok (fitted (number 1 c)) (λ n. fitted (front n.0 n.1) >>= λ bytes. cond (test bytes.0) (Ok bytes) (Err (Form n.1.at))) x e in
+    let a = bind_ok (fitted (number 1 c)) (λ n. fitted (next_bytes n.0 n.1) >>= λ bytes. cond (test bytes.0) (Ok bytes) (Err (Form n.1.at))) x e in
     let n = a.0 in
-    let b = bind_ok (fitted (front n.0 n.1)) (λ bytes. cond (test bytes.0) (Ok bytes) (Err (Form n.1.at))) x a.2 in
+    let b = bind_ok (fitted (next_bytes n.0 n.1)) (λ bytes. cond (test bytes.0) (Ok bytes) (Err (Form n.1.at))) x a.2 in
     let g = chosen_ok (test b.0.0) (Form n.1.at) (Ok b.0) x b.2 in
     let t0 = byte_takes c n fits (fitted_ok (number 1 c) n a.1) in
-    let t1 = front_takes n.0 n.1 b.0 t0.0.bytes (fitted_ok (front n.0 n.1) b.0 b.1) in
+    let t1 = front_takes n.0 n.1 b.0 t0.0.bytes (fitted_ok (next_bytes n.0 n.1) b.0 b.1) in
     let all = Takes-then c n.1 b.0.1 (n.0 ∷ []) b.0.0 t0.0 t1.0 in
     subst (λ (p : List ℕ × Reading). Takes c (length p.0 ∷ p.0) p.1 × IsTrue (test p.0)) (ok_is b.0 x g.1)
     (subst (λ (k : ℕ). Takes c (k ∷ b.0.0) b.0.1) (sym t1.1) all, g.0)
@@ -111,11 +111,11 @@ set-lawful = record { takes = set_is_taken; found = set_is_found }
 
 rule_is_taken : (c : Reading) (x : Rule × Reading) → IsBytes c.rest → rule_at c ≡ Ok x → Takes c (a_rule.text x.0) x.1 × a_rule.Form x.0
 unfolding rule_at
-rule_is_taken = choice_takes faults rule_spelled rule_kinds (
-  variant_takes rule_spelled 0 nothing (λ x. rule.Classic) nothing-lawful (λ a. refl) (λ a. refl) (λ a h. h),
+rule_is_taken = choice_takes faults rule_encoded rule_kinds (
+  variant_takes rule_encoded 0 nothing (λ x. rule.Classic) nothing-lawful (λ a. refl) (λ a. refl) (λ a h. h),
   (
-    variant_takes rule_spelled 1 set (λ ranks. rule.Disallow ranks) set-lawful (λ a. refl) (λ a. refl) (λ a h. h),
-    (variant_takes rule_spelled 2 set (λ ranks. rule.Connectivity ranks) set-lawful (λ a. refl) (λ a. refl) (λ a h. h), tt),
+    variant_takes rule_encoded 1 set (λ ranks. rule.Disallow ranks) set-lawful (λ a. refl) (λ a. refl) (λ a h. h),
+    (variant_takes rule_encoded 2 set (λ ranks. rule.Connectivity ranks) set-lawful (λ a. refl) (λ a. refl) (λ a h. h), tt),
   ),
 )
 
@@ -133,9 +133,9 @@ rule-lawful = record { takes = rule_is_taken; found = rule_is_found }
 address_is_taken : (c : Reading) (x : Address × Reading) → IsBytes c.rest → address_at c ≡ Ok x → Takes c (address_text x.0) x.1 × an_address.Form x.0
 unfolding address_at
 address_is_taken c x fits e =
-    let a = bind_ok (fitted (front 4 c)) (λ host. fitted (number 2 host.1) >>= λ port. Ok (record { host = host.0; port = port.0 }, port.1)) x e in
+    let a = bind_ok (fitted (next_bytes 4 c)) (λ host. fitted (number 2 host.1) >>= λ port. Ok (record { host = host.0; port = port.0 }, port.1)) x e in
     let b = bind_ok (fitted (number 2 a.0.1)) (λ port. Ok (record { host = a.0.0; port = port.0 }, port.1)) x a.2 in
-    let t0 = front_takes 4 c a.0 fits (fitted_ok (front 4 c) a.0 a.1) in
+    let t0 = front_takes 4 c a.0 fits (fitted_ok (next_bytes 4 c) a.0 a.1) in
     let t1 = u16_takes a.0.1 b.0 t0.0.bytes (fitted_ok (number 2 a.0.1) b.0 b.1) in
     subst (λ (p : Address × Reading). Takes c (address_text p.0) p.1 × an_address.Form p.0) (ok_is (record { host = a.0.0; port = b.0.0 }, b.0.1) x b.2)
     (Takes-then c a.0.1 b.0.1 a.0.0 (u16_bytes b.0.0) t0.0 t1.0, (t0.1, t1.1))

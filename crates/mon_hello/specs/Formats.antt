@@ -6,8 +6,8 @@ use Rattle.sha2.specs.Sha256.{sha256}
 use Rattle.mon_types.specs.Ranks.{to_bits, from_bits}
 use Rattle.mon_bytes.specs.declared.command.MapRefused.{MapRefused}
 use Rattle.mon_bytes.specs.declared.command.MapRefused.TheVariants.{Form}
-use Rattle.mon_bytes.specs.Reading.{number, front}
-use Rattle.mon_bytes.specs.Format.{Faults, Reader, Format, nothing, dependent, ◌⊗◌, seen_as, as_parts, items, u16_bytes, Spelling, spelling, variant, tagged, choice}
+use Rattle.mon_bytes.specs.Reading.{number, next_bytes}
+use Rattle.mon_bytes.specs.Format.{Faults, Reader, Format, nothing, dependent, ◌⊗◌, seen_as, as_parts, items, u16_bytes, Encoding, encoding, variant, tagged, choice}
 use Rattle.mon_bytes.specs.Forms.{◌>>=◌, fitted, whole}
 use Rattle.mon_bytes.specs.Texts.{is_word}
 use Rattle.election_rules.specs.declared.rule.Rule.{Rule}
@@ -36,7 +36,7 @@ byte test = record { text = λ n. n ∷ []; read = byte_at test; Form = λ n. Is
 unfoldable pub counted_at : (List ℕ → Bool) → Reader MapRefused (List ℕ)
 counted_at test c = do
   n ← fitted (number 1 c)
-  bytes ← fitted (front n.0 n.1)
+  bytes ← fitted (next_bytes n.0 n.1)
   if test bytes.0 then Ok bytes else Err (Form n.1.at)
 
 abbrev pub counted : (List ℕ → Bool) → Format MapRefused (List ℕ)
@@ -61,7 +61,7 @@ set = record { text = set_bytes; read = set_at; Form = λ s. length s ≡ 15 }
 -- four bytes of the host, and the port in two, the lowest first
 unfoldable pub address_at : Reader MapRefused Address
 address_at c = do
-  host ← fitted (front 4 c)
+  host ← fitted (next_bytes 4 c)
   port ← fitted (number 2 host.1)
   Ok (record { host = host.0; port = port.0 }, port.1)
 
@@ -77,10 +77,10 @@ all_addresses n = record { text = flat_map address_text; read = items address_at
 
 -- ---- a rule: the byte of its kind, and the ranks that never lead
 
-abbrev pub rule_spelled : Rule → Spelling
-rule_spelled rule.Classic = spelling 0 (nothing {E = MapRefused}) tt
-rule_spelled (rule.Disallow ranks) = spelling 1 set ranks
-rule_spelled (rule.Connectivity ranks) = spelling 2 set ranks
+abbrev pub rule_encoded : Rule → Encoding
+rule_encoded rule.Classic = encoding 0 (nothing {E = MapRefused}) tt
+rule_encoded (rule.Disallow ranks) = encoding 1 set ranks
+rule_encoded (rule.Connectivity ranks) = encoding 2 set ranks
 
 abbrev pub rule_kinds : List (ℕ × Reader MapRefused Rule)
 rule_kinds = (0, variant nothing (λ x. rule.Classic)) ∷ (1, variant set (λ ranks. rule.Disallow ranks)) ∷ (2, variant set (λ ranks. rule.Connectivity ranks)) ∷ []
@@ -89,7 +89,7 @@ unfoldable pub rule_at : Reader MapRefused Rule
 rule_at c = tagged faults rule_kinds c
 
 abbrev pub a_rule : Format MapRefused Rule
-a_rule = choice rule_spelled rule_at
+a_rule = choice rule_encoded rule_at
 
 -- ---- what names a quorum: its name, the number of its monitors, and its rule
 

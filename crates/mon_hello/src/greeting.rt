@@ -69,7 +69,7 @@ impl<L: Link + Drop, C: Clock + Drop, S: Say + Drop> Greeting<L, C, S> {
 impl<L: Link + Drop, C: Clock + Drop, S: Say + Drop> Link for Greeting<L, C, S> {
     ghost use Rattle.std.specs.Prelude.{None};
 
-    ghost state = { λ r. record { told = None; faults = (L.state r.inner).faults; losses = r.losses } };
+    ghost state = { λ r. record { observed = None; faults = (L.state r.inner).faults; losses = r.losses } };
 
     /// Asks the link below once, with the same wait. Then it answers a client that sent a hello, and greets each other
     /// monitor if a round is due. A hello whose send fails is left out. If memory runs out, that is the error, what was

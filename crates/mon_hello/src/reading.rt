@@ -153,7 +153,7 @@ impl Decode for Hello {
 
     ghost format = { a_hello };
 
-    ghost spelled = { hello_of };
+    ghost decoded = { hello_of };
 
     #[tactic(auto, using(crate::proofs::Whole::hello_is_lawful, crate::proofs::Whole::hello_is_whole))]
     fn read(alloc: Global, cursor: &mut Cursor<'_>) -> Result<Hello, MapRefused> {

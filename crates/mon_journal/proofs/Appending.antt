@@ -9,7 +9,7 @@ use Rattle.mon_disk.specs.Images.{Content, images, Only, Torn, TornFrom, overwri
 use Rattle.mon_journal.specs.declared.journal.Journal.{Journal}
 use Rattle.mon_journal.specs.Content.{Held, content, payloads_of, held_by, Holds, appended, WithOrWithout}
 use Rattle.mon_journal.specs.Written.{payload_bytes}
-use Rattle.mon_journal.specs.Steps.{payloads_told, payloads_seen, Stands, Keeps}
+use Rattle.mon_journal.specs.Steps.{payloads_observed, payloads_seen, Stands, Keeps}
 use Rattle.mon_journal.proofs.Keeping.{keeps_by, seen_holds}
 use Rattle.mon_journal.proofs.Files.{FileParts, parts_of_file, same_shut, one_opened}
 use Rattle.mon_journal.proofs.Gates.{torn_behind, written_behind, torn_gate, written_gate, gate_is}
@@ -99,20 +99,20 @@ module _ (journal : Journal) (payload : List ℕ) (short : length payload < 2 ^ 
 
   -- ---- the same over what can be seen of a disk
 
-  first : (s : Option (List ℕ)) (c : List ℕ) → IfSome s (Holds journal (payloads_told s)) → s ≡ Some c → P (payloads_told s) c
-  first s c holds e = subst (λ (t : Option (List ℕ)). P (payloads_told t) c) (sym e) (at_first c (subst (λ (t : Option (List ℕ)). IfSome t (Holds journal (payloads_told t))) e holds))
+  first : (s : Option (List ℕ)) (c : List ℕ) → IfSome s (Holds journal (payloads_observed s)) → s ≡ Some c → P (payloads_observed s) c
+  first s c holds e = subst (λ (t : Option (List ℕ)). P (payloads_observed t) c) (sym e) (at_first c (subst (λ (t : Option (List ℕ)). IfSome t (Holds journal (payloads_observed t))) e holds))
 
-  second : (s : Option (List ℕ)) (d c : List ℕ) → IfSome s (Holds journal (payloads_told s)) → s ≡ Some d → Torn (journal.next_gate + 1) (body payload) d c → P (payloads_told s) c
-  second s d c holds e torn = subst (λ (t : Option (List ℕ)). P (payloads_told t) c) (sym e) (in_record d (subst (λ (t : Option (List ℕ)). IfSome t (Holds journal (payloads_told t))) e holds) c torn)
+  second : (s : Option (List ℕ)) (d c : List ℕ) → IfSome s (Holds journal (payloads_observed s)) → s ≡ Some d → Torn (journal.next_gate + 1) (body payload) d c → P (payloads_observed s) c
+  second s d c holds e torn = subst (λ (t : Option (List ℕ)). P (payloads_observed t) c) (sym e) (in_record d (subst (λ (t : Option (List ℕ)). IfSome t (Holds journal (payloads_observed t))) e holds) c torn)
 
-  third : (s s1 : Option (List ℕ)) (d c : List ℕ) → IfSome s (Holds journal (payloads_told s)) → s1 ≡ written (journal.next_gate + 1) (body payload) s → s1 ≡ Some d → Torn journal.next_gate (1 ∷ []) d c → P (payloads_told s) c
+  third : (s s1 : Option (List ℕ)) (d c : List ℕ) → IfSome s (Holds journal (payloads_observed s)) → s1 ≡ written (journal.next_gate + 1) (body payload) s → s1 ≡ Some d → Torn journal.next_gate (1 ∷ []) d c → P (payloads_observed s) c
   third None s1 d c holds e1 e torn = absurd cc
   third (Some file) s1 d c holds e1 e torn =
       let is : d ≡ overwritten (journal.next_gate + 1) (body payload) file = cc in
       in_gate file holds c (subst (λ (f : List ℕ). Torn journal.next_gate (1 ∷ []) f c) is torn)
 
-  fourth : (s s1 s2 : Option (List ℕ)) → IfSome s (Holds journal (payloads_told s)) → s1 ≡ written (journal.next_gate + 1) (body payload) s → s2 ≡ written journal.next_gate (1 ∷ []) s1
-      → IfSome s2 (Holds (appended journal payload) (payloads_told s ++ payload ∷ []))
+  fourth : (s s1 s2 : Option (List ℕ)) → IfSome s (Holds journal (payloads_observed s)) → s1 ≡ written (journal.next_gate + 1) (body payload) s → s2 ≡ written journal.next_gate (1 ∷ []) s1
+      → IfSome s2 (Holds (appended journal payload) (payloads_observed s ++ payload ∷ []))
   fourth None s1 s2 holds e1 e2 =
       subst (λ (t : Option (List ℕ)). IfSome t (Holds (appended journal payload) (payload ∷ []))) (sym (e2 ∙ ap (λ (t : Option (List ℕ)). written journal.next_gate (1 ∷ []) t) e1)) tt
   fourth (Some file) s1 s2 holds e1 e2 =

@@ -3,7 +3,7 @@ use Rattle.std.proofs.Common.{◌≡◌, ◌⊎◌, inl, ◌+◌, ◌≤◌, ◌
 use Rattle.std.specs.Option.{ForSome}
 use Rattle.std.specs.Prelude.{IfSome}
 use Rattle.mon_types.specs.declared.member.Member.{Member}
-use Rattle.mon_disk.specs.Calls.{Told}
+use Rattle.mon_disk.specs.Calls.{Observed}
 use Rattle.mon_disk.specs.Images.{Content, images, TornFrom, LeavesOnly, Only, written}
 use Rattle.mon_journal.specs.declared.journal.Journal.{Journal}
 use Rattle.mon_journal.specs.Content.{Holds}
@@ -54,8 +54,8 @@ module _ (member : Member) (generation : ℕ) (first : Option (List ℕ)) (from_
     left_shut new so_far c left = not_opening head Q is_made (journal.next_gate + 1) long_more old reads false refl c (now old new Shut so_far c left)
 
     -- no write yet
-    pub none_settles : (told : Option Told) → IfSome told (λ t. images old (t.settles t.made)) → IfSome told (λ s. IfSome told (λ t. Left (made_more 4 s t) (t.settles t.made)))
-    none_settles told settled = few 4 told told old Left (omega arith) (λ c left. not_opening head Q is_made (journal.next_gate + 1) long_more old reads false refl c (inl left)) settled
+    pub none_settles : (observed : Option Observed) → IfSome observed (λ t. images old (t.settles t.made)) → IfSome observed (λ s. IfSome observed (λ t. Left (made_more 4 s t) (t.settles t.made)))
+    none_settles observed settled = few 4 observed observed old Left (omega arith) (λ c left. not_opening head Q is_made (journal.next_gate + 1) long_more old reads false refl c (inl left)) settled
 
     module _ (c1 : Content) (one : LeavesOnly old c1 (TornFrom old 0 (0 ∷ []))) where
       closed : LeavesOnly old c1 Shut
@@ -64,8 +64,8 @@ module _ (member : Member) (generation : ℕ) (first : Option (List ℕ)) (from_
       pub closing : LeavesOnly old c1 (CreatedFrom old journal (first_payloads first))
       closing = shut_only head Q is_made (journal.next_gate + 1) long_more old reads c1 closed
 
-      pub closing_settles : (told last : Option Told) → count last ≤ count told + 2 → IfSome last (λ t. images c1 (t.settles t.made)) → IfSome told (λ s. IfSome last (λ t. Left (made_more 4 s t) (t.settles t.made)))
-      closing_settles told last most settled = few 4 told last c1 Left (omega (arith, most)) (left_shut c1 closed) settled
+      pub closing_settles : (observed last : Option Observed) → count last ≤ count observed + 2 → IfSome last (λ t. images c1 (t.settles t.made)) → IfSome observed (λ s. IfSome last (λ t. Left (made_more 4 s t) (t.settles t.made)))
+      closing_settles observed last most settled = few 4 observed last c1 Left (omega (arith, most)) (left_shut c1 closed) settled
 
       module _ (c2 : Content) (bytes : List ℕ) (is : bytes ≡ head) (seen1 : c1.seen ≡ written 0 (0 ∷ []) old.seen) (only1 : Only c1) (two : LeavesOnly c1 c2 (TornFrom c1 1 bytes)) where
         second : LeavesOnly c1 c2 (TornFrom c1 1 head)
@@ -77,8 +77,8 @@ module _ (member : Member) (generation : ℕ) (first : Option (List ℕ)) (from_
         pub heading : LeavesOnly old c2 (CreatedFrom old journal (first_payloads first))
         heading = shut_only head Q is_made (journal.next_gate + 1) long_more old reads c2 headed
 
-        pub heading_settles : (told last : Option Told) → count last ≤ count told + 4 → IfSome last (λ t. images c2 (t.settles t.made)) → IfSome told (λ s. IfSome last (λ t. Left (made_more 4 s t) (t.settles t.made)))
-        heading_settles told last most settled = few 4 told last c2 Left most (left_shut c2 headed) settled
+        pub heading_settles : (observed last : Option Observed) → count last ≤ count observed + 4 → IfSome last (λ t. images c2 (t.settles t.made)) → IfSome observed (λ s. IfSome last (λ t. Left (made_more 4 s t) (t.settles t.made)))
+        heading_settles observed last most settled = few 4 observed last c2 Left most (left_shut c2 headed) settled
 
         module _ (c3 : Content) (seen2 : c2.seen ≡ written 1 bytes c1.seen) (only2 : Only c2) (three : LeavesOnly c2 c3 (TornFrom c2 0 (1 ∷ []))) where
           whole : c2.seen ≡ written 1 head c1.seen
@@ -87,10 +87,10 @@ module _ (member : Member) (generation : ℕ) (first : Option (List ℕ)) (from_
           pub opening : LeavesOnly old c3 (CreatedFrom old journal (first_payloads first))
           opening = three_writes head Q is_made (journal.next_gate + 1) long_more old reads c1 c2 c3 one seen1 only1 second whole only2 three
 
-          pub opening_settles : (told mid last : Option Told) → (is_some told ≡ true → count mid ≡ count told + 4) → (is_some told ≡ true → (last ≡ mid) ⊎ (count mid < count last))
-              → IfSome mid (λ s. last ≡ Some s → LeavesOnly c2 c3 (images c2)) → IfSome last (λ t. images c3 (t.settles t.made)) → IfSome told (λ s. IfSome last (λ t. Left (made_more 4 s t) (t.settles t.made)))
-          opening_settles told mid last all either none settled =
-              more 4 told mid last c3 Left (LeavesOnly c2 c3 (images c2)) all either none (at_third head Q is_made (journal.next_gate + 1) long_more old reads c1 c2 c3 one seen1 only1 second whole only2 three) settled
+          pub opening_settles : (observed mid last : Option Observed) → (is_some observed ≡ true → count mid ≡ count observed + 4) → (is_some observed ≡ true → (last ≡ mid) ⊎ (count mid < count last))
+              → IfSome mid (λ s. last ≡ Some s → LeavesOnly c2 c3 (images c2)) → IfSome last (λ t. images c3 (t.settles t.made)) → IfSome observed (λ s. IfSome last (λ t. Left (made_more 4 s t) (t.settles t.made)))
+          opening_settles observed mid last all either none settled =
+              more 4 observed mid last c3 Left (LeavesOnly c2 c3 (images c2)) all either none (at_third head Q is_made (journal.next_gate + 1) long_more old reads c1 c2 c3 one seen1 only1 second whole only2 three) settled
 
     pub is_kept : (c1 c2 c3 : Content) (bytes : List ℕ) (known1 known2 known3 : ℕ) → bytes ≡ head → c1.seen ≡ written 0 (0 ∷ []) old.seen → c2.seen ≡ written 1 bytes c1.seen → c3.seen ≡ written 0 (1 ∷ []) c2.seen → Only c3
         → 1 + length bytes < 2 ^ 64 → known2 ≡ max known1 (1 + length bytes) → known3 ≡ max known2 1 → Keeps journal (first_payloads first) known3 c3

@@ -11,7 +11,7 @@ use Rattle.mon_journal.specs.Content.{Header, Held, header_at, records_at, held_
 use Rattle.mon_journal.specs.Written.{record_bytes}
 use Rattle.mon_journal.proofs.Local.{from, bind_ok}
 use Rattle.mon_journal.proofs.Parts.{header_local}
-use Rattle.mon_journal.proofs.RecordParts.{Found, with_front, gate_read, at_shut, one_record, parts_of}
+use Rattle.mon_journal.proofs.RecordParts.{Found, payloads_then, gate_read, at_shut, one_record, parts_of}
 
 -- what a file holds by its header, its payloads and the place of its first closed gate
 abbrev pub held_with : Header → Found → Result Held JournalStop
@@ -24,7 +24,7 @@ pub record FileParts (file : List ℕ) (held : Held) : Type 0 where
   pub shut : gate ≢ 1
   pub parts : file ≡ before ++ gate ∷ behind
   pub place : length before ≡ held.next_gate
-  pub again : (others : List ℕ) → content (before ++ others) ≡ Some (held_with held.header (with_front held.payloads (records_at (from held.next_gate others))))
+  pub again : (others : List ℕ) → content (before ++ others) ≡ Some (held_with held.header (payloads_then held.payloads (records_at (from held.next_gate others))))
 
 no_header : (at : ℕ) (x : Header × Reading) → header_at (from at []) ≡ Ok x → ⊥
 unfolding header_at form_at
@@ -76,7 +76,7 @@ open_parts bytes held e =
           ap (λ (bs : List ℕ). content (1 ∷ bs)) (append_assoc l.taken q.before others)
           ∙ content_behind l.taken header after.at (q.before ++ others) (l.again (q.before ++ others)) some
           ∙ ap (λ (found : Found). Some (held_with header found)) (q.again others)
-          ∙ ap (λ (h : Header). Some (held_with h (with_front held.payloads (records_at (from held.next_gate others))))) (sym f.1);
+          ∙ ap (λ (h : Header). Some (held_with h (payloads_then held.payloads (records_at (from held.next_gate others))))) (sym f.1);
     }
 
 -- an open file
@@ -103,7 +103,7 @@ module _ (file : List ℕ) (held : Held) (holds : content file ≡ Some (Ok held
   pub same_shut : (gate : ℕ) (behind : List ℕ) → gate ≢ 1 → content (parts.before ++ gate ∷ behind) ≡ Some (Ok held)
   same_shut gate behind shut =
       parts.again (gate ∷ behind)
-      ∙ ap (λ (found : Found). Some (held_with held.header (with_front held.payloads found))) (at_shut held.next_gate gate behind shut)
+      ∙ ap (λ (found : Found). Some (held_with held.header (payloads_then held.payloads found))) (at_shut held.next_gate gate behind shut)
       ∙ ap (λ (payloads : List (List ℕ)). Some (Ok (record held { payloads = payloads }))) (append-nil held.payloads)
 
   -- and one more after an open gate
@@ -111,4 +111,4 @@ module _ (file : List ℕ) (held : Held) (holds : content file ≡ Some (Ok held
       → content (parts.before ++ (record_bytes payload ++ gate ∷ behind)) ≡ Some (Ok (record { header = held.header; payloads = held.payloads ++ payload ∷ []; next_gate = held.next_gate + 5 + length payload }))
   one_opened payload gate behind lt shut =
       parts.again (record_bytes payload ++ gate ∷ behind)
-      ∙ ap (λ (found : Found). Some (held_with held.header (with_front held.payloads found))) (one_record held.next_gate payload gate behind lt shut)
+      ∙ ap (λ (found : Found). Some (held_with held.header (payloads_then held.payloads found))) (one_record held.next_gate payload gate behind lt shut)

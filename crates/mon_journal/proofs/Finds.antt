@@ -16,7 +16,7 @@ use Rattle.mon_journal.specs.declared.journal.Journal.{Journal}
 use Rattle.mon_journal.specs.Fields.{◌>>=◌, whole}
 use Rattle.mon_journal.specs.Content.{Header, Held, header_at, header_of_file, header_of, records_at, held_at, is_closed, content, payloads_in, payloads_of, held_by, Holds, Fails, Finds, FoundIn, HeaderIs}
 use Rattle.mon_journal.specs.Pieces.{left_at, OnlyReads}
-use Rattle.mon_journal.specs.Steps.{Closed, payloads_told, Keeps, stop_in, IsOutside, open_calls, AlikeFrom, Opens, OpensBy}
+use Rattle.mon_journal.specs.Steps.{Closed, payloads_observed, Keeps, stop_in, IsOutside, open_calls, AlikeFrom, Opens, OpensBy}
 use Rattle.mon_bytes.specs.Reading.{Reading, number}
 use Rattle.mon_journal.proofs.Local.{from}
 use Rattle.mon_journal.proofs.RecordParts.{Found, gate_read}
@@ -98,9 +98,9 @@ fault_calls T (NotAStore at) old new fails c = (
 )
 
 -- the payloads that can be seen on a disk are those of its file
-pub told_payloads : (journal : Journal) (s : Option (List ℕ)) → IfSome s (FoundIn (Ok (Some journal))) → IfSome s (Holds journal (payloads_told s))
-told_payloads journal None found = tt
-told_payloads journal (Some file) (payloads, is) = subst (λ (ps : List (List ℕ)). Holds journal ps file) (sym (ap payloads_in is)) is
+pub observed_payloads : (journal : Journal) (s : Option (List ℕ)) → IfSome s (FoundIn (Ok (Some journal))) → IfSome s (Holds journal (payloads_observed s))
+observed_payloads journal None found = tt
+observed_payloads journal (Some file) (payloads, is) = subst (λ (ps : List (List ℕ)). Holds journal ps file) (sym (ap payloads_in is)) is
 
 module _ (bytes : List ℕ) (journal : Journal) (payloads : List (List ℕ)) (holds : Holds journal payloads bytes) where
   abbrev held : Held
@@ -163,7 +163,7 @@ module _ (journal : Journal) (payloads : List (List ℕ)) where
     then_calls (images old.content) (TornFrom mid.content journal.next_gate (0 ∷ [])) (AlikeFrom old.content) one two (itself old.content) (λ c (d, left, torn).
         let here : Holds journal payloads d = subst (λ (s : Option (List ℕ)). IfSome s (Holds journal payloads)) (sym seen ∙ only d left) holds in
         let a = torn_alike d journal payloads here c torn in
-        (d, now old.content mid.content (images old.content) one.any_moment d left, a.0, a.1)),
+        (d, now old.content mid.content (images old.content) one.any_time d left, a.0, a.1)),
     each_file old.content.seen (Holds journal payloads) (λ file. Sync ∷ Write journal.next_gate (0 ∷ []) ∷ Sync ∷ [] ≡ open_calls (content file)) (λ file is. ap open_calls (sym is)) holds,
   )
 
@@ -302,7 +302,7 @@ module _ (s : Option (List ℕ)) (end n : ℕ) (bytes : List ℕ) (long : IfSome
 
 -- a disk is read after its sync
 pub read_behind : (stop : Option Stop) (old mid new : DiskState) → Called (Sync ∷ []) (images old.content) None old mid → OnlyReads stop mid new → Called (Sync ∷ []) (images old.content) stop old new
-read_behind stop old mid new one r = then_calls (images old.content) (images mid.content) (images old.content) one r.call (λ c left. left) (λ c left. now old.content mid.content (images old.content) one.any_moment c left)
+read_behind stop old mid new one r = then_calls (images old.content) (images mid.content) (images old.content) one r.call (λ c left. left) (λ c left. now old.content mid.content (images old.content) one.any_time c left)
 
 pub only_read : (stop : Option Stop) (old new : DiskState) → OnlyReads stop old new → Only old.content → Only new.content
-only_read stop old new r only = λ c left. r.seen ∙ only c (now old.content new.content (images old.content) r.call.any_moment c left)
+only_read stop old new r only = λ c left. r.seen ∙ only c (now old.content new.content (images old.content) r.call.any_time c left)

@@ -13,7 +13,7 @@ use Rattle.mon_journal.specs.Fields.{Owner, first_word, second_word, form_at, ow
 use Rattle.mon_journal.specs.Content.{Header, header_at, records_at, content}
 use Rattle.mon_journal.specs.Written.{generation_bytes, header_text, header_bytes, payload_bytes, record_bytes, first_record, first_payloads, head_bytes, IsHeader, AreShort, file_bytes}
 use Rattle.mon_journal.proofs.Local.{from}
-use Rattle.mon_journal.proofs.RecordParts.{Found, with_front, gate_read, at_shut, at_open, payload_again, one_record, number_again, front_again}
+use Rattle.mon_journal.proofs.RecordParts.{Found, payloads_then, gate_read, at_shut, at_open, payload_again, one_record, number_again, front_again}
 use Rattle.mon_journal.proofs.Files.{held_with, content_behind}
 
 form_again : (at : ℕ) (others : List ℕ) → form_at (from at (second_word ++ others)) ≡ Ok (Second, from (at + 8) others)
@@ -103,7 +103,7 @@ all_records (payload ∷ payloads) at gate behind short shut =
     let others = flat_map record_bytes payloads ++ gate ∷ behind in
     ap (λ (bytes : List ℕ). records_at (from at (1 ∷ bytes))) (append_assoc (payload_bytes payload) (flat_map record_bytes payloads) (gate ∷ behind))
     ∙ at_open at (payload_bytes payload ++ others) (payload, from (at + 1 + 4 + length payload) others) (payload_again (at + 1) payload others short.0)
-    ∙ ap (λ (found : Found). with_front (payload ∷ []) found) (all_records payloads (at + 1 + 4 + length payload) gate behind short.1 shut)
+    ∙ ap (λ (found : Found). payloads_then (payload ∷ []) found) (all_records payloads (at + 1 + 4 + length payload) gate behind short.1 shut)
     ∙ ap (λ (n : ℕ). Ok (payload ∷ payloads, n)) (omega (arith, length-append (payload_bytes payload) (flat_map record_bytes payloads), length-append (u32_bytes (length payload)) payload, length-u32_bytes (length payload)))
 
 pub file_again : (header : Header) (payloads : List (List ℕ)) (gate : ℕ) (behind : List ℕ) → IsHeader header → AreShort payloads → gate ≢ 1

@@ -8,7 +8,7 @@ use Rattle.mon_bytes.specs.Reading.{moved}
 use Rattle.mon_journal.specs.declared.stop.JournalStop.{JournalStop}
 use Rattle.mon_journal.specs.declared.stop.JournalStop.TheVariants.{DiskFault, NotAStore, OutOfMemory}
 use Rattle.mon_journal.specs.Fields.{payload_at}
-use Rattle.mon_journal.specs.Content.{with_front, records_at, Fails, HeadAt}
+use Rattle.mon_journal.specs.Content.{payloads_then, records_at, Fails, HeadAt}
 use Rattle.mon_journal.specs.Steps.{IsOutside}
 use Rattle.mon_journal.specs.Pieces.{left_at}
 use Rattle.mon_journal.proofs.Local.{from}
@@ -79,16 +79,16 @@ module _ (at gate : ℕ) (file : List ℕ) (first : drop at file ≡ gate ∷ dr
           rw (whole, sym number, all) refl
 
       -- a payload, and the records after it
-      pub one_there : n + 4 ≤ length rest → records_at (left_at at file) ≡ with_front (take n (drop 5 (drop at file)) ∷ []) (records_at (moved (5 + n) (left_at at file)))
+      pub one_there : n + 4 ≤ length rest → records_at (left_at at file) ≡ payloads_then (take n (drop 5 (drop at file)) ∷ []) (records_at (moved (5 + n) (left_at at file)))
       one_there long =
           let front : drop 4 rest ≡ drop 5 (drop at file) = sym (ap (λ (l : List ℕ). drop 5 l) there) in
           let behind : drop n (drop 4 rest) ≡ drop (5 + n) (drop at file) = ap (λ (l : List ℕ). drop n l) front ∙ drop-drop n 5 (drop at file) in
           let place : at + 1 + 4 + n ≡ at + (5 + n) = omega arith in
           ap (λ (bytes : List ℕ). records_at (from at bytes)) there
           ∙ at_open at rest (take n (drop 4 rest), from (at + 1 + 4 + n) (drop n (drop 4 rest))) (payload_there long)
-          ∙ ap (λ (l : List ℕ). with_front (take n l ∷ []) (records_at (from (at + 1 + 4 + n) (drop n (drop 4 rest))))) front
-          ∙ ap (λ (l : List ℕ). with_front (take n (drop 5 (drop at file)) ∷ []) (records_at (from (at + 1 + 4 + n) l))) behind
-          ∙ ap (λ (p : ℕ). with_front (take n (drop 5 (drop at file)) ∷ []) (records_at (from p (drop (5 + n) (drop at file))))) place
+          ∙ ap (λ (l : List ℕ). payloads_then (take n l ∷ []) (records_at (from (at + 1 + 4 + n) (drop n (drop 4 rest))))) front
+          ∙ ap (λ (l : List ℕ). payloads_then (take n (drop 5 (drop at file)) ∷ []) (records_at (from (at + 1 + 4 + n) l))) behind
+          ∙ ap (λ (p : ℕ). payloads_then (take n (drop 5 (drop at file)) ∷ []) (records_at (from p (drop (5 + n) (drop at file))))) place
 
 -- ---- what is returned for a gate, if the file may be seen
 

@@ -5,7 +5,7 @@ use Rattle.mon_disk.specs.Images.{Content, Only}
 use Rattle.mon_journal.specs.declared.stop.JournalStop.{JournalStop}
 use Rattle.mon_journal.specs.declared.journal.Journal.{Journal}
 use Rattle.mon_journal.specs.Content.{Held, payloads_in, payloads_of, held_by, Holds}
-use Rattle.mon_journal.specs.Steps.{payloads_told, payloads_seen, Stands, Keeps}
+use Rattle.mon_journal.specs.Steps.{payloads_observed, payloads_seen, Stands, Keeps}
 use Rattle.mon_journal.proofs.Files.{FileParts, parts_of_file}
 use Rattle.mon_journal.proofs.Gates.{gate_is}
 
@@ -38,9 +38,9 @@ keeps_by journal payloads known x only holds reach room = record {
   payloads_are = all_these journal payloads x.seen holds;
 }
 
-told : (journal : Journal) (s : Option (List ℕ)) → IfSome s (λ file. Holds journal (payloads_of file) file) → IfSome s (Holds journal (payloads_told s))
-told journal None holds = tt
-told journal (Some file) holds = holds
+observed : (journal : Journal) (s : Option (List ℕ)) → IfSome s (λ file. Holds journal (payloads_of file) file) → IfSome s (Holds journal (payloads_observed s))
+observed journal None holds = tt
+observed journal (Some file) holds = holds
 
 pub seen_holds : (journal : Journal) (known : ℕ) (x : Content) → Stands journal known x → IfSome x.seen (Holds journal (payloads_seen x))
-seen_holds journal known x stands = told journal x.seen stands.holds
+seen_holds journal known x stands = observed journal x.seen stands.holds

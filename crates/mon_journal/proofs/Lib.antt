@@ -13,7 +13,7 @@ pub mod Looking
 pub mod Makes
 pub mod Parts
 pub mod RecordParts
-pub mod Spells
+pub mod Encodes
 pub mod Steady
 mod Stops
 pub mod Walks

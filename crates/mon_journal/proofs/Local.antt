@@ -4,7 +4,7 @@ use Rattle.std.proofs.lemmas.Bool.{ltb-false, le-ltb}
 use Rattle.std.proofs.lemmas.List.{take_at, drop_at, take-append-drop, length-take}
 use Rattle.byteorder.specs.Endian.{little_number}
 use Rattle.mon_bytes.specs.declared.cursor.Short.{Short}
-use Rattle.mon_bytes.specs.Reading.{Reading, moved, number, front}
+use Rattle.mon_bytes.specs.Reading.{Reading, moved, number, next_bytes}
 use Rattle.mon_bytes.proofs.Fields.{guard_ok, ok_is}
 use Rattle.mon_journal.specs.declared.stop.JournalStop.{JournalStop}
 use Rattle.mon_journal.specs.Fields.{◌>>=◌, whole}
@@ -47,12 +47,12 @@ number_local k c x e =
           rw (there, first, behind) refl;
     })
 
-pub front_local : (k : ℕ) → IsLocal (λ c. whole (front k c))
+pub front_local : (k : ℕ) → IsLocal (λ c. whole (next_bytes k c))
 front_local k c x e =
-    let g = guard_ok (ltb (length c.rest) k) (record { at = c.at }) (Ok (take k c.rest, moved k c)) x (whole_ok (front k c) x e) in
+    let g = guard_ok (ltb (length c.rest) k) (record { at = c.at }) (Ok (take k c.rest, moved k c)) x (whole_ok (next_bytes k c) x e) in
     let long : k ≤ length c.rest = ltb-false _ _ g.0 in
     let len : length (take k c.rest) ≡ k = omega (arith, length-take k c.rest) in
-    subst (λ (p : List ℕ × Reading). Local (λ c. whole (front k c)) c p.0 p.1) (ok_is (take k c.rest, moved k c) x g.1)
+    subst (λ (p : List ℕ × Reading). Local (λ c. whole (next_bytes k c)) c p.0 p.1) (ok_is (take k c.rest, moved k c) x g.1)
     (record {
       taken = take k c.rest;
       parts = sym (take-append-drop k c.rest);

@@ -15,7 +15,7 @@ nothing_read d = record { call = none d (images d.content) (λ c left. left); se
 
 pub then_reads : (stop : Option Stop) (old mid new : DiskState) → OnlyReads None old mid → OnlyReads stop mid new → OnlyReads stop old new
 then_reads stop old mid new first second = record {
-  call = then_calls (images old.content) (images mid.content) (images old.content) first.call second.call (λ c left. left) (λ c left. now old.content mid.content (images old.content) first.call.any_moment c left);
+  call = then_calls (images old.content) (images mid.content) (images old.content) first.call second.call (λ c left. left) (λ c left. now old.content mid.content (images old.content) first.call.any_time c left);
   seen = second.seen ∙ first.seen;
 }
 

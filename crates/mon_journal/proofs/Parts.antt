@@ -2,7 +2,7 @@
 use Rattle.std.proofs.Common.{ℕ, ◌^◌, cond, eqb, ltb, leb, Ok, Err}
 use Rattle.std.specs.List.{list_all}
 use Rattle.std.specs.Str.{bytes_eq}
-use Rattle.mon_bytes.specs.Reading.{number, front}
+use Rattle.mon_bytes.specs.Reading.{number, next_bytes}
 use Rattle.mon_journal.specs.declared.stop.JournalStop.TheVariants.{NotAStore}
 use Rattle.mon_journal.specs.declared.journal.Form.{Form}
 use Rattle.mon_journal.specs.declared.journal.Form.TheVariants.{First, Second}
@@ -12,7 +12,7 @@ use Rattle.mon_journal.proofs.Local.{IsLocal, number_local, front_local, ok_loca
 
 form_local : IsLocal form_at
 unfolding form_at
-form_local = then_local (λ c. whole (front 8 c)) (λ at word. cond (bytes_eq word.0 second_word) (Ok (Second, word.1)) (cond (bytes_eq word.0 first_word) (Ok (First, word.1)) (Err (NotAStore at))))
+form_local = then_local (λ c. whole (next_bytes 8 c)) (λ at word. cond (bytes_eq word.0 second_word) (Ok (Second, word.1)) (cond (bytes_eq word.0 first_word) (Ok (First, word.1)) (Err (NotAStore at))))
     (front_local 8)
     (λ at word. either_local (bytes_eq word second_word) (λ c. Ok (Second, c)) (λ c. cond (bytes_eq word first_word) (Ok (First, c)) (Err (NotAStore at)))
     (ok_local Second)
@@ -32,7 +32,7 @@ owner_local = then_local (λ c. whole (number 1 c))
 
 zeros_local : (n : ℕ) → IsLocal (zeros_at n)
 unfolding zeros_at
-zeros_local n = then_local (λ c. whole (front n c)) (λ at zeros. cond (list_all (λ b. eqb b 0) zeros.0) (Ok zeros) (Err (NotAStore at)))
+zeros_local n = then_local (λ c. whole (next_bytes n c)) (λ at zeros. cond (list_all (λ b. eqb b 0) zeros.0) (Ok zeros) (Err (NotAStore at)))
     (front_local n)
     (λ at zeros. either_local (list_all (λ b. eqb b 0) zeros) (λ c. Ok (zeros, c)) (λ c. Err (NotAStore at)) (ok_local zeros) (fault_local (λ c. NotAStore at)))
 
@@ -46,7 +46,7 @@ generation_local = then_local (λ c. whole (number 8 c)) (λ at n. cond (leb 1 n
 
 pub payload_local : IsLocal payload_at
 unfolding payload_at
-payload_local = then_local (λ c. whole (number 4 c)) (λ at n. whole (front n.0 n.1)) (number_local 4) (λ at n. front_local n)
+payload_local = then_local (λ c. whole (number 4 c)) (λ at n. whole (next_bytes n.0 n.1)) (number_local 4) (λ at n. front_local n)
 
 abbrev pub header_by : Form → Owner → ℕ → Header
 header_by form owner generation = record { form = form; owner = owner; generation = generation }

@@ -5,7 +5,7 @@ use Rattle.std.proofs.lemmas.List.{length-drop, take-append-le, drop-append-le, 
 use Rattle.std.specs.List.{list_all}
 use Rattle.std.specs.Str.{bytes_eq}
 use Rattle.byteorder.specs.Endian.{little_number}
-use Rattle.mon_bytes.specs.Reading.{Reading, moved, number, front}
+use Rattle.mon_bytes.specs.Reading.{Reading, moved, number, next_bytes}
 use Rattle.mon_bytes.proofs.Fields.{guard_ok, ok_is}
 use Rattle.mon_journal.specs.declared.stop.JournalStop.{JournalStop}
 use Rattle.mon_journal.specs.declared.stop.JournalStop.TheVariants.{NotAStore}
@@ -36,10 +36,10 @@ number_steady k = record {
       rw (there, then, take-append-le k c.rest others le, drop-append-le k c.rest others le) refl;
 }
 
-front_steady : (k : ℕ) → Steady k (λ c. whole (front k c))
+front_steady : (k : ℕ) → Steady k (λ c. whole (next_bytes k c))
 front_steady k = record {
   moves = λ c x e.
-      let g = guard_ok (ltb (length c.rest) k) (record { at = c.at }) (Ok (take k c.rest, moved k c)) x (whole_ok (front k c) x e) in
+      let g = guard_ok (ltb (length c.rest) k) (record { at = c.at }) (Ok (take k c.rest, moved k c)) x (whole_ok (next_bytes k c) x e) in
       sym (ap (λ p. p.1) (ok_is (take k c.rest, moved k c) x g.1));
   same = λ c others le.
       let there : ltb (length c.rest) k ≡ false = le-ltb _ _ le in
@@ -83,7 +83,7 @@ then_steady {A = A} {B = B} j k read f one two = record {
 
 form_steady : Steady 8 form_at
 unfolding form_at
-form_steady = then_steady 8 0 (λ c. whole (front 8 c)) (λ at word. cond (bytes_eq word.0 second_word) (Ok (Second, word.1)) (cond (bytes_eq word.0 first_word) (Ok (First, word.1)) (Err (NotAStore at))))
+form_steady = then_steady 8 0 (λ c. whole (next_bytes 8 c)) (λ at word. cond (bytes_eq word.0 second_word) (Ok (Second, word.1)) (cond (bytes_eq word.0 first_word) (Ok (First, word.1)) (Err (NotAStore at))))
     (front_steady 8)
     (λ at word. either_steady 0 (bytes_eq word second_word) (λ c. Ok (Second, c)) (λ c. cond (bytes_eq word first_word) (Ok (First, c)) (Err (NotAStore at)))
     (ok_steady Second)
@@ -103,7 +103,7 @@ owner_steady = then_steady 1 1 (λ c. whole (number 1 c))
 
 zeros_steady : (n : ℕ) → Steady (n + 0) (zeros_at n)
 unfolding zeros_at
-zeros_steady n = then_steady n 0 (λ c. whole (front n c)) (λ at zeros. cond (list_all (λ b. eqb b 0) zeros.0) (Ok zeros) (Err (NotAStore at)))
+zeros_steady n = then_steady n 0 (λ c. whole (next_bytes n c)) (λ at zeros. cond (list_all (λ b. eqb b 0) zeros.0) (Ok zeros) (Err (NotAStore at)))
     (front_steady n)
     (λ at zeros. either_steady 0 (list_all (λ b. eqb b 0) zeros) (λ c. Ok (zeros, c)) (λ c. Err (NotAStore at)) (ok_steady zeros) (fault_steady (NotAStore at)))
 

@@ -11,5 +11,5 @@ pub stop_back : (T : Type 0) (s : Stop) → stop_in {T = T} (Err (stopped s)) �
 stop_back T Failed = refl
 stop_back T OutOfMemory = refl
 
-pub with_moments : {calls : List DiskCall} {stop : Option Stop} {old new : DiskState} (P R : List ℕ → Type 0) → Called calls P stop old new → LeavesOnly old.content new.content R → Called calls R stop old new
-with_moments P R c moments = record { tells = c.tells; any_moment = moments; made = c.made; faults = c.faults; wants = c.wants }
+pub with_times : {calls : List DiskCall} {stop : Option Stop} {old new : DiskState} (P R : List ℕ → Type 0) → Called calls P stop old new → LeavesOnly old.content new.content R → Called calls R stop old new
+with_times P R c times = record { visible = c.visible; any_time = times; made = c.made; faults = c.faults; refusals = c.refusals }

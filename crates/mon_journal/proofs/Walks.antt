@@ -7,7 +7,7 @@ use Rattle.mon_bytes.proofs.Fields.{ok_is}
 use Rattle.mon_journal.specs.declared.stop.JournalStop.{JournalStop}
 use Rattle.mon_journal.specs.declared.stop.JournalStop.TheVariants.{DiskFault, NotAStore, OutOfMemory}
 use Rattle.mon_journal.specs.declared.journal.Journal.{Journal}
-use Rattle.mon_journal.specs.Content.{with_front, header_at, records_at, payloads_in, payloads_of, held_by, Holds, Fails, IsStore, IsLeft, IsNext, HeadAt, NextIs}
+use Rattle.mon_journal.specs.Content.{payloads_then, header_at, records_at, payloads_in, payloads_of, held_by, Holds, Fails, IsStore, IsUnread, IsNext, HeadAt, NextIs}
 use Rattle.mon_journal.specs.Pieces.{left_at}
 use Rattle.mon_journal.proofs.Local.{from, bind_ok}
 use Rattle.mon_journal.proofs.RecordParts.{one_found}
@@ -17,7 +17,7 @@ use Rattle.mon_journal.proofs.Steady.{header_steady}
 use Rattle.mon_journal.proofs.Heads.{each_file, both_files}
 
 -- after the gate and the header of a store's file all its payloads are left
-pub all_left : (file : List ℕ) → IsStore file → IsLeft (payloads_of file) (left_at 25 file)
+pub all_left : (file : List ℕ) → IsStore file → IsUnread (payloads_of file) (left_at 25 file)
 all_left file (held, is) =
     let o = opened_file file held is in
     let b = bind_ok (header_at (from 1 o.0)) (λ h. held_with h.0 (records_at h.1)) held (sym (held_open o.0) ∙ o.2) in
@@ -26,21 +26,21 @@ all_left file (held, is) =
     let payloads : held.payloads ≡ payloads_of file = sym (ap payloads_in is) in
     (held.next_gate, ap records_at last_is ∙ f.0 ∙ ap (λ (ps : List (List ℕ)). Ok (ps, held.next_gate)) payloads)
 
-pub all_left_on : (s : Option (List ℕ)) (journal : Journal) → IfSome s (λ file. Holds journal (payloads_of file) file) → IfSome s (λ file. IsLeft (payloads_of file) (left_at 25 file))
-all_left_on s journal holds = each_file s (λ file. Holds journal (payloads_of file) file) (λ file. IsLeft (payloads_of file) (left_at 25 file)) (λ file is. all_left file (held_by journal (payloads_of file), is)) holds
+pub all_left_on : (s : Option (List ℕ)) (journal : Journal) → IfSome s (λ file. Holds journal (payloads_of file) file) → IfSome s (λ file. IsUnread (payloads_of file) (left_at 25 file))
+all_left_on s journal holds = each_file s (λ file. Holds journal (payloads_of file) file) (λ file. IsUnread (payloads_of file) (left_at 25 file)) (λ file is. all_left file (held_by journal (payloads_of file), is)) holds
 
 -- none is left at a closed gate
-pub none_left : (payloads : List (List ℕ)) (c : Reading) → IsLeft payloads c → records_at c ≡ Ok ([], c.at) → payloads ≡ []
+pub none_left : (payloads : List (List ℕ)) (c : Reading) → IsUnread payloads c → records_at c ≡ Ok ([], c.at) → payloads ≡ []
 none_left payloads c left shut = sym (ap (λ p. p.0) (ok_is ([], c.at) (payloads, left.0) (sym shut ∙ left.1)))
 
 -- one that is left, and those after it
-pub one_left : (payloads : List (List ℕ)) (c behind : Reading) (payload : List ℕ) → IsLeft payloads c → records_at c ≡ with_front (payload ∷ []) (records_at behind) → IsNext (Some payload) payloads behind
+pub one_left : (payloads : List (List ℕ)) (c behind : Reading) (payload : List ℕ) → IsUnread payloads c → records_at c ≡ payloads_then (payload ∷ []) (records_at behind) → IsNext (Some payload) payloads behind
 one_left payloads c behind payload left is =
     let y = one_found payload (records_at behind) (payloads, left.0) (sym is ∙ left.1) in
     (y.0.0, ap (λ z. z.0) y.2, (y.0.1, y.1))
 
 -- if some are left, none is at fault
-pub fails_none : {V : Type 0} (view : V → List ℕ) (e : JournalStop) (payloads : List (List ℕ)) (c behind : Reading) → IsLeft payloads c → Fails e (records_at c) → NextIs view payloads behind (Err e)
+pub fails_none : {V : Type 0} (view : V → List ℕ) (e : JournalStop) (payloads : List (List ℕ)) (c behind : Reading) → IsUnread payloads c → Fails e (records_at c) → NextIs view payloads behind (Err e)
 fails_none view DiskFault payloads c behind left fails = tt
 fails_none view (NotAStore at) payloads c behind left fails = absurd (cc (fails, left.1))
 fails_none view OutOfMemory payloads c behind left fails = tt
@@ -48,7 +48,7 @@ fails_none view OutOfMemory payloads c behind left fails = tt
 -- ---- the same, if the file may be seen
 
 abbrev pub Next : {V : Type 0} → (V → List ℕ) → Option (List ℕ) → ℕ → ℕ → Result (Option V) JournalStop → Type 0
-Next view seen gate behind result = IfSome seen (λ file. (payloads : List (List ℕ)) → IsLeft payloads (left_at gate file) → NextIs view payloads (left_at behind file) result)
+Next view seen gate behind result = IfSome seen (λ file. (payloads : List (List ℕ)) → IsUnread payloads (left_at gate file) → NextIs view payloads (left_at behind file) result)
 
 abbrev pub Head : Option (List ℕ) → ℕ → Result (Option ℕ) JournalStop → Type 0
 Head seen gate result = IfSome seen (λ file. HeadAt result (left_at gate file))
@@ -56,7 +56,7 @@ Head seen gate result = IfSome seen (λ file. HeadAt result (left_at gate file))
 module _ {V : Type 0} (view : V → List ℕ) (seen : Option (List ℕ)) (gate : ℕ) where
   pub next_fails : (behind : ℕ) (e : JournalStop) → Head seen gate (Err e) → Next view seen gate behind (Err e)
   next_fails behind e head =
-      each_file seen (λ file. HeadAt (Err e) (left_at gate file)) (λ file. (payloads : List (List ℕ)) → IsLeft payloads (left_at gate file) → NextIs view payloads (left_at behind file) (Err e))
+      each_file seen (λ file. HeadAt (Err e) (left_at gate file)) (λ file. (payloads : List (List ℕ)) → IsUnread payloads (left_at gate file) → NextIs view payloads (left_at behind file) (Err e))
       (λ file fails payloads left. fails_none view e payloads (left_at gate file) (left_at behind file) left fails) head
 
   pub next_outside : (behind : ℕ) (e : JournalStop) → IsOutside e → Next view seen gate behind (Err e)
@@ -70,19 +70,19 @@ module _ {V : Type 0} (view : V → List ℕ) (seen : Option (List ℕ)) (gate :
 
   pub next_none : (behind : ℕ) → Head seen gate (Ok None) → Next view seen gate behind (Ok None)
   next_none behind head =
-      each_file seen (λ file. HeadAt (Ok None) (left_at gate file)) (λ file. (payloads : List (List ℕ)) → IsLeft payloads (left_at gate file) → payloads ≡ [])
+      each_file seen (λ file. HeadAt (Ok None) (left_at gate file)) (λ file. (payloads : List (List ℕ)) → IsUnread payloads (left_at gate file) → payloads ≡ [])
       (λ file shut payloads left. none_left payloads (left_at gate file) left shut) head
 
   pub next_one : (behind n : ℕ) (v : V) → behind ≡ gate + (5 + n) → IfSome seen (λ file. view v ≡ take n (drop (gate + 5) file)) → Head seen gate (Ok (Some n)) → Next view seen gate behind (Ok (Some v))
   next_one behind n v place read head = both_files seen (λ file. view v ≡ take n (drop (gate + 5) file)) (λ file. HeadAt (Ok (Some n)) (left_at gate file))
-      (λ file. (payloads : List (List ℕ)) → IsLeft payloads (left_at gate file) → IsNext (Some (view v)) payloads (left_at behind file))
+      (λ file. (payloads : List (List ℕ)) → IsUnread payloads (left_at gate file) → IsNext (Some (view v)) payloads (left_at behind file))
       (λ file is more payloads left. one_left payloads (left_at gate file) (left_at behind file) (view v) left (here file is more)) read head
     where
-      here : (file : List ℕ) → view v ≡ take n (drop (gate + 5) file) → HeadAt (Ok (Some n)) (left_at gate file) → records_at (left_at gate file) ≡ with_front (view v ∷ []) (records_at (left_at behind file))
+      here : (file : List ℕ) → view v ≡ take n (drop (gate + 5) file) → HeadAt (Ok (Some n)) (left_at gate file) → records_at (left_at gate file) ≡ payloads_then (view v ∷ []) (records_at (left_at behind file))
       here file is more =
           let payload : take n (drop 5 (drop gate file)) ≡ view v = ap (λ (l : List ℕ). take n l) (drop-drop 5 gate file) ∙ sym is in
           let rest : drop (5 + n) (drop gate file) ≡ drop behind file = drop-drop (5 + n) gate file ∙ ap (λ (k : ℕ). drop k file) (sym place) in
           more
-          ∙ ap (λ (p : List ℕ). with_front (p ∷ []) (records_at (from (gate + (5 + n)) (drop (5 + n) (drop gate file))))) payload
-          ∙ ap (λ (k : ℕ). with_front (view v ∷ []) (records_at (from k (drop (5 + n) (drop gate file))))) (sym place)
-          ∙ ap (λ (l : List ℕ). with_front (view v ∷ []) (records_at (from behind l))) rest
+          ∙ ap (λ (p : List ℕ). payloads_then (p ∷ []) (records_at (from (gate + (5 + n)) (drop (5 + n) (drop gate file))))) payload
+          ∙ ap (λ (k : ℕ). payloads_then (view v ∷ []) (records_at (from k (drop (5 + n) (drop gate file))))) (sym place)
+          ∙ ap (λ (l : List ℕ). payloads_then (view v ∷ []) (records_at (from behind l))) rest

@@ -35,8 +35,9 @@ records (suc n) c = do
     Ok (payload.0 ∷ others.0, others.1)) else Ok ([], c.at)
 
 -- these payloads, and then those that are found
-abbrev pub with_front : List (List ℕ) → Result (List (List ℕ) × ℕ) JournalStop → Result (List (List ℕ) × ℕ) JournalStop
-with_front payloads found = found >>= λ x. Ok (payloads ++ x.0, x.1)
+abbrev pub payloads_then : List (List ℕ) → Result (List (List ℕ) × ℕ) JournalStop
+    → Result (List (List ℕ) × ℕ) JournalStop
+payloads_then payloads found = found >>= λ x. Ok (payloads ++ x.0, x.1)
 
 -- the same for all records: each takes at least one byte, so a file has no more records than bytes
 unfoldable pub records_at : Reading → Result (List (List ℕ) × ℕ) JournalStop
@@ -131,7 +132,7 @@ FoundIn (Err OutOfMemory) file = Unit {0}
 -- payload.
 abbrev pub HeadAt : Result (Option ℕ) JournalStop → Reading → Type 0
 HeadAt (Ok None) c = records_at c ≡ Ok ([], c.at)
-HeadAt (Ok (Some n)) c = records_at c ≡ with_front (take n (drop 5 c.rest) ∷ []) (records_at (moved (5 + n) c))
+HeadAt (Ok (Some n)) c = records_at c ≡ payloads_then (take n (drop 5 c.rest) ∷ []) (records_at (moved (5 + n) c))
 HeadAt (Err e) c = Fails e (records_at c)
 
 -- a file is open, and each field up to its first closed gate is valid
@@ -139,13 +140,13 @@ abbrev pub IsStore : List ℕ → Type 0
 IsStore file = (held : Held) × (content file ≡ Some (Ok held))
 
 -- these payloads are left to be read
-abbrev pub IsLeft : List (List ℕ) → Reading → Type 0
-IsLeft payloads c = (gate : ℕ) × (records_at c ≡ Ok (payloads, gate))
+abbrev pub IsUnread : List (List ℕ) → Reading → Type 0
+IsUnread payloads c = (gate : ℕ) × (records_at c ≡ Ok (payloads, gate))
 
 -- the first of them, and the others are left
 abbrev pub IsNext : Option (List ℕ) → List (List ℕ) → Reading → Type 0
 IsNext None payloads c = payloads ≡ []
-IsNext (Some payload) payloads c = (others : List (List ℕ)) × (payloads ≡ payload ∷ others) × IsLeft others c
+IsNext (Some payload) payloads c = (others : List (List ℕ)) × (payloads ≡ payload ∷ others) × IsUnread others c
 
 -- A call that reads the next payload from the disk returned it, or None after the last one, unless the disk failed or
 -- memory ran out.

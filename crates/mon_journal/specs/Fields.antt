@@ -3,7 +3,7 @@ use Rattle.std.specs.Prelude.{ℕ, ◌^◌, false, List, Result, Ok, Err, nat_lt
 use Rattle.std.specs.List.{list_all}
 use Rattle.std.specs.Str.{bytes_eq}
 use Rattle.mon_bytes.specs.declared.cursor.Short.{Short}
-use Rattle.mon_bytes.specs.Reading.{Reading, number, front}
+use Rattle.mon_bytes.specs.Reading.{Reading, number, next_bytes}
 use Rattle.mon_bytes.specs.Answers as answers
 use Rattle.mon_bytes.specs.Answers.{at_fault}
 pub use Rattle.mon_bytes.specs.Answers.{◌>>=◌}
@@ -25,7 +25,7 @@ second_word = codes "CEPHMON2"
 -- the eight bytes of either header
 unfoldable pub form_at : Reading → Result (Form × Reading) JournalStop
 form_at c = do
-  word ← whole (front 8 c)
+  word ← whole (next_bytes 8 c)
   if bytes_eq word.0 second_word then Ok (Second, word.1) else (if bytes_eq word.0 first_word then Ok (First, word.1) else Err (NotAStore c.at))
 
 -- whose store it is: a rank, and a number of monitors above it and of at most 15
@@ -42,7 +42,7 @@ owner_at c = do
 -- this many zero bytes
 unfoldable pub zeros_at : ℕ → Reading → Result (List ℕ × Reading) JournalStop
 zeros_at n c = do
-  zeros ← whole (front n c)
+  zeros ← whole (next_bytes n c)
   if list_all (λ b. b == 0) zeros.0 then Ok zeros else Err (NotAStore c.at)
 
 -- a number from 1 to 2 ^ 62
@@ -55,7 +55,7 @@ generation_at c = do
 unfoldable pub payload_at : Reading → Result (List ℕ × Reading) JournalStop
 payload_at c = do
   length ← whole (number 4 c)
-  whole (front length.0 length.1)
+  whole (next_bytes length.0 length.1)
 
 -- The result of a call that takes no memory, and the bytes that it leaves unread, are what reading gives.
 abbrev pub Reads : {X Y : Type 0} → (X → Y) → Result X JournalStop → Reading → Result (Y × Reading) JournalStop → Type 0

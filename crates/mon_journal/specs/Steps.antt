@@ -6,7 +6,7 @@ use Rattle.mon_types.specs.Faults.{risen}
 use Rattle.mon_disk.specs.declared.disk.DiskCall.{DiskCall}
 use Rattle.mon_disk.specs.declared.disk.DiskCall.TheVariants.{Write, Sync}
 use Rattle.mon_disk.specs.Images.{Content, images, Only}
-use Rattle.mon_disk.specs.Calls.{Told, DiskState, Called}
+use Rattle.mon_disk.specs.Calls.{Observed, DiskState, Called}
 use Rattle.mon_journal.specs.declared.stop.JournalStop.{JournalStop}
 use Rattle.mon_journal.specs.declared.stop.JournalStop.TheVariants.{DiskFault, NotAStore, OutOfMemory}
 use Rattle.mon_journal.specs.declared.journal.Journal.{Journal}
@@ -36,8 +36,8 @@ IsOutside (NotAStore at) = ⊥
 
 -- A call that is built on a disk returned out of memory. Either its own allocation failed before its first call, and
 -- the disk is unchanged; or an allocation of the disk failed, which the disk counted.
-abbrev pub WantsFirst : {D E T : Type 0} → (D → DiskState) → E → Result T E → D → D → Type 0
-WantsFirst state no_memory result old new = result ≡ Err no_memory → (new ≡ old) ⊎ ((state new).wants ≡ risen (state old).wants)
+abbrev pub IsRefusedFirst : {D E T : Type 0} → (D → DiskState) → E → Result T E → D → D → Type 0
+IsRefusedFirst state no_memory result old new = result ≡ Err no_memory → (new ≡ old) ⊎ ((state new).refusals ≡ risen (state old).refusals)
 
 -- no condition on what a crash leaves, for contracts that state it in another clause
 abbrev pub Any : List ℕ → Type 0
@@ -62,7 +62,7 @@ abbrev pub CreatedFrom : Content → Journal → List (List ℕ) → List ℕ �
 CreatedFrom x journal payloads file = images x file ⊎ ClosedFrom x (journal.next_gate + 1) file ⊎ Holds journal payloads file
 
 -- whether more than n calls were made from `before` to `now`
-abbrev pub made_more : ℕ → Told → Told → Bool
+abbrev pub made_more : ℕ → Observed → Observed → Bool
 made_more n before now = nat_lt (length before.made + n) (length now.made)
 
 -- P if a test is passed, and otherwise Q
@@ -77,12 +77,12 @@ Made x journal payloads opening file =
     ByTest (slice_index_or file 0 0 == 1 && opening) (Holds journal payloads file) (images x file ⊎ ClosedFrom x (journal.next_gate + 1) file)
 
 -- the payloads that the disk holds, or none if its contents can't be seen
-abbrev pub payloads_told : Option (List ℕ) → List (List ℕ)
-payloads_told None = []
-payloads_told (Some file) = payloads_of file
+abbrev pub payloads_observed : Option (List ℕ) → List (List ℕ)
+payloads_observed None = []
+payloads_observed (Some file) = payloads_of file
 
 abbrev pub payloads_seen : Content → List (List ℕ)
-payloads_seen x = payloads_told x.seen
+payloads_seen x = payloads_observed x.seen
 
 -- The journal's store is on the disk, if its contents can be seen, and a crash leaves nothing else. Its first closed gate is
 -- closed there, and within the known length. The place after it is below 2^64.
@@ -126,7 +126,7 @@ with_payloads payloads (opening.Live journal) = Live journal payloads
 
 -- the result of opening a disk, with the payloads that its file holds if it can be seen
 abbrev pub on_disk : Option (List ℕ) → Result Opened JournalStop → Result OnDisk JournalStop
-on_disk seen (Ok opened) = Ok (with_payloads (payloads_told seen) opened)
+on_disk seen (Ok opened) = Ok (with_payloads (payloads_observed seen) opened)
 on_disk seen (Err e) = Err e
 
 -- Opening returned what the disk held, if its contents can be seen, and a crash leaves the same.

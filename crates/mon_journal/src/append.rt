@@ -1,10 +1,10 @@
 ghost use Rattle.std.specs.Prelude.{◌≡◌, ◌<◌, ◌^◌, ◌++◌, [], ◌∷◌, length, OnOk, OnErr, IfErr, IfSome};
 ghost use Rattle.mon_disk.specs.Calls.{Called};
 ghost use Rattle.mon_journal.specs.Content.{appended, WithOrWithout};
-ghost use Rattle.mon_journal.specs.Steps.{append_calls, payloads_seen, Stands, Keeps, stop_in, IsOutside, WantsFirst};
+ghost use Rattle.mon_journal.specs.Steps.{append_calls, payloads_seen, Stands, Keeps, stop_in, IsOutside, IsRefusedFirst};
 
+use crate::encoded::record_body;
 use crate::journal::{Journal, RECORD_HEAD};
-use crate::spelled::record_body;
 use crate::step::write_synced;
 use crate::stop::JournalStop;
 use mon_disk::Disk;
@@ -29,7 +29,7 @@ impl Journal {
             (WithOrWithout self.old (payloads_seen old.content) payload.now) (stop_in result) old (D.state disk.new) }
 
         // The same holds of what the disk settles to, if its calls can be seen.
-        ensures settles { IfSome (D.state disk.new).told
+        ensures settles { IfSome (D.state disk.new).observed
             (λ t. WithOrWithout self.old (payloads_seen (D.state disk.old).content) payload.now (t.settles t.made)) }
 
         ensures kept { OnOk result (Keeps self.new (payloads_seen (D.state disk.old).content ++ payload.now ∷ [])
@@ -37,7 +37,7 @@ impl Journal {
         ensures journal { OnOk result (self.new ≡ appended self.old payload.now) }
         ensures journal_err { OnErr result (self.new ≡ self.old) }
         ensures outside { IfErr result IsOutside }
-        ensures no_memory { WantsFirst D.state JournalStop.OutOfMemory result disk.old disk.new }
+        ensures no_memory { IsRefusedFirst D.state JournalStop.OutOfMemory result disk.old disk.new }
     {
         let body = record_body(alloc, payload)?;
         write_synced(disk, self.next_gate + 1, &body)?;

@@ -2,6 +2,7 @@
 #![tactic(auto)]
 
 mod append;
+mod encoded;
 mod journal;
 mod law;
 mod making;
@@ -10,7 +11,6 @@ mod pieces;
 mod reader;
 mod reading;
 mod records;
-mod spelled;
 mod step;
 mod stop;
 

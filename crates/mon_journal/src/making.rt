@@ -2,10 +2,10 @@ ghost use Rattle.std.specs.Prelude.{◌≡◌, ◌≤◌, ◌<◌, ◌^◌, Some
 ghost use Rattle.std.specs.Option.{ForSome};
 ghost use Rattle.mon_disk.specs.Calls.{Called};
 ghost use Rattle.mon_journal.specs.Written.{first_payloads, owner_of, created};
-ghost use Rattle.mon_journal.specs.Steps.{create_calls, CreatedFrom, made_more, Made, Keeps, stop_in, IsOutside, WantsFirst};
+ghost use Rattle.mon_journal.specs.Steps.{create_calls, CreatedFrom, made_more, Made, Keeps, stop_in, IsOutside, IsRefusedFirst};
 
+use crate::encoded::head_bytes;
 use crate::journal::{Form, Journal};
-use crate::spelled::head_bytes;
 use crate::step::write_synced;
 use crate::stop::JournalStop;
 use mon_disk::Disk;
@@ -39,12 +39,12 @@ pub fn create<D: Disk>(
     // If the settled file's gate is open and more than four calls were made, the disk settles to the new file.
     // Otherwise it settles to what a crash might have left before, or to a closed file.
     ensures settles { let old = D.state disk.old in let payload = option_map (λ payload. payload.now) first.entry in
-        IfSome old.told (λ s. IfSome (D.state disk.new).told
+        IfSome old.observed (λ s. IfSome (D.state disk.new).observed
         (λ t. Made old.content (created member generation payload) (first_payloads payload) (made_more 4 s t)
         (t.settles t.made))) }
 
     ensures outside { IfErr result IsOutside }
-    ensures no_memory { WantsFirst D.state JournalStop.OutOfMemory result disk.old disk.new }
+    ensures no_memory { IsRefusedFirst D.state JournalStop.OutOfMemory result disk.old disk.new }
 {
     let head = head_bytes(alloc, &member, generation, first)?;
     write_synced(disk, 0, &[0])?;
@@ -82,12 +82,12 @@ pub fn restart<D: Disk>(
 
     // If the settled file's gate is open and more than four calls were made, the disk settles to the new file.
     // Otherwise it settles to what a crash might have left before, or to a closed file.
-    ensures settles { let old = D.state disk.old in IfSome old.told (λ s. IfSome (D.state disk.new).told
+    ensures settles { let old = D.state disk.old in IfSome old.observed (λ s. IfSome (D.state disk.new).observed
         (λ t. Made old.content (created member generation (Some checkpoint.now)) (first_payloads (Some checkpoint.now))
         (made_more 4 s t) (t.settles t.made))) }
 
     ensures outside { IfErr result IsOutside }
-    ensures no_memory { WantsFirst D.state JournalStop.OutOfMemory result disk.old disk.new }
+    ensures no_memory { IsRefusedFirst D.state JournalStop.OutOfMemory result disk.old disk.new }
 {
     create(alloc, disk, member, generation, Some(checkpoint))
 }

@@ -2,7 +2,7 @@
 
 ghost use Rattle.std.specs.Prelude.{◌≡◌, ◌≤◌, ◌<◌, ℕ, List, OnOk, IfOk, IfErr, IfSome, option_map};
 ghost use Rattle.mon_journal.specs.Pieces.{IsPieceOf, OnlyReads, left_at};
-ghost use Rattle.mon_journal.specs.Content.{payloads_of, Holds, IsLeft, NextIs};
+ghost use Rattle.mon_journal.specs.Content.{payloads_of, Holds, IsUnread, NextIs};
 ghost use Rattle.mon_journal.specs.Steps.{stop_in, IsOutside};
 
 use crate::journal::{HEADER, Journal, RECORD_HEAD};
@@ -32,7 +32,7 @@ impl Reader {
         ensures disk { OnlyReads (stop_in result) (D.state disk.old) (D.state disk.new) }
         ensures on { IfOk result (λ reader. IsPieceOf (D.state disk.new) reader.piece) }
         ensures left { IfOk result (λ reader. IfSome (D.state disk.old).content.seen
-            (λ file. IsLeft (payloads_of file) (left_at reader.gate file))) }
+            (λ file. IsUnread (payloads_of file) (left_at reader.gate file))) }
         ensures there { IfSome (D.state disk.old).content.seen (λ _. IfErr result IsOutside) }
         ensures reach { IfOk result (λ reader. journal.now.next_gate < reader.piece.end) }
     {
@@ -56,7 +56,7 @@ impl Reader {
         ensures on { IsPieceOf (D.state disk.new) self.new.piece }
         ensures end { self.new.piece.end ≡ self.old.piece.end }
         ensures next { IfSome (D.state disk.old).content.seen (λ file. (payloads : List (List ℕ))
-            → IsLeft payloads (left_at self.old.gate file)
+            → IsUnread payloads (left_at self.old.gate file)
             → NextIs (λ v. v.items) payloads (left_at self.new.gate file) result) }
         ensures less { IfOk result (λ found. IfSome found (λ _. self.old.gate < self.new.gate)) }
         ensures within { IfOk result (λ found. IfSome found (λ _. self.new.gate ≤ self.old.piece.end)) }

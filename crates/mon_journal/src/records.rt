@@ -48,7 +48,7 @@ pub fn length_at<D: Disk>(
 }
 
 /// The place of the first closed gate. Each record before it must be whole.
-fn gate_behind<D: Disk>(piece: &mut Piece, disk: &mut D) -> Result<u64, JournalStop>
+fn first_closed_gate<D: Disk>(piece: &mut Piece, disk: &mut D) -> Result<u64, JournalStop>
     requires on { IsPieceOf (D.state disk.old) piece.old }
     ensures disk { OnlyReads (stop_in result) (D.state disk.old) (D.state disk.new) }
     ensures on { IsPieceOf (D.state disk.new) piece.new }
@@ -101,7 +101,7 @@ pub fn held_on<D: Disk>(piece: &mut Piece, disk: &mut D) -> Result<Option<Journa
         return Ok(None);
     }
     let journal = header_in(head)?;
-    let next_gate = gate_behind(piece, disk)?;
+    let next_gate = first_closed_gate(piece, disk)?;
     Ok(Some(Journal {
         member: journal.member,
         generation: journal.generation,

@@ -21,11 +21,11 @@ pub fn write_synced<D: Disk>(disk: &mut D, at: u64, bytes: &[u8]) -> Result<(), 
     ensures durable { OnOk result (Only (D.state disk.new).content) }
     ensures end { OnOk result (at + length bytes.now < 2 ^ 64) }
     ensures known { OnOk result ((D.state disk.new).known ≡ max (D.state disk.old).known (at + length bytes.now)) }
-    ensures no_memory { result ≡ Err OutOfMemory → (D.state disk.new).wants ≡ risen (D.state disk.old).wants }
+    ensures no_memory { result ≡ Err OutOfMemory → (D.state disk.new).refusals ≡ risen (D.state disk.old).refusals }
 
     // If no call was made, a crash leaves nothing new.
     ensures not_begun { let old = D.state disk.old in
-        IfSome old.told (λ s. (D.state disk.new).told ≡ Some s
+        IfSome old.observed (λ s. (D.state disk.new).observed ≡ Some s
         → LeavesOnly old.content (D.state disk.new).content (images old.content)) }
 {
     disk.write_at(at, bytes)?;

@@ -116,12 +116,12 @@ pub(crate) fn settle<V: Drop>(tree: &mut Tree<V>)
     ensures { entries tree.new ≡ entries tree.old }
 {
     if !set_height(tree) {
-        turn(tree);
+        rebalance(tree);
     }
 }
 
 /// Brings two sides that are out of balance into balance.
-fn turn<V: Drop>(tree: &mut Tree<V>)
+fn rebalance<V: Drop>(tree: &mut Tree<V>)
     ensures { entries tree.new ≡ entries tree.old }
 {
     if let Tree::Fork(mut node) = replace(tree, Tree::Leaf) {

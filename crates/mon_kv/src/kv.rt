@@ -7,7 +7,7 @@ ghost use Rattle.mon_bytes.specs.Texts.{is_name, is_prefix};
 ghost use Rattle.mon_tx.specs.Map.{number_in, number_at, apply_op, apply};
 ghost use Rattle.mon_tx.specs.Fields.{Gives};
 ghost use Rattle.mon_tx.specs.Decode.{transaction_of, OpFits};
-ghost use Rattle.mon_tx.specs.Spelled.{change, rest_of};
+ghost use Rattle.mon_tx.specs.EncodedOp.{change, rest_of};
 ghost use Rattle.mon_kv.specs.Tree.{first};
 ghost use Rattle.mon_kv.specs.Readers.{entry_of, found_of, entries_after};
 ghost use Rattle.mon_kv.specs.Readers.{size_of};
@@ -19,7 +19,7 @@ use crate::next::{Found, next};
 use crate::tree::Tree;
 use byteorder::{ByteOrder, LittleEndian};
 use mon_bytes::{Bytes, OutOfMemory};
-use mon_tx::{Op, Spelled, SpelledOps, Transaction, TxRefused};
+use mon_tx::{EncodedOp, EncodedOps, Op, Transaction, TxRefused};
 use mon_types::{GREATEST, Version};
 use std::alloc::Global;
 use std::marker::Model;
@@ -206,25 +206,25 @@ impl Kv {
         Ok(())
     }
 
-    fn apply_spelled(&mut self, op: &Spelled<'_>) -> Result<(), OutOfMemory>
+    fn apply_encoded(&mut self, op: &EncodedOp<'_>) -> Result<(), OutOfMemory>
         requires { OpFits (change op.now) }
         ensures { OnOk result (self.new ≡ apply_op (change op.now) self.old) }
     {
         match op {
-            Spelled::Put { prefix, key, value } => self.put(prefix, key, value)?,
-            Spelled::Erase { prefix, key } => self.erase(prefix, key),
-            Spelled::ErasePrefix { prefix } => self.erase_prefix(prefix),
-            Spelled::EraseRange { prefix, from, to } => self.erase_range(prefix, from, to),
+            EncodedOp::Put { prefix, key, value } => self.put(prefix, key, value)?,
+            EncodedOp::Erase { prefix, key } => self.erase(prefix, key),
+            EncodedOp::ErasePrefix { prefix } => self.erase_prefix(prefix),
+            EncodedOp::EraseRange { prefix, from, to } => self.erase_range(prefix, from, to),
         }
         Ok(())
     }
 
-    fn apply_each(&mut self, mut ops: SpelledOps<'_>) -> Result<(), TxRefused>
+    fn apply_each(&mut self, mut ops: EncodedOps<'_>) -> Result<(), TxRefused>
         ensures { Gives (λ _. self.new) result (applied self.old (rest_of ops.entry)) }
     {
         loop {
             match ops.next_op() {
-                Ok(Some(op)) => self.apply_spelled(&op)?,
+                Ok(Some(op)) => self.apply_encoded(&op)?,
                 Ok(None) => return Ok(()),
                 Err(refused) => return Err(refused),
             }
@@ -236,6 +236,6 @@ impl Kv {
     pub fn apply_text(&mut self, text: &[u8]) -> Result<(), TxRefused>
         ensures { Gives (λ _. self.new) result (applied self.old (transaction_of text.now)) }
     {
-        self.apply_each(SpelledOps::new(text)?)
+        self.apply_each(EncodedOps::new(text)?)
     }
 }

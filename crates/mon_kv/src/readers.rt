@@ -1,6 +1,6 @@
 //! The values that a map has under known names.
 //!
-//! `last_pn`, `promise`, `floor` and `pending` are here for tests. The program reads these values through `mon_plan`,
+//! `last_pn`, `promise`, `floor` and `pending` are here for tests. The program reads these values through `mon_stored`,
 //! which sees changes that aren't made yet.
 
 ghost use Rattle.std.specs.Prelude.{◌≡◌, ◌≤◌, ◌^◌, IfSome, IsTrue};

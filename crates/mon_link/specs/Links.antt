@@ -11,7 +11,7 @@ use Rattle.mon_link.specs.Memory.{fails_next}
 
 -- What is still to come, in order; the datagrams that were to be sent and the waits that were asked, failed ones too; and
 -- the numbers, from 1, of the calls that fail.
-pub record Told : Type 0 where
+pub record Observed : Type 0 where
   pub left : List Got
   pub sent : List Outgoing
   pub waits : List ℕ
@@ -21,13 +21,13 @@ pub record Told : Type 0 where
 -- A link at one time: what can be seen of it, if anything; how often a receive failed; and how many datagrams it couldn't
 -- send. Both counts saturate at the greatest 64-bit number.
 pub record LinkState : Type 0 where
-  pub told : Option Told
+  pub observed : Option Observed
   pub faults : ℕ
   pub losses : ℕ
 
 -- a link of which its counts alone can be seen
 abbrev pub unseen : (faults losses : ℕ) → LinkState
-unseen faults losses = record { told = None; faults = faults; losses = losses }
+unseen faults losses = record { observed = None; faults = faults; losses = losses }
 
 -- a count that rises if and only if a call returns `Failed`
 abbrev pub count_after : {T : Type 0} → Result T Stop → ℕ → ℕ
@@ -52,36 +52,36 @@ abbrev pub others : List Got → List Got
 others [] = []
 others (got ∷ left) = left
 
-abbrev pub next_answer : Told → Result Got Stop
+abbrev pub next_answer : Observed → Result Got Stop
 next_answer t = if fails_next t.failing_next (length t.waits) then Err Failed else Ok (first_of t.left)
 
 -- a call that fails has given nothing
-abbrev pub next_leaves : ℕ → Result Got Stop → Told → Told
+abbrev pub next_leaves : ℕ → Result Got Stop → Observed → Observed
 next_leaves wait (Ok got) t = record t { left = others t.left; waits = t.waits ++ wait ∷ [] }
 next_leaves wait (Err Failed) t = record t { waits = t.waits ++ wait ∷ [] }
 next_leaves wait (Err OutOfMemory) t = t
 
 pub record CallsNext (wait : ℕ) (result : Result Got Stop) (old new : LinkState) : Type 0 where
-  pub answer : IfSome old.told (λ t. Answers result (next_answer t))
-  pub told : new.told ≡ option_map (next_leaves wait result) old.told
+  pub answer : IfSome old.observed (λ t. Answers result (next_answer t))
+  pub observed : new.observed ≡ option_map (next_leaves wait result) old.observed
   pub faults : new.faults ≡ count_after result old.faults
   pub losses : new.losses ≡ old.losses
 
 -- ---- what goes
 
-abbrev pub send_answer : Told → Result (Unit {0}) Stop
+abbrev pub send_answer : Observed → Result (Unit {0}) Stop
 send_answer t = if fails_next t.failing_send (length t.sent) then Err Failed else Ok tt
 
-abbrev pub asked_to_send : Peer → List ℕ → Told → Told
+abbrev pub asked_to_send : Peer → List ℕ → Observed → Observed
 asked_to_send to bytes t = record t { sent = t.sent ++ record { to = to; bytes = bytes } ∷ [] }
 
-abbrev pub send_leaves : Peer → List ℕ → Result (Unit {0}) Stop → Told → Told
+abbrev pub send_leaves : Peer → List ℕ → Result (Unit {0}) Stop → Observed → Observed
 send_leaves to bytes (Ok x) t = asked_to_send to bytes t
 send_leaves to bytes (Err Failed) t = asked_to_send to bytes t
 send_leaves to bytes (Err OutOfMemory) t = t
 
 pub record CallsSend (to : Peer) (bytes : List ℕ) (result : Result (Unit {0}) Stop) (old new : LinkState) : Type 0 where
-  pub answer : IfSome old.told (λ t. Answers result (send_answer t))
-  pub told : new.told ≡ option_map (send_leaves to bytes result) old.told
+  pub answer : IfSome old.observed (λ t. Answers result (send_answer t))
+  pub observed : new.observed ≡ option_map (send_leaves to bytes result) old.observed
   pub faults : new.faults ≡ old.faults
   pub losses : new.losses ≡ count_after result old.losses

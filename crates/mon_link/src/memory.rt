@@ -11,7 +11,7 @@ use std::alloc::Global;
 use std::marker::Model;
 
 /// Copies what is there from an offset on, as much as there is room for.
-fn copy_front(bytes: &[u8], at: usize, into: &mut [u8]) -> usize
+fn copy_prefix(bytes: &[u8], at: usize, into: &mut [u8]) -> usize
     requires { at ≤ length bytes.now }
     ensures count { result ≡ min (length (drop at bytes.now)) (length into.old) }
     ensures copied { into.new ≡ take result (drop at bytes.now) ++ drop result into.old }
@@ -78,7 +78,7 @@ impl Source for MemorySource {
             self.faults = raised(self.faults);
             return Err(Stop::Failed);
         }
-        let count = copy_front(self.bytes.as_slice(), self.at, into);
+        let count = copy_prefix(self.bytes.as_slice(), self.at, into);
         self.at += count;
         Ok(count)
     }

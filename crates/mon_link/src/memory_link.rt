@@ -29,7 +29,7 @@ impl Model for MemoryLink {
     ghost Value = { MemoryTalk };
 
     ghost view = { λ l. record {
-      told = record {
+      observed = record {
         left = into_iter_items l.got;
         sent = l.sent.items;
         waits = l.waits.items;
@@ -51,7 +51,7 @@ impl MemoryLink {
         failing_send: Vec<u64>,
     ) -> MemoryLink
         ensures { result ≡ record {
-          told = record { left = got.items; sent = []; waits = []; failing_next = failing_next.items; failing_send = failing_send.items };
+          observed = record { left = got.items; sent = []; waits = []; failing_next = failing_next.items; failing_send = failing_send.items };
           faults = 0;
           losses = 0;
         } }
@@ -70,21 +70,21 @@ impl MemoryLink {
 
     /// The datagrams that were to be sent, in order.
     pub fn sent(&self) -> &[Outgoing]
-        ensures { result.now ≡ self.now.told.sent }
+        ensures { result.now ≡ self.now.observed.sent }
     {
         self.sent.as_slice()
     }
 
     /// The waits that were asked, in milliseconds and in order.
     pub fn waits(&self) -> &[u64]
-        ensures { result.now ≡ self.now.told.waits }
+        ensures { result.now ≡ self.now.observed.waits }
     {
         self.waits.as_slice()
     }
 }
 
 impl Link for MemoryLink {
-    ghost state = { λ l. record { told = Some l.told; faults = l.faults; losses = l.losses } };
+    ghost state = { λ l. record { observed = Some l.observed; faults = l.faults; losses = l.losses } };
 
     fn next(&mut self, wait: u64) -> Result<Got, Stop> {
         let fails = self.failing_next.contains(&raised(self.waits.len() as u64));

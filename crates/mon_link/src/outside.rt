@@ -25,7 +25,7 @@ pub trait Source {
     fn read(&mut self, into: &mut [u8]) -> Result<usize, Stop>
         ensures bound { ReadsAtMost result into.new }
         ensures bytes { ReadConsumes (left self.old) (left self.new) result into.new }
-        ensures tells { is_some (left self.new) ≡ is_some (left self.old) }
+        ensures visible { is_some (left self.new) ≡ is_some (left self.old) }
         ensures cause { HasCause (faults self.old) (faults self.new) result };
 }
 
@@ -43,6 +43,6 @@ pub trait Sink {
         ensures bound { IfOk result (λ n. n ≤ length bytes.now) }
         ensures some { IfOk result (λ n. 0 < length bytes.now → 0 < n) }
         ensures bytes { WriteAppends (held self.old) (held self.new) result bytes.now }
-        ensures tells { is_some (held self.new) ≡ is_some (held self.old) }
+        ensures visible { is_some (held self.new) ≡ is_some (held self.old) }
         ensures cause { HasCause (faults self.old) (faults self.new) result };
 }

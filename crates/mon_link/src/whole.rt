@@ -1,7 +1,7 @@
 ghost use Rattle.std.specs.Prelude.{◌≡◌, ◌≤◌, length, IfOk, OnOk, OnErr, is_some};
 ghost use Rattle.std.specs.Io.KnownBytes.{Appends};
 ghost use Rattle.mon_types.specs.Faults.{HasCause};
-ghost use Rattle.mon_link.specs.Whole.{ReadsWhole, ConsumesFront, AppendsFront};
+ghost use Rattle.mon_link.specs.Whole.{ReadsWhole, ConsumesPrefix, AppendsPrefix};
 
 use crate::outside::{Sink, Source};
 use mon_types::Stop;
@@ -12,8 +12,8 @@ use std::alloc::Global;
 pub fn read_all<S: Source>(alloc: Global, source: &mut S, most: usize) -> Result<Vec<u8>, Stop>
     ensures whole { IfOk result (λ bytes. ReadsWhole most (S.left source.old) (S.left source.new) bytes.items) }
     ensures most { IfOk result (λ bytes. length bytes.items ≤ most) }
-    ensures part { OnErr result (ConsumesFront most (S.left source.old) (S.left source.new)) }
-    ensures tells { is_some (S.left source.new) ≡ is_some (S.left source.old) }
+    ensures part { OnErr result (ConsumesPrefix most (S.left source.old) (S.left source.new)) }
+    ensures visible { is_some (S.left source.new) ≡ is_some (S.left source.old) }
     ensures cause { HasCause (S.faults source.old) (S.faults source.new) result }
 {
     let mut bytes = Vec::new(alloc);
@@ -35,8 +35,8 @@ pub fn read_all<S: Source>(alloc: Global, source: &mut S, most: usize) -> Result
 /// Writes the bytes in order. What went out before an `Err` is a prefix of them.
 pub fn write_all<K: Sink>(sink: &mut K, bytes: &[u8]) -> Result<(), Stop>
     ensures whole { OnOk result (Appends (K.held sink.old) (K.held sink.new) bytes.now) }
-    ensures part { OnErr result (AppendsFront (K.held sink.old) (K.held sink.new) bytes.now) }
-    ensures tells { is_some (K.held sink.new) ≡ is_some (K.held sink.old) }
+    ensures part { OnErr result (AppendsPrefix (K.held sink.old) (K.held sink.new) bytes.now) }
+    ensures visible { is_some (K.held sink.new) ≡ is_some (K.held sink.old) }
     ensures cause { HasCause (K.faults sink.old) (K.faults sink.new) result }
 {
     let mut done = 0;

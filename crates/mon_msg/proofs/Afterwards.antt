@@ -11,9 +11,9 @@ use Rattle.mon_tx.proofs.After.{get-apply}
 use Rattle.mon_msg.specs.Protocol.Readings.{number_after}
 
 -- the value of the cell after changes
-pub told : {A : Type 0} (tell : Cell → A) (d : Decision) (c : Cell) → tell (or_before d c) ≡ option_map_or tell d (tell c)
-told tell None c = refl
-told tell (Some x) c = refl
+pub told : {A : Type 0} (of_cell : Cell → A) (d : Decision) (c : Cell) → of_cell (or_before d c) ≡ option_map_or of_cell d (of_cell c)
+told of_cell None c = refl
+told of_cell (Some x) c = refl
 
 pub number-apply : (ops : List Op) (m : Store) (a : Area) (k : Key) → number (apply ops m) a k ≡ number_after ops a k (number m a k)
 number-apply ops m a k = ap number_in (get-apply ops m (place a k)) ∙ told number_in (decision ops (place a k)) (cell m a k)

@@ -19,15 +19,15 @@ use Rattle.mon_wire.specs.declared.request.Service.TheVariants.{Kv, Log}
 use Rattle.mon_msg.specs.Joined.{joined}
 use Rattle.mon_msg.specs.Puts.{area_of}
 use Rattle.mon_msg.specs.Protocol.Readings.{number_if_there}
-use Rattle.mon_msg.specs.Protocol.Readings.{Readings, marks, told_after, readings_of, after}
-use Rattle.mon_msg.specs.Protocol.Changes.{Change, Boot, Epoch, Numbers, Promise, Vote, Record, Learn, Last, Copy, Mark, Unmark, ops_of, spelled}
+use Rattle.mon_msg.specs.Protocol.Readings.{Readings, marks, read_after, readings_of, after}
+use Rattle.mon_msg.specs.Protocol.Changes.{Change, Boot, Epoch, Numbers, Promise, Vote, Record, Learn, Last, Copy, Mark, Unmark, ops_of, encoded}
 use Rattle.mon_msg.specs.Protocol.Played.{IsShort, Fits, play, played}
 use Rattle.mon_msg.proofs.Edits.{Edit, Set, Drop, DropAll, op_of, all_named, decision-edits}
 use Rattle.mon_msg.proofs.Joining.{apply-joined}
 use Rattle.mon_msg.proofs.Afterwards.{told, number-apply, apply-append}
 
-told-apply : {A : Type 0} (tell : Cell → A) (ops : List Op) (m : Store) (a : Area) (k : Key) → tell (cell (apply ops m) a k) ≡ told_after tell ops a k (tell (cell m a k))
-told-apply tell ops m a k = ap tell (get-apply ops m (place a k)) ∙ told tell (decision ops (place a k)) (cell m a k)
+told-apply : {A : Type 0} (of_cell : Cell → A) (ops : List Op) (m : Store) (a : Area) (k : Key) → of_cell (cell (apply ops m) a k) ≡ read_after of_cell ops a k (of_cell (cell m a k))
+told-apply of_cell ops m a k = ap of_cell (get-apply ops m (place a k)) ∙ told of_cell (decision ops (place a k)) (cell m a k)
 
 pub readings-apply : (ops : List Op) (m : Store) → readings_of (apply ops m) ≡ after ops (readings_of m)
 unfolding readings_of after
@@ -49,7 +49,7 @@ readings-apply ops m = λ i. record {
 -- the same after changes of named keys
 
 abbrev told_by : {A : Type 0} → (Cell → A) → List Edit → Area → Key → A → A
-told_by tell es a k before = option_map_or tell (all_named es a k) before
+told_by of_cell es a k before = option_map_or of_cell (all_named es a k) before
 
 abbrev edited : List Edit → Readings → Readings
 edited es w = record {
@@ -67,8 +67,8 @@ edited es w = record {
   row = λ s k. or_before (all_named es (area_of s) k) (w.row s k);
 }
 
-told-edits : {A : Type 0} (tell : Cell → A) (es : List Edit) (a : Area) (k : Key) (before : A) → told_after tell (map op_of es) a k before ≡ told_by tell es a k before
-told-edits tell es a k before = ap (λ d. option_map_or tell d before) (decision-edits es a k)
+told-edits : {A : Type 0} (of_cell : Cell → A) (es : List Edit) (a : Area) (k : Key) (before : A) → read_after of_cell (map op_of es) a k before ≡ told_by of_cell es a k before
+told-edits of_cell es a k before = ap (λ d. option_map_or of_cell d before) (decision-edits es a k)
 
 after-edits : (es : List Edit) (w : Readings) → after (map op_of es) w ≡ edited es w
 unfolding after
@@ -249,12 +249,12 @@ after_change (Copy entry) w h = refl
 after_change (Mark floor a b) w h = ap (λ ops. after ops w) (marking_ops floor a b) ∙ after-edits (marking floor a b) w ∙ mark_is floor a b w h.0 h.1 h.2
 after_change Unmark w h = after-edits unmarking w ∙ unmark_is w
 
-readings-spelled : (cs : List Change) → AllByRecursion Fits cs → (m : Store) → readings_of (apply (spelled cs) m) ≡ played cs (readings_of m)
-readings-spelled [] h m = refl
-readings-spelled (c ∷ cs) h m =
-    ap readings_of (apply-append (ops_of c) (spelled cs) m)
-    ∙ readings-spelled cs h.1 (apply (ops_of c) m)
+readings-encoded : (cs : List Change) → AllByRecursion Fits cs → (m : Store) → readings_of (apply (encoded cs) m) ≡ played cs (readings_of m)
+readings-encoded [] h m = refl
+readings-encoded (c ∷ cs) h m =
+    ap readings_of (apply-append (ops_of c) (encoded cs) m)
+    ∙ readings-encoded cs h.1 (apply (ops_of c) m)
     ∙ ap (played cs) (readings-apply (ops_of c) m ∙ after_change c (readings_of m) h.0)
 
-pub readings-joined : (cs : List Change) → AllByRecursion Fits cs → (m : Store) → readings_of (apply (joined (spelled cs)) m) ≡ played cs (readings_of m)
-readings-joined cs h m = ap readings_of (apply-joined (spelled cs) m) ∙ readings-spelled cs h m
+pub readings-joined : (cs : List Change) → AllByRecursion Fits cs → (m : Store) → readings_of (apply (joined (encoded cs)) m) ≡ played cs (readings_of m)
+readings-joined cs h m = ap readings_of (apply-joined (encoded cs) m) ∙ readings-encoded cs h m

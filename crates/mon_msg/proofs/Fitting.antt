@@ -7,14 +7,14 @@ use Rattle.mon_tx.specs.declared.op.Op.{Op}
 use Rattle.mon_wire.specs.declared.body.Body.TheVariants as body
 use Rattle.mon_wire.specs.declared.parts.Cookie.{Cookie}
 use Rattle.mon_wire.specs.declared.parts.Place.{Place}
-use Rattle.mon_msg.specs.Protocol.Answers.{told_values}
+use Rattle.mon_msg.specs.Protocol.Answers.{sent_values}
 use Rattle.mon_msg.specs.Protocol.Collecting.{missed}
 use Rattle.mon_msg.specs.Protocol.Length.{fits, short_list}
 use Rattle.mon_msg.specs.Protocol.Parts.{value_length, entry_length, place_length}
 use Rattle.mon_msg.specs.Protocol.Places.{is_done}
 use Rattle.mon_msg.specs.Protocol.Providing.{reach, is_finished, chunk_with, given_values, given_entries}
 use Rattle.mon_msg.specs.Protocol.Records.{run_from, longest}
-use Rattle.mon_msg.specs.Protocol.Services.{may_tell}
+use Rattle.mon_msg.specs.Protocol.Services.{fits_reply}
 use Rattle.mon_msg.proofs.Runs.{have_room}
 
 same_test : {A : Type 0} (a b : List A → Bool) (whole : List A) → ((items : List A) → a items ≡ b items) → longest a whole ≡ longest b whole
@@ -50,9 +50,9 @@ last_fits n promise first last from values =
     let k : 12 + (33 + (2 + sum_by value_length values) + 1) ≡ 48 + sum_by value_length values = omega arith in
     ap (λ l. leb l 1048576 && leb (length values) 65535) k
 
-pub told_values-is : (n promise first last : ℕ) (records : ℕ → Cell) (from : ℕ) → (nat_lt last from || nat_lt from first) ≡ false
-    → told_values n promise first last records from ≡ longest (have_room value_length (λ _. 48) 1048576) (run_from records last from)
-told_values-is n promise first last records from h =
+pub sent_values-is : (n promise first last : ℕ) (records : ℕ → Cell) (from : ℕ) → (nat_lt last from || nat_lt from first) ≡ false
+    → sent_values n promise first last records from ≡ longest (have_room value_length (λ _. 48) 1048576) (run_from records last from)
+sent_values-is n promise first last records from h =
     ap (λ b. cond b [] (longest (λ values. fits n (body.Last promise first last false from values None)) (run_from records last from))) h
     ∙ same_test (λ values. fits n (body.Last promise first last false from values None)) (have_room value_length (λ _. 48) 1048576)
     (run_from records last from) (last_fits n promise first last from)
@@ -111,11 +111,11 @@ module _ (last : ℕ) (c : Cookie) (p : Place) (left : List Entry) where
 
 -- ---- since
 
-pub may_tell-is : (incrementals : List (List ℕ)) → may_tell incrementals ≡ have_room (λ bytes. length bytes + 4) (λ _. 0) 524288 incrementals
-may_tell-is incrementals =
+pub fits_reply-is : (incrementals : List (List ℕ)) → fits_reply incrementals ≡ have_room (λ bytes. length bytes + 4) (λ _. 0) 524288 incrementals
+fits_reply-is incrementals =
     let k : sum_by (λ (bytes : List ℕ). length bytes + 4) incrementals ≡ 0 + sum_by (λ (bytes : List ℕ). length bytes + 4) incrementals = omega arith in
     and_swap (leb (length incrementals) 65535) (leb (sum_by (λ (bytes : List ℕ). length bytes + 4) incrementals) 524288)
     ∙ ap (λ l. leb l 524288 && leb (length incrementals) 65535) k
 
-pub told-since : (kept : List (List ℕ)) → longest may_tell kept ≡ longest (have_room (λ bytes. length bytes + 4) (λ _. 0) 524288) kept
-told-since kept = same_test may_tell (have_room (λ bytes. length bytes + 4) (λ _. 0) 524288) kept may_tell-is
+pub told-since : (kept : List (List ℕ)) → longest fits_reply kept ≡ longest (have_room (λ bytes. length bytes + 4) (λ _. 0) 524288) kept
+told-since kept = same_test fits_reply (have_room (λ bytes. length bytes + 4) (λ _. 0) 524288) kept fits_reply-is

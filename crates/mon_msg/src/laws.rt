@@ -7,7 +7,7 @@ ghost use Rattle.mon_bytes.specs.declared.entry.Entry.{Entry};
 ghost use Rattle.mon_tx.specs.Map.{Place, Store, apply};
 ghost use Rattle.mon_tx.specs.declared.op.Op.{Op};
 ghost use Rattle.mon_msg.specs.Joined.{joined, puts, takes_away};
-ghost use Rattle.mon_msg.specs.Protocol.Changes.{Change, spelled};
+ghost use Rattle.mon_msg.specs.Protocol.Changes.{Change, encoded};
 ghost use Rattle.mon_msg.specs.Protocol.Played.{Fits, played};
 ghost use Rattle.mon_msg.specs.Protocol.Readings.{readings_of, after};
 ghost use Rattle.mon_msg.specs.Protocol.Records.{longest, IsLongest};
@@ -30,7 +30,7 @@ pub fn law_readings()
 /// that the store can hold.
 pub fn law_changes()
     ensures { (cs : List Change) → AllByRecursion Fits cs → (m : Store)
-        → readings_of (apply (joined (spelled cs)) m) ≡ played cs (readings_of m) }
+        → readings_of (apply (joined (encoded cs)) m) ≡ played cs (readings_of m) }
 {}
 
 /// The timer that fires next is armed. No timer is armed for an earlier time, and none of an earlier kind for the same

@@ -16,7 +16,7 @@ pub use clients::{Asked, Clients, Waiting};
 pub use election::{Elector, Prober};
 pub use laws::{law_changes, law_due, law_joined, law_longest, law_readings};
 pub use limits::{
-    FULL_EVERY, MOST_PROPOSED, MOST_REPLAYED, MOST_REPLAYED_BYTES, MOST_TOLD_BYTES, MOST_WAITING,
+    FULL_EVERY, MOST_PROPOSED, MOST_REPLAYED, MOST_REPLAYED_BYTES, MOST_SINCE_BYTES, MOST_WAITING,
     PAXOS_DUE, PAXOS_GOES, PAXOS_KEEPS, SERVICE_DUE, SERVICE_GOES, SERVICE_KEEPS,
 };
 pub use mon_wire::{

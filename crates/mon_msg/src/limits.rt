@@ -8,7 +8,7 @@ pub const MOST_REPLAYED: u64 = 64;
 pub const MOST_REPLAYED_BYTES: u64 = 524_288;
 
 /// The most bytes of the incrementals that one reply to a client has, with four for each of them.
-pub const MOST_TOLD_BYTES: usize = 524_288;
+pub const MOST_SINCE_BYTES: usize = 524_288;
 
 /// The most commands that wait at a leader, and the most sessions that wait at a peon.
 pub const MOST_WAITING: u64 = 64;

@@ -35,7 +35,11 @@ impl<L: Link + Drop, C: Clock + Drop> Awake<L, C> {
 }
 
 impl<L: Link + Drop, C: Clock + Drop> Link for Awake<L, C> {
-    ghost state = { λ r. record { told = None; faults = (L.state r.inner).faults; losses = (L.state r.inner).losses } };
+    ghost state = { λ r. record {
+      observed = None;
+      faults = (L.state r.inner).faults;
+      losses = (L.state r.inner).losses;
+    } };
 
     /// Reads the clock, asks the link below once for what comes, and reads the clock again. After a gap the result is
     /// `Closed`, and the link below isn't asked. If a gap is seen after it was asked, what came is dropped, but an

@@ -120,7 +120,11 @@ impl<L: Link + Drop> Named<L> {
 impl<L: Link + Drop> Link for Named<L> {
     ghost use Rattle.std.specs.Prelude.{None};
 
-    ghost state = { λ r. record { told = None; faults = (L.state r.inner).faults; losses = (L.state r.inner).losses } };
+    ghost state = { λ r. record {
+      observed = None;
+      faults = (L.state r.inner).faults;
+      losses = (L.state r.inner).losses;
+    } };
 
     /// Asks the link below for what comes, for as long. After a foreign datagram it is asked again at once, without
     /// waiting, at most 64 times. Foreign ones are dropped, and its last answer is handed on. If that is a foreign

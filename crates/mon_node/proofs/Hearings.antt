@@ -3,18 +3,18 @@ use Rattle.std.proofs.Common.{◌≡◌, ℕ, List, Option, Some, None, Result, 
 use Rattle.std.specs.Prelude.{option_map}
 use Rattle.mon_frag.specs.declared.partial.Partial.{Partial}
 use Rattle.mon_link.specs.Clocks.{Readings, after}
-use Rattle.mon_link.specs.Links.{Told}
+use Rattle.mon_link.specs.Links.{Observed}
 use Rattle.mon_link.specs.declared.link.Got.TheVariants as got
 use Rattle.mon_link.specs.declared.link.Got.{Got}
 use Rattle.mon_msg.specs.declared.input.Input.TheVariants as input
 use Rattle.mon_types.specs.declared.names.Stop.{Stop}
 use Rattle.mon_wire.specs.declared.phase.Timer.{Timer}
-use Rattle.mon_node.specs.Hearing.{Given, Heard, Hears, IsGiven, IsReading, AreAnswers, AreAsked, due_by, wait_until, at_moment, clock_read, link_asked, answer_came, heard_by, heard}
+use Rattle.mon_node.specs.Hearing.{Given, Heard, Hears, IsGiven, IsReading, AreAnswers, AreAsked, due_by, wait_until, at_time, clock_read, link_asked, answer_arrived, heard_by, heard}
 use Rattle.mon_node.specs.Nodes.{Outside, outside_of}
 use Rattle.mon_node.specs.declared.end.NodeEnd.{NodeEnd}
 use Rattle.mon_node.specs.declared.hearing.TimedInput.{TimedInput}
 
-module _ (n : ℕ) (next : Option (Timer × ℕ)) (began : ℕ) (parts : List Partial) (clock read : Option Readings) (link : Option Told) (reading : IsReading clock began) (read_is : read ≡ option_map after clock) where
+module _ (n : ℕ) (next : Option (Timer × ℕ)) (began : ℕ) (parts : List Partial) (clock read : Option Readings) (link : Option Observed) (reading : IsReading clock began) (read_is : read ≡ option_map after clock) where
   abbrev before : Outside
   before = outside_of parts clock link
 
@@ -28,7 +28,7 @@ module _ (n : ℕ) (next : Option (Timer × ℕ)) (began : ℕ) (parts : List Pa
   unasked = record { began = began; answer = Ok got.Idle; later = 0 }
 
   pub timer_heard : (t : Timer) → Some t ≡ due_by began next
-      → (g : Given) × IsGiven next g before × (heard n next g before ≡ record { came = Ok (Some (at_moment began (input.Timer t))); outside = once_read })
+      → (g : Given) × IsGiven next g before × (heard n next g before ≡ record { came = Ok (Some (at_time began (input.Timer t))); outside = once_read })
   timer_heard t is = (
     unasked,
     record { began = reading; rest = subst (λ (d : Option Timer). AreAsked d unasked (clock_read before)) is tt },
@@ -36,14 +36,14 @@ module _ (n : ℕ) (next : Option (Timer × ℕ)) (began : ℕ) (parts : List Pa
   )
 
   module _ (wait : ℕ) (wait_is : wait ≡ wait_until began next) (none : None ≡ due_by began next) where
-    came_so : (answer : Result Got Stop) (later : ℕ) → answer_came n later answer (link_asked wait answer once_read) ≡ heard n next (record { began = began; answer = answer; later = later }) before
+    came_so : (answer : Result Got Stop) (later : ℕ) → answer_arrived n later answer (link_asked wait answer once_read) ≡ heard n next (record { began = began; answer = answer; later = later }) before
     came_so answer later =
-        ap (λ (o : Outside). answer_came n later answer (link_asked wait answer o)) (sym read_so)
-        ∙ ap (λ (w : ℕ). answer_came n later answer (link_asked w answer (clock_read before))) wait_is
+        ap (λ (o : Outside). answer_arrived n later answer (link_asked wait answer o)) (sym read_so)
+        ∙ ap (λ (w : ℕ). answer_arrived n later answer (link_asked w answer (clock_read before))) wait_is
         ∙ ap (λ (d : Option Timer). heard_by d n (wait_until began next) (record { began = began; answer = answer; later = later }) (clock_read before)) none
 
     pub link_heard : (answer : Result Got Stop) (later : ℕ) (result : Result (Option TimedInput) NodeEnd) (o : Outside)
-        → AreAnswers once_read answer later → Hears (answer_came n later answer (link_asked wait answer once_read)) result o
+        → AreAnswers once_read answer later → Hears (answer_arrived n later answer (link_asked wait answer once_read)) result o
         → (g : Given) × IsGiven next g before × Hears (heard n next g before) result o
     link_heard answer later result o answers h = (
       record { began = began; answer = answer; later = later },

@@ -4,7 +4,7 @@ pub mod Sending
 pub mod Renewing
 pub mod Standing
 pub mod Taking
-pub mod Turning
+pub mod Iterating
 pub mod Passing
 pub mod Looping
 pub mod Counting

@@ -4,41 +4,41 @@ use Rattle.std.specs.Prelude.{option_map}
 use Rattle.mon_bytes.specs.Answers.{◌>>=◌}
 use Rattle.mon_disk.specs.Calls.{DiskState}
 use Rattle.mon_link.specs.Clocks.{Readings, after}
-use Rattle.mon_link.specs.Links.{Told}
+use Rattle.mon_link.specs.Links.{Observed}
 use Rattle.mon_msg.specs.Protocol.Timers.{due}
 use Rattle.mon_msg.specs.declared.input.Input.TheVariants as input
 use Rattle.mon_msg.specs.declared.view.Me.{Me}
-use Rattle.mon_store.specs.Stood.{Stood}
+use Rattle.mon_store.specs.StoreView.{StoreView}
 use Rattle.mon_store.specs.declared.store.Store.{Store as StoreOn}
-use Rattle.mon_node.specs.Hearing.{Given, IsGiven, IsReading, at_moment}
-use Rattle.mon_node.specs.Lasting.{BothTell, Leave, Through, Pass, IsWithinTurn, IsLeft, PassTurn, PassTurns, StandsThrough, moments}
+use Rattle.mon_node.specs.Hearing.{Given, IsGiven, IsReading, at_time}
+use Rattle.mon_node.specs.Lasting.{BothVisible, Leave, Through, Pass, IsWithinIteration, RemainsAfter, PassIteration, PassIterations, StandsThrough, times}
 use Rattle.mon_node.specs.Nodes.{Serving, Disks, disks_of, unstarted}
-use Rattle.mon_node.specs.Serving.{Has, EndsAt, EndsTurn, EndsAfter, AreGiven, Serves}
-use Rattle.mon_node.specs.Turns.{Turn, start, turn, ended_turn, last_turn, served}
+use Rattle.mon_node.specs.Serving.{Has, EndsAt, EndsIteration, EndsAfter, AreGiven, Serves}
+use Rattle.mon_node.specs.Iterations.{Iteration, start, iteration, ended_iteration, last_iteration, served}
 use Rattle.mon_node.specs.declared.end.NodeEnd.TheVariants as end
 use Rattle.mon_node.specs.declared.end.NodeEnd.{NodeEnd}
 use Rattle.mon_node.proofs.Standing.{lasts_on, leave_as}
-use Rattle.mon_node.proofs.Passing.{stood_then, turns_later}
+use Rattle.mon_node.proofs.Passing.{store_view_then, turns_later}
 
 -- The start, after the clock was read.
-abbrev at_start : (first : ℕ) → Serving → Turn
-at_start first now = record { came = Ok (Some (at_moment first input.Start)); serving = now }
+abbrev at_start : (first : ℕ) → Serving → Iteration
+at_start first now = record { came = Ok (Some (at_time first input.Start)); serving = now }
 
-pub start_as : (rank : ℕ) (m : Stood) (clock read : Option Readings) (link : Option Told) (first : ℕ) (now : Serving)
+pub start_as : (rank : ℕ) (m : StoreView) (clock read : Option Readings) (link : Option Observed) (first : ℕ) (now : Serving)
     → read ≡ option_map after clock → now ≡ unstarted rank m read link → at_start first now ≡ start first (unstarted rank m clock link)
 start_as rank m clock read link first now read_is now_is =
     ap (at_start first) now_is ∙ ap (λ (c : Option Readings). at_start first (unstarted rank m c link)) read_is
 
 -- An iteration has the same result for equal identities and equal inputs.
-pub turn_as : {T : Type 0} (me mine : Me) (t u : Turn) (result : Result T NodeEnd) (after : Serving) → mine ≡ me → t ≡ u → EndsTurn mine t result after → EndsTurn me u result after
-turn_as me mine t u result after own same h = subst (λ (x : Me). EndsTurn x u result after) own (subst (λ (x : Turn). EndsTurn mine x result after) same h)
+pub iteration_as : {T : Type 0} (me mine : Me) (t u : Iteration) (result : Result T NodeEnd) (after : Serving) → mine ≡ me → t ≡ u → EndsIteration mine t result after → EndsIteration me u result after
+iteration_as me mine t u result after own same h = subst (λ (x : Me). EndsIteration x u result after) own (subst (λ (x : Iteration). EndsIteration mine x result after) same h)
 
 -- The same of what the disks of a store go through.
-pub pass_turn_as : {T D : Type 0} (state : D → DiskState) (me mine : Me) (t u : Turn) (result : Result T NodeEnd) (link : Option Told) (s n : StoreOn D) (new : Disks) → mine ≡ me → t ≡ u → s ≡ n
-    → (BothTell (disks_of state s) → PassTurn mine t result link (disks_of state s) new) → BothTell (disks_of state n) → PassTurn me u result link (disks_of state n) new
-pass_turn_as {T} {D} state me mine t u result link s n new own same stores h =
-    subst (λ (x : StoreOn D). BothTell (disks_of state x) → PassTurn me u result link (disks_of state x) new) stores
-    (subst (λ (x : Me). BothTell (disks_of state s) → PassTurn x u result link (disks_of state s) new) own (subst (λ (x : Turn). BothTell (disks_of state s) → PassTurn mine x result link (disks_of state s) new) same h))
+pub pass_iteration_as : {T D : Type 0} (state : D → DiskState) (me mine : Me) (t u : Iteration) (result : Result T NodeEnd) (link : Option Observed) (s n : StoreOn D) (new : Disks) → mine ≡ me → t ≡ u → s ≡ n
+    → (BothVisible (disks_of state s) → PassIteration mine t result link (disks_of state s) new) → BothVisible (disks_of state n) → PassIteration me u result link (disks_of state n) new
+pass_iteration_as {T} {D} state me mine t u result link s n new own same stores h =
+    subst (λ (x : StoreOn D). BothVisible (disks_of state x) → PassIteration me u result link (disks_of state x) new) stores
+    (subst (λ (x : Me). BothVisible (disks_of state s) → PassIteration x u result link (disks_of state s) new) own (subst (λ (x : Iteration). BothVisible (disks_of state s) → PassIteration mine x result link (disks_of state s) new) same h))
 
 -- The state of a node after this many iterations, and that of its disks.
 pub record HasServed (me : Me) (s : Serving) (old : Disks) (done : ℕ) (now : Serving) (disks : Disks) : Type 0 where
@@ -47,14 +47,14 @@ pub record HasServed (me : Me) (s : Serving) (old : Disks) (done : ℕ) (now : S
   pub given_are : AreGiven me first s given
   pub done_are : done ≡ length given
   pub served_is : served me first s given ≡ Ok now
-  pub passes : BothTell old → PassTurns me first s given old disks
+  pub passes : BothVisible old → PassIterations me first s given old disks
 
 -- the iterations that a node made, whatever they are
-abbrev pub SomeServe : Me → Serving → (old : Disks) → (turns : ℕ) → NodeEnd → (begun : ℕ) → Option Readings → Option Told → (new : Disks) → Type 0
+abbrev pub SomeServe : Me → Serving → (old : Disks) → (turns : ℕ) → NodeEnd → (begun : ℕ) → Option Readings → Option Observed → (new : Disks) → Type 0
 SomeServe me s old turns e begun clock link new =
-    (first : ℕ) × (given : List Given) × Serves me s turns e begun clock link first given × (BothTell old → StandsThrough me first s given e link old new)
+    (first : ℕ) × (given : List Given) × Serves me s turns e begun clock link first given × (BothVisible old → StandsThrough me first s given e link old new)
 
-ends_after : (me : Me) (turns begun : ℕ) (t : Turn) (e : NodeEnd) (clock : Option Readings) (link : Option Told) → EndsAt me t e clock link → EndsAfter me turns begun t e clock link
+ends_after : (me : Me) (turns begun : ℕ) (t : Iteration) (e : NodeEnd) (clock : Option Readings) (link : Option Observed) → EndsAt me t e clock link → EndsAfter me turns begun t e clock link
 ends_after me turns begun t end.TurnsUsed clock link h = absurd h.cause
 ends_after me turns begun t end.Closed clock link h = h
 ends_after me turns begun t end.DiskFault clock link h = h
@@ -65,10 +65,10 @@ ends_after me turns begun t end.OutOfMemory clock link h = h
 
 module _ (me : Me) (s : Serving) (old : Disks) where
   -- the start
-  start_passes : (first : ℕ) (new : Disks) → Pass (IsWithinTurn me (start first s)) old new → PassTurns me first s [] old new
-  start_passes first new p = record { a = p.a; b = p.b; tell = p.tell; turns = p.through }
+  start_passes : (first : ℕ) (new : Disks) → Pass (IsWithinIteration me (start first s)) old new → PassIterations me first s [] old new
+  start_passes first new p = record { a = p.a; b = p.b; both_visible = p.both_visible; turns = p.through }
 
-  pub started : (first : ℕ) (now : Serving) (new : Disks) → IsReading s.outside.clock first → ended_turn me (start first s) ≡ Ok now → (BothTell old → Pass (IsWithinTurn me (start first s)) old new) → HasServed me s old 0 now new
+  pub started : (first : ℕ) (now : Serving) (new : Disks) → IsReading s.outside.clock first → ended_iteration me (start first s) ≡ Ok now → (BothVisible old → Pass (IsWithinIteration me (start first s)) old new) → HasServed me s old 0 now new
   started first now new reading is pass = record {
     first = first;
     given = [];
@@ -78,8 +78,8 @@ module _ (me : Me) (s : Serving) (old : Disks) where
     passes = λ both. start_passes first new (pass both);
   }
 
-  pub start_ends : (turns first : ℕ) (e : NodeEnd) (clock : Option Readings) (link : Option Told) (new : Disks) → IsReading s.outside.clock first → EndsAt me (start first s) e clock link
-      → (BothTell old → PassTurn {T = Unit {0}} me (start first s) (Err e) link old new) → SomeServe me s old turns e 0 clock link new
+  pub start_ends : (turns first : ℕ) (e : NodeEnd) (clock : Option Readings) (link : Option Observed) (new : Disks) → IsReading s.outside.clock first → EndsAt me (start first s) e clock link
+      → (BothVisible old → PassIteration {T = Unit {0}} me (start first s) (Err e) link old new) → SomeServe me s old turns e 0 clock link new
   start_ends turns first e clock link new reading h pass = (
     first,
     [],
@@ -95,8 +95,8 @@ module _ (me : Me) (s : Serving) (old : Disks) where
   -- one more iteration
   module _ (done : ℕ) (now : Serving) (disks : Disks) (so_far : HasServed me s old done now disks) where
     module _ (g : Given) (given : IsGiven (due now.node.state.timers) g now.outside) where
-      last_is : last_turn me so_far.first s (g ∷ so_far.given) ≡ Ok (turn me g now)
-      last_is = ap (λ (x : Result Serving NodeEnd). x >>= λ (y : Serving). Ok (turn me g y)) so_far.served_is
+      last_is : last_iteration me so_far.first s (g ∷ so_far.given) ≡ Ok (iteration me g now)
+      last_is = ap (λ (x : Result Serving NodeEnd). x >>= λ (y : Serving). Ok (iteration me g y)) so_far.served_is
 
       are_given : AreGiven me so_far.first s (g ∷ so_far.given)
       are_given = (so_far.given_are, subst (λ (x : Result Serving NodeEnd). Has x (λ (y : Serving). IsGiven (due y.node.state.timers) g y.outside)) (sym so_far.served_is) given)
@@ -104,33 +104,33 @@ module _ (me : Me) (s : Serving) (old : Disks) where
       counted : done + 1 ≡ length (g ∷ so_far.given)
       counted = add-one done ∙ ap suc so_far.done_are
 
-      at_last : (P : Turn → Type 0) → P (turn me g now) → Has (last_turn me so_far.first s (g ∷ so_far.given)) P
-      at_last P h = subst (λ (x : Result Turn NodeEnd). Has x P) (sym last_is) h
+      at_last : (P : Iteration → Type 0) → P (iteration me g now) → Has (last_iteration me so_far.first s (g ∷ so_far.given)) P
+      at_last P h = subst (λ (x : Result Iteration NodeEnd). Has x P) (sym last_is) h
 
-      pub passes_on : (new : Disks) → BothTell old → Pass (IsWithinTurn me (turn me g now)) disks new → PassTurns me so_far.first s (g ∷ so_far.given) old new
+      pub passes_on : (new : Disks) → BothVisible old → Pass (IsWithinIteration me (iteration me g now)) disks new → PassIterations me so_far.first s (g ∷ so_far.given) old new
       passes_on new both p = let before = so_far.passes both in record {
         a = lasts_on old.a disks.a new.a before.a p.a;
         b = lasts_on old.b disks.b new.b before.b p.b;
-        tell = p.tell;
+        both_visible = p.both_visible;
         turns = (
-          moments disks,
-          turns_later me so_far.first s disks new p.a p.b so_far.given (moments old) (moments disks) (omega arith) (omega arith) before.turns,
-          at_last (λ (t : Turn). Through new (IsWithinTurn me t) (moments disks) (moments new)) p.through,
+          times disks,
+          turns_later me so_far.first s disks new p.a p.b so_far.given (times old) (times disks) (omega arith) (omega arith) before.turns,
+          at_last (λ (t : Iteration). Through new (IsWithinIteration me t) (times disks) (times new)) p.through,
         );
       }
 
-      pub goes_on : (next : Serving) (new : Disks) → ended_turn me (turn me g now) ≡ Ok next → (BothTell disks → Pass (IsWithinTurn me (turn me g now)) disks new) → HasServed me s old (done + 1) next new
+      pub goes_on : (next : Serving) (new : Disks) → ended_iteration me (iteration me g now) ≡ Ok next → (BothVisible disks → Pass (IsWithinIteration me (iteration me g now)) disks new) → HasServed me s old (done + 1) next new
       goes_on next new is pass = record {
         first = so_far.first;
         given = g ∷ so_far.given;
         given_are = are_given;
         done_are = counted;
-        served_is = ap (λ (x : Result Turn NodeEnd). x >>= ended_turn me) last_is ∙ is;
-        passes = λ both. passes_on new both (pass (so_far.passes both).tell);
+        served_is = ap (λ (x : Result Iteration NodeEnd). x >>= ended_iteration me) last_is ∙ is;
+        passes = λ both. passes_on new both (pass (so_far.passes both).both_visible);
       }
 
-      pub ends_here : (turns : ℕ) (e : NodeEnd) (clock : Option Readings) (link : Option Told) (new : Disks) → done < turns → EndsAt me (turn me g now) e clock link
-          → (BothTell disks → PassTurn {T = Unit {0}} me (turn me g now) (Err e) link disks new) → SomeServe me s old turns e (done + 1) clock link new
+      pub ends_here : (turns : ℕ) (e : NodeEnd) (clock : Option Readings) (link : Option Observed) (new : Disks) → done < turns → EndsAt me (iteration me g now) e clock link
+          → (BothVisible disks → PassIteration {T = Unit {0}} me (iteration me g now) (Err e) link disks new) → SomeServe me s old turns e (done + 1) clock link new
       ends_here turns e clock link new within h pass = (
         so_far.first,
         g ∷ so_far.given,
@@ -138,9 +138,9 @@ module _ (me : Me) (s : Serving) (old : Disks) where
           given_are = are_given;
           begun_are = counted;
           most = subst (λ (n : ℕ). n ≤ turns) counted (omega (arith, within));
-          ends = at_last (λ (t : Turn). EndsAfter me turns (done + 1) t e clock link) (ends_after me turns (done + 1) (turn me g now) e clock link h);
+          ends = at_last (λ (t : Iteration). EndsAfter me turns (done + 1) t e clock link) (ends_after me turns (done + 1) (iteration me g now) e clock link h);
         },
-        λ both. let p = pass (so_far.passes both).tell in record { turns = passes_on new both p.0; left = at_last (λ (t : Turn). Leave new (IsLeft me t e link)) p.1 },
+        λ both. let p = pass (so_far.passes both).both_visible in record { turns = passes_on new both p.0; left = at_last (λ (t : Iteration). Leave new (RemainsAfter me t e link)) p.1 },
       )
 
     -- all of them
@@ -152,15 +152,15 @@ module _ (me : Me) (s : Serving) (old : Disks) where
         given_are = so_far.given_are;
         begun_are = sym all ∙ so_far.done_are;
         most = subst (λ (n : ℕ). n ≤ turns) so_far.done_are (omega (arith, all));
-        ends = at_last (last_turn me so_far.first s so_far.given) so_far.served_is;
+        ends = at_last (last_iteration me so_far.first s so_far.given) so_far.served_is;
       },
-      λ both. record { turns = so_far.passes both; left = are_left (last_turn me so_far.first s so_far.given) so_far.served_is },
+      λ both. record { turns = so_far.passes both; left = are_left (last_iteration me so_far.first s so_far.given) so_far.served_is },
     )
       where
-        at_last : (x : Result Turn NodeEnd) → (x >>= ended_turn me) ≡ Ok now → Has x (λ (t : Turn). EndsAfter me turns turns t end.TurnsUsed now.outside.clock now.outside.link)
+        at_last : (x : Result Iteration NodeEnd) → (x >>= ended_iteration me) ≡ Ok now → Has x (λ (t : Iteration). EndsAfter me turns turns t end.TurnsUsed now.outside.clock now.outside.link)
         at_last (Ok t) is = (refl, subst (λ (y : Result Serving NodeEnd). Has y (λ (z : Serving). (now.outside.clock ≡ z.outside.clock) × (now.outside.link ≡ z.outside.link))) (sym is) (refl, refl))
         at_last (Err e) is = absurd cc
 
-        are_left : (x : Result Turn NodeEnd) → (x >>= ended_turn me) ≡ Ok now → Has x (λ (t : Turn). Leave disks (IsLeft me t end.TurnsUsed now.outside.link))
-        are_left (Ok t) is = leave_as disks (λ x. x ≡ now.node.store) (IsLeft me t end.TurnsUsed now.outside.link) (λ x e. e ∙ stood_then me t now is) left
+        are_left : (x : Result Iteration NodeEnd) → (x >>= ended_iteration me) ≡ Ok now → Has x (λ (t : Iteration). Leave disks (RemainsAfter me t end.TurnsUsed now.outside.link))
+        are_left (Ok t) is = leave_as disks (λ x. x ≡ now.node.store) (RemainsAfter me t end.TurnsUsed now.outside.link) (λ x e. e ∙ store_view_then me t now is) left
         are_left (Err e) is = absurd cc

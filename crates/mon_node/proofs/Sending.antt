@@ -6,44 +6,44 @@ use Rattle.std.proofs.lemmas.List.{append-nil, take_min, take-append-le, drop_al
 use Rattle.std.specs.List.{AllByRecursion}
 use Rattle.mon_kv.specs.Readers.{epoch}
 use Rattle.std.proofs.Math.Seq.{drop-cons, take-append-add}
-use Rattle.mon_link.specs.Links.{Told, LinkState}
+use Rattle.mon_link.specs.Links.{Observed, LinkState}
 use Rattle.mon_link.specs.declared.link.Outgoing.{Outgoing}
 use Rattle.mon_link.specs.declared.link.Peer.{Peer}
 use Rattle.mon_msg.specs.declared.plan.Sent.{Sent}
 use Rattle.mon_msg.specs.declared.view.Me.{Me}
 use Rattle.mon_tx.specs.Map.{Store}
 use Rattle.mon_types.specs.declared.names.Which.TheVariants as which
-use Rattle.mon_node.specs.Posting.{and_sent, SendsAll, SendsFront, Posts, IsSpent, to_peer, letter, letters, next_behind, next_after, with_number, datagrams_of, datagrams, boot_in}
+use Rattle.mon_node.specs.Posting.{and_sent, SendsAll, SendsPrefix, Posts, IsSpent, to_peer, letter, letters, next_after_message, next_after, with_number, datagrams_of, datagrams, boot_in}
 use Rattle.mon_node.specs.declared.end.NodeEnd.TheVariants as end
 use Rattle.mon_node.specs.declared.end.NodeEnd.{NodeEnd}
 
 -- ---- one after the other
 
-and_none : (t : Told) → t ≡ and_sent [] t
+and_none : (t : Observed) → t ≡ and_sent [] t
 and_none t = ap (λ (ds : List Outgoing). record t { sent = ds }) (sym (append-nil t.sent))
 
-pub none_sent : (o : Option Told) → SendsAll [] o o
+pub none_sent : (o : Option Observed) → SendsAll [] o o
 none_sent None = refl
-none_sent (Some t) = ap (λ (x : Told). Some x) (and_none t)
+none_sent (Some t) = ap (λ (x : Observed). Some x) (and_none t)
 
-both_sent : (ds es : List Outgoing) (o : Option Told) → option_map (and_sent es) (option_map (and_sent ds) o) ≡ option_map (and_sent (ds ++ es)) o
+both_sent : (ds es : List Outgoing) (o : Option Observed) → option_map (and_sent es) (option_map (and_sent ds) o) ≡ option_map (and_sent (ds ++ es)) o
 both_sent ds es None = refl
 both_sent ds es (Some t) = ap (λ (xs : List Outgoing). Some (record t { sent = xs })) (append_assoc t.sent ds es)
 
-pub sent_more : (ds es : List Outgoing) (a b c : Option Told) → SendsAll ds a b → SendsAll es b c → SendsAll (ds ++ es) a c
+pub sent_more : (ds es : List Outgoing) (a b c : Option Observed) → SendsAll ds a b → SendsAll es b c → SendsAll (ds ++ es) a c
 sent_more ds es a b c first then_ = then_ ∙ ap (option_map (and_sent es)) first ∙ both_sent ds es a
 
-front_more : (ds es : List Outgoing) (a b c : Option Told) → SendsAll ds a b → SendsFront es b c → SendsFront (ds ++ es) a c
+front_more : (ds es : List Outgoing) (a b c : Option Observed) → SendsAll ds a b → SendsPrefix es b c → SendsPrefix (ds ++ es) a c
 front_more ds es a b c first (n, h) =
     (length ds + n, sent_more ds (take n es) a b c first h ∙ ap (λ (xs : List Outgoing). option_map (and_sent xs) a) (sym (take-append-add ds es n)))
 
-front_whole : (ds es : List Outgoing) (a b : Option Told) → SendsFront ds a b → SendsFront (ds ++ es) a b
+front_whole : (ds es : List Outgoing) (a b : Option Observed) → SendsPrefix ds a b → SendsPrefix (ds ++ es) a b
 front_whole ds es a b (n, h) =
     let k : ℕ = min n (length ds) in
     let same : take n ds ≡ take k (ds ++ es) = sym (take_min n ds) ∙ sym (take-append-le k ds es (omega arith)) in
     (k, h ∙ ap (λ (xs : List Outgoing). option_map (and_sent xs) a) same)
 
-pub none_in_front : (ds : List Outgoing) (o : Option Told) → SendsFront ds o o
+pub none_in_front : (ds : List Outgoing) (o : Option Observed) → SendsPrefix ds o o
 none_in_front ds o = (0, none_sent o)
 
 -- ---- while some are left
@@ -51,12 +51,12 @@ none_in_front ds o = (0, none_sent o)
 -- Some of them were sent, and these are left.
 pub record IsSending (whole left : List Outgoing) (old now : LinkState) : Type 0 where
   pub done : List Outgoing
-  pub told : SendsAll done old.told now.told
+  pub observed : SendsAll done old.observed now.observed
   pub whole_is : whole ≡ done ++ left
   pub faults : now.faults ≡ old.faults
 
 pub sending : (whole : List Outgoing) (o : LinkState) → IsSending whole whole o o
-sending whole o = record { done = []; told = none_sent o.told; whole_is = refl; faults = refl }
+sending whole o = record { done = []; observed = none_sent o.observed; whole_is = refl; faults = refl }
 
 module _ (whole ds left : List Outgoing) (old now new : LinkState) (so_far : IsSending whole (ds ++ left) old now) where
   whole_as : whole ≡ (so_far.done ++ ds) ++ left
@@ -65,23 +65,23 @@ module _ (whole ds left : List Outgoing) (old now new : LinkState) (so_far : IsS
   pub sends_on : {T E : Type 0} (x : T) → Posts {T = T} {E = E} ds (Ok x) now new → IsSending whole left old new
   sends_on x h = record {
     done = so_far.done ++ ds;
-    told = sent_more so_far.done ds old.told now.told new.told so_far.told h.told;
+    observed = sent_more so_far.done ds old.observed now.observed new.observed so_far.observed h.observed;
     whole_is = whole_as;
     faults = h.faults ∙ so_far.faults;
   }
 
   pub sends_front : {T E U F : Type 0} (e : E) (f : F) → Posts {T = T} {E = E} ds (Err e) now new → Posts {T = U} {E = F} whole (Err f) old new
   sends_front e f h =
-      let front : SendsFront (so_far.done ++ ds) old.told new.told = front_more so_far.done ds old.told now.told new.told so_far.told h.told in
+      let front : SendsPrefix (so_far.done ++ ds) old.observed new.observed = front_more so_far.done ds old.observed now.observed new.observed so_far.observed h.observed in
       record {
-        told = subst (λ (xs : List Outgoing). SendsFront xs old.told new.told) (sym whole_as) (front_whole (so_far.done ++ ds) left old.told new.told front);
+        observed = subst (λ (xs : List Outgoing). SendsPrefix xs old.observed new.observed) (sym whole_as) (front_whole (so_far.done ++ ds) left old.observed new.observed front);
         faults = h.faults ∙ so_far.faults;
       }
 
 -- if the node ends before the rest is sent, a prefix of all of them was sent
 pub sends_none : {U F : Type 0} (whole left : List Outgoing) (old now : LinkState) (f : F) → IsSending whole left old now → Posts {T = U} {E = F} whole (Err f) old now
 sends_none whole left old now f so_far = record {
-  told = subst (λ (xs : List Outgoing). SendsFront xs old.told now.told) (sym so_far.whole_is) (front_whole so_far.done left old.told now.told (length so_far.done, so_far.told ∙ ap (λ (xs : List Outgoing). option_map (and_sent xs) old.told) (sym (all_of so_far.done))));
+  observed = subst (λ (xs : List Outgoing). SendsPrefix xs old.observed now.observed) (sym so_far.whole_is) (front_whole so_far.done left old.observed now.observed (length so_far.done, so_far.observed ∙ ap (λ (xs : List Outgoing). option_map (and_sent xs) old.observed) (sym (all_of so_far.done))));
   faults = so_far.faults;
 }
   where
@@ -91,7 +91,7 @@ sends_none whole left old now f so_far = record {
 
 pub sent_all : {T E : Type 0} (whole : List Outgoing) (old now : LinkState) (x : T) → IsSending whole [] old now → Posts {T = T} {E = E} whole (Ok x) old now
 sent_all whole old now x so_far = record {
-  told = so_far.told ∙ ap (λ (xs : List Outgoing). option_map (and_sent xs) old.told) (sym (so_far.whole_is ∙ append-nil so_far.done));
+  observed = so_far.observed ∙ ap (λ (xs : List Outgoing). option_map (and_sent xs) old.observed) (sym (so_far.whole_is ∙ append-nil so_far.done));
   faults = so_far.faults;
 }
 
@@ -102,10 +102,10 @@ next_item xs k x within is = drop-cons xs k x within ∙ (λ i. sym is i ∷ dro
 
 -- if the node ends before anything is sent, the empty prefix was sent
 pub posts_none : {T E : Type 0} (ds : List Outgoing) (o : LinkState) (e : E) → Posts {T = T} {E = E} ds (Err e) o o
-posts_none ds o e = record { told = none_in_front ds o.told; faults = refl }
+posts_none ds o e = record { observed = none_in_front ds o.observed; faults = refl }
 
 pub posts_as : {T E U F : Type 0} (ds : List Outgoing) (old new : LinkState) (e : E) (f : F) → Posts {T = T} {E = E} ds (Err e) old new → Posts {T = U} {E = F} ds (Err f) old new
-posts_as ds old new e f h = record { told = h.told; faults = h.faults }
+posts_as ds old new e f h = record { observed = h.observed; faults = h.faults }
 
 none_left : {X : Type 0} (xs : List X) (k : ℕ) → length xs ≤ k → drop k xs ≡ []
 none_left xs k past = drop_all k xs past
@@ -132,8 +132,8 @@ or_more : (b : Bool) (n : ℕ) → n ≤ cond b (n + 1) n
 or_more true n = omega arith
 or_more false n = omega arith
 
-next_behind-le : (n len : ℕ) → n ≤ next_behind n len
-next_behind-le n len = or_more (nat_lt 60000 len) n
+next_after_message-le : (n len : ℕ) → n ≤ next_after_message n len
+next_after_message-le n len = or_more (nat_lt 60000 len) n
 
 le_then : (a b c : ℕ) → a ≤ b → b ≤ c → a ≤ c
 le_then a b c h k = omega arith
@@ -143,7 +143,7 @@ lt_then a b c h k = omega arith
 
 pub next_after-le : (n : ℕ) (ls : List Outgoing) → n ≤ next_after n ls
 next_after-le n [] = omega arith
-next_after-le n (l ∷ ls) = le_then n (next_behind n (length l.bytes)) (next_after (next_behind n (length l.bytes)) ls) (next_behind-le n (length l.bytes)) (next_after-le (next_behind n (length l.bytes)) ls)
+next_after-le n (l ∷ ls) = le_then n (next_after_message n (length l.bytes)) (next_after (next_after_message n (length l.bytes)) ls) (next_after_message-le n (length l.bytes)) (next_after-le (next_after_message n (length l.bytes)) ls)
 
 pub spent_on : (n m : ℕ) (e : NodeEnd) → n ≤ m → IsSpent n e → IsSpent m e
 spent_on n m end.OutOfMemory le why = tt
@@ -163,21 +163,21 @@ spent_on n m (end.Full would_be) le why = absurd why
 pub all_numbered : (next : ℕ) (ls : List Outgoing) → next_after next ls ≤ 2 ^ 62 + 1 → with_number next ls ≡ ls
 all_numbered next [] within = refl
 all_numbered next (l ∷ ls) within =
-    let behind : ℕ = next_behind next (length l.bytes) in
+    let behind : ℕ = next_after_message next (length l.bytes) in
     let finds : nat_lt (2 ^ 62 + 1) behind ≡ false = le-ltb (2 ^ 62 + 1) behind (le_then behind (next_after behind ls) (2 ^ 62 + 1) (next_after-le behind ls) within) in
     ap (λ (b : Bool). cond b [] (l ∷ with_number behind ls)) finds ∙ ap (λ (xs : List Outgoing). l ∷ xs) (all_numbered behind ls within)
 
 -- The first k of these were sent under numbers from `first` on, and `next` is the number that is next. What is still to
 -- be sent are the others, up to the first for which no number is left.
-pub record AreLeft (me : Me) (m : Store) (first : ℕ) (out : List Sent) (k next : ℕ) (old now : LinkState) : Type 0 where
+pub record AreSentSoFar (me : Me) (m : Store) (first : ℕ) (out : List Sent) (k next : ℕ) (old now : LinkState) : Type 0 where
   pub sends : IsSending (datagrams (boot_in m) first (with_number first (letters me m out))) (datagrams (boot_in m) next (with_number next (letters me m (drop k out)))) old now
   pub numbers : next_after first (letters me m out) ≡ next_after next (letters me m (drop k out))
   pub most : next ≤ 2 ^ 62 + 1
 
-pub all_left : (me : Me) (m : Store) (first : ℕ) (out : List Sent) (o : LinkState) → first ≤ 2 ^ 62 + 1 → AreLeft me m first out 0 first o o
+pub all_left : (me : Me) (m : Store) (first : ℕ) (out : List Sent) (o : LinkState) → first ≤ 2 ^ 62 + 1 → AreSentSoFar me m first out 0 first o o
 all_left me m first out o most = record { sends = sending (datagrams (boot_in m) first (with_number first (letters me m out))) o; numbers = refl; most = most }
 
-module _ (me : Me) (m : Store) (first : ℕ) (out : List Sent) (k next : ℕ) (old now : LinkState) (so_far : AreLeft me m first out k next old now) where
+module _ (me : Me) (m : Store) (first : ℕ) (out : List Sent) (k next : ℕ) (old now : LinkState) (so_far : AreSentSoFar me m first out k next old now) where
   abbrev all : List Outgoing
   all = datagrams (boot_in m) first (with_number first (letters me m out))
 
@@ -189,7 +189,7 @@ module _ (me : Me) (m : Store) (first : ℕ) (out : List Sent) (k next : ℕ) (o
     letters_are = ap (λ (xs : List Sent). letters me m xs) (next_item out k x within item) ∙ (λ i. sym is i ∷ letters me m (drop (k + 1) out))
 
     abbrev behind : ℕ
-    behind = next_behind next (length l.bytes)
+    behind = next_after_message next (length l.bytes)
 
     abbrev later : List Outgoing
     later = datagrams (boot_in m) behind (with_number behind (letters me m (drop (k + 1) out)))
@@ -205,7 +205,7 @@ module _ (me : Me) (m : Store) (first : ℕ) (out : List Sent) (k next : ℕ) (o
     numbers_are : next_after first (letters me m out) ≡ next_after behind (letters me m (drop (k + 1) out))
     numbers_are = so_far.numbers ∙ ap (next_after next) letters_are
 
-    pub letter_sent : {T E : Type 0} (new : LinkState) (u : T) (n : ℕ) → n ≡ behind → n ≤ 2 ^ 62 + 1 → Posts {T = T} {E = E} (datagrams_of (boot_in m) next l) (Ok u) now new → AreLeft me m first out (k + 1) n old new
+    pub letter_sent : {T E : Type 0} (new : LinkState) (u : T) (n : ℕ) → n ≡ behind → n ≤ 2 ^ 62 + 1 → Posts {T = T} {E = E} (datagrams_of (boot_in m) next l) (Ok u) now new → AreSentSoFar me m first out (k + 1) n old new
     letter_sent new u n n_is most h =
         let finds : nat_lt (2 ^ 62 + 1) behind ≡ false = le-ltb (2 ^ 62 + 1) behind (subst (λ (v : ℕ). v ≤ 2 ^ 62 + 1) n_is most) in
         record {

@@ -3,21 +3,21 @@ use Rattle.std.proofs.Common.{◌≡◌, ℕ, ◌+◌, ◌^◌, ◌<◌, ◌≤�
 use Rattle.std.specs.Prelude.{option_map}
 use Rattle.std.proofs.lemmas.Bool.{lt-ltb, le-ltb}
 use Rattle.mon_kv.specs.Readers.{size_of}
-use Rattle.mon_link.specs.Links.{Told}
+use Rattle.mon_link.specs.Links.{Observed}
 use Rattle.mon_link.specs.declared.link.Outgoing.{Outgoing}
 use Rattle.mon_msg.specs.Protocol.Reaction.{Reaction}
 use Rattle.mon_msg.specs.declared.plan.Sent.{Sent}
 use Rattle.mon_msg.specs.declared.view.Me.{Me}
 use Rattle.mon_store.specs.Checkpoint.{most_size}
-use Rattle.mon_store.specs.Stood.{Stood}
+use Rattle.mon_store.specs.StoreView.{StoreView}
 use Rattle.mon_tx.specs.Map.{Store}
 use Rattle.mon_types.specs.declared.names.Which.TheVariants as which
 use Rattle.mon_types.specs.declared.names.Which.{Which}
 use Rattle.mon_node.specs.Keeping.{Keeps, kept}
 use Rattle.mon_node.specs.Nodes.{Serving}
-use Rattle.mon_node.specs.Posting.{and_sent, datagrams, letters, next_after, with_number, boot_in, SendsFront, SendsAll, IsSpent}
+use Rattle.mon_node.specs.Posting.{and_sent, datagrams, letters, next_after, with_number, boot_in, SendsPrefix, SendsAll, IsSpent}
 use Rattle.mon_node.specs.Serving.{EndsAt, Has, of_input}
-use Rattle.mon_node.specs.Turns.{Turn, map_after, next_number, numbered_by, done, done_within, reacted, reaction_to, ended_turn}
+use Rattle.mon_node.specs.Iterations.{Iteration, map_after, next_number, numbered_by, done, done_within, reacted, reaction_to, ended_iteration}
 use Rattle.mon_node.specs.declared.end.NodeEnd.TheVariants as end
 use Rattle.mon_node.specs.declared.end.NodeEnd.{NodeEnd}
 use Rattle.mon_node.specs.declared.hearing.TimedInput.{TimedInput}
@@ -28,7 +28,7 @@ pub sent_as : (P : Store → List Sent → Type 0) (m n : Store) (out sends : Li
 sent_as P m n out sends maps same h = subst (λ (x : Store). P x sends) maps (subst (λ (xs : List Sent). P m xs) same h)
 
 module _ (me : Me) (s : Serving) (it : TimedInput) where
-  abbrev at_input : Turn
+  abbrev at_input : Iteration
   at_input = record { came = Ok (Some it); serving = s }
 
   -- what a reaction sends whose transaction can be kept
@@ -39,20 +39,20 @@ module _ (me : Me) (s : Serving) (it : TimedInput) where
   abbrev these : List Outgoing
   these = of_input [] if_kept (reaction_to me s.node it)
 
-  none_of_these : SendsFront these s.outside.link s.outside.link
+  none_of_these : SendsPrefix these s.outside.link s.outside.link
   none_of_these = none_in_front these s.outside.link
 
   -- the core stops
   pub stops : (spent : Which) → reaction_to me s.node it ≡ Err spent → EndsAt me at_input (end.Spent spent) s.outside.clock s.outside.link
-  unfolding ended_turn
+  unfolding ended_iteration
   stops spent e = record { cause = ap (reacted me s) e; clock_is = refl; link_is = none_of_these }
 
-  pub wants : EndsAt me at_input end.OutOfMemory s.outside.clock s.outside.link
-  wants = record { cause = tt; clock_is = refl; link_is = none_of_these }
+  pub refusals : EndsAt me at_input end.OutOfMemory s.outside.clock s.outside.link
+  refusals = record { cause = tt; clock_is = refl; link_is = none_of_these }
 
   module _ (r : Reaction) (reacts : reaction_to me s.node it ≡ Ok r) where
-    comes_to : ended_turn me at_input ≡ done_within me s r
-    unfolding ended_turn
+    comes_to : ended_iteration me at_input ≡ done_within me s r
+    unfolding ended_iteration
     comes_to = ap (reacted me s) reacts
 
     -- what follows of the map's size, and of the number after what it sends
@@ -83,7 +83,7 @@ module _ (me : Me) (s : Serving) (it : TimedInput) where
       clock_is = refl;
       link_is = refl;
     }
-    not_kept T m end.OutOfMemory h = wants
+    not_kept T m end.OutOfMemory h = refusals
     not_kept T m end.Closed h = absurd h
     not_kept T m end.TurnsUsed h = absurd h
     not_kept T m end.LinkFault h = absurd h
@@ -101,12 +101,12 @@ module _ (me : Me) (s : Serving) (it : TimedInput) where
       numbered x = datagrams (boot_in x) s.node.next (with_number s.node.next (letters me x r.sends))
 
       -- and not all that it sends goes out
-      sent_front : (link : Option Told) → SendsFront (numbered m) s.outside.link link → SendsFront these s.outside.link link
+      sent_front : (link : Option Observed) → SendsPrefix (numbered m) s.outside.link link → SendsPrefix these s.outside.link link
       sent_front link front =
           let sent : these ≡ numbered_by me s.node r = ap (of_input [] if_kept) reacts ∙ ap (λ (b : Bool). cond b [] (numbered_by me s.node r)) (le-ltb most_size (size_of (map_after s.node r)) fits) in
-          subst (λ (ds : List Outgoing). SendsFront ds s.outside.link link) (ap numbered is ∙ sym sent) front
+          subst (λ (ds : List Outgoing). SendsPrefix ds s.outside.link link) (ap numbered is ∙ sym sent) front
 
-      pub not_sent : (e : NodeEnd) (link : Option Told) → IsSpent (numbers m) e → SendsFront (numbered m) s.outside.link link → EndsAt me at_input e s.outside.clock link
+      pub not_sent : (e : NodeEnd) (link : Option Observed) → IsSpent (numbers m) e → SendsPrefix (numbered m) s.outside.link link → EndsAt me at_input e s.outside.clock link
       not_sent end.OutOfMemory link why front = record { cause = tt; clock_is = refl; link_is = sent_front link front }
       not_sent (end.Spent which.Seq) link why front = record {
         cause = comes_to ∙ past_all fits (subst (λ (n : ℕ). 2 ^ 62 + 1 < n) (ap numbers is) why);
@@ -125,18 +125,18 @@ module _ (me : Me) (s : Serving) (it : TimedInput) where
       not_sent (end.Full would_be) link why front = absurd why
 
       -- or all of it does
-      abbrev with_map : Stood → Store → Serving
-      with_map stood x = record {
-        node = record { state = r.state; store = stood; next = numbers x };
+      abbrev with_map : StoreView → Store → Serving
+      with_map store_view x = record {
+        node = record { state = r.state; store = store_view; next = numbers x };
         outside = record s.outside { link = option_map (and_sent (sends x)) s.outside.link };
       }
 
-      pub all_sent : (stood : Stood) (next : ℕ) (link : Option Told) → stood ≡ kept r.transaction s.node.store → next ≡ numbers m → next ≤ 2 ^ 62 + 1 → SendsAll (numbered m) s.outside.link link
-          → ended_turn me at_input ≡ Ok (record { node = record { state = r.state; store = stood; next = next }; outside = record s.outside { link = link } })
-      all_sent stood next link stands behind within sent =
+      pub all_sent : (store_view : StoreView) (next : ℕ) (link : Option Observed) → store_view ≡ kept r.transaction s.node.store → next ≡ numbers m → next ≤ 2 ^ 62 + 1 → SendsAll (numbered m) s.outside.link link
+          → ended_iteration me at_input ≡ Ok (record { node = record { state = r.state; store = store_view; next = next }; outside = record s.outside { link = link } })
+      all_sent store_view next link stands behind within sent =
           let all : with_number s.node.next (letters me m r.sends) ≡ letters me m r.sends = all_numbered s.node.next (letters me m r.sends) (subst (λ (n : ℕ). n ≤ 2 ^ 62 + 1) behind within) in
           let whole : SendsAll (sends m) s.outside.link link = subst (λ (ls : List Outgoing). SendsAll (datagrams (boot_in m) s.node.next ls) s.outside.link link) all sent in
           comes_to
           ∙ all_within fits (subst (λ (n : ℕ). n ≤ 2 ^ 62 + 1) (behind ∙ ap numbers is) within)
           ∙ (λ i. Ok (with_map (sym stands i) (sym is i)))
-          ∙ (λ i. Ok (record { node = record { state = r.state; store = stood; next = sym behind i }; outside = record s.outside { link = sym whole i } }))
+          ∙ (λ i. Ok (record { node = record { state = r.state; store = store_view; next = sym behind i }; outside = record s.outside { link = sym whole i } }))

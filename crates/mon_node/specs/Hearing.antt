@@ -3,7 +3,7 @@ use Rattle.std.specs.Prelude.{◌≡◌, ℕ, ◌-◌, ◌==◌, ◌&&◌, nat_l
 use Rattle.mon_frag.specs.Keeping.{taken}
 use Rattle.mon_frag.specs.Whole.{answer_in, kept_in}
 use Rattle.mon_link.specs.Clocks.{Readings, reading, after}
-use Rattle.mon_link.specs.Links.{Told, Answers, next_answer, next_leaves}
+use Rattle.mon_link.specs.Links.{Observed, Answers, next_answer, next_leaves}
 use Rattle.mon_link.specs.declared.link.Got.TheVariants.{Datagram, Idle, Closed}
 use Rattle.mon_link.specs.declared.link.Got.{Got}
 use Rattle.mon_link.specs.declared.link.Peer.TheVariants.{Monitor, Client}
@@ -83,8 +83,8 @@ pub record Heard : Type 0 where
   pub came : Result (Option TimedInput) NodeEnd
   pub outside : Outside
 
-abbrev pub at_moment : ℕ → Input → TimedInput
-at_moment now came = record { input = came; at = now }
+abbrev pub at_time : ℕ → Input → TimedInput
+at_time now came = record { input = came; at = now }
 
 -- the clock was read
 abbrev pub clock_read : Outside → Outside
@@ -95,25 +95,25 @@ abbrev pub link_asked : (wait : ℕ) → Result Got Stop → Outside → Outside
 link_asked wait answer o = record o { link = option_map (next_leaves wait answer) o.link }
 
 -- a datagram came: the clock is read again, and the message that is whole with it may be an input
-abbrev pub datagram_came : (n later : ℕ) → Peer → List ℕ → Outside → Heard
-datagram_came n later from bytes o =
+abbrev pub datagram_arrived : (n later : ℕ) → Peer → List ℕ → Outside → Heard
+datagram_arrived n later from bytes o =
     let it = taken o.parts from bytes in
     record {
-      came = Ok (option_map (at_moment later) (input_in n from (answer_in it)));
+      came = Ok (option_map (at_time later) (input_in n from (answer_in it)));
       outside = record (clock_read o) { parts = kept_in o.parts it };
     }
 
-abbrev pub answer_came : (n later : ℕ) → Result Got Stop → Outside → Heard
-answer_came n later (Ok (Datagram from bytes)) o = datagram_came n later from bytes o
-answer_came n later (Ok Idle) o = record { came = Ok None; outside = o }
-answer_came n later (Ok Closed) o = record { came = Err end.Closed; outside = o }
-answer_came n later (Err stop.Failed) o = record { came = Err end.LinkFault; outside = o }
-answer_came n later (Err stop.OutOfMemory) o = record { came = Err end.OutOfMemory; outside = o }
+abbrev pub answer_arrived : (n later : ℕ) → Result Got Stop → Outside → Heard
+answer_arrived n later (Ok (Datagram from bytes)) o = datagram_arrived n later from bytes o
+answer_arrived n later (Ok Idle) o = record { came = Ok None; outside = o }
+answer_arrived n later (Ok Closed) o = record { came = Err end.Closed; outside = o }
+answer_arrived n later (Err stop.Failed) o = record { came = Err end.LinkFault; outside = o }
+answer_arrived n later (Err stop.OutOfMemory) o = record { came = Err end.OutOfMemory; outside = o }
 
 -- a timer that is due is the input, and else the link is asked
 abbrev pub heard_by : Option Timer → (n wait : ℕ) → Given → Outside → Heard
-heard_by (Some t) n wait g o = record { came = Ok (Some (at_moment g.began (input.Timer t))); outside = o }
-heard_by None n wait g o = answer_came n g.later g.answer (link_asked wait g.answer o)
+heard_by (Some t) n wait g o = record { came = Ok (Some (at_time g.began (input.Timer t))); outside = o }
+heard_by None n wait g o = answer_arrived n g.later g.answer (link_asked wait g.answer o)
 
 -- by the timer that comes next, and its time
 abbrev pub heard : (n : ℕ) → Option (Timer × ℕ) → Given → Outside → Heard
@@ -121,7 +121,7 @@ heard n next g o = heard_by (due_by g.began next) n (wait_until g.began next) g 
 
 -- ---- what it is given is what clock and link give, if that can be seen
 
-abbrev pub IsAnswer : Option Told → Result Got Stop → Type 0
+abbrev pub IsAnswer : Option Observed → Result Got Stop → Type 0
 IsAnswer link answer = IfSome link (λ t. Answers answer (next_answer t))
 
 abbrev pub IsReading : Option Readings → ℕ → Type 0

@@ -4,7 +4,7 @@ use Rattle.mon_kv.specs.Readers.{size_of}
 use Rattle.mon_store.specs.Calls.{journal_after}
 use Rattle.mon_store.specs.Checkpoint.{most_size}
 use Rattle.mon_store.specs.Sound.{is_due, next_journal}
-use Rattle.mon_store.specs.Stood.{Stood}
+use Rattle.mon_store.specs.StoreView.{StoreView}
 use Rattle.mon_tx.specs.Map.{Store, apply}
 use Rattle.mon_tx.specs.declared.op.Op.{Op}
 use Rattle.mon_types.specs.Faults.{risen}
@@ -13,16 +13,16 @@ use Rattle.mon_node.specs.declared.end.NodeEnd.TheVariants as end
 use Rattle.mon_node.specs.declared.end.NodeEnd.{NodeEnd}
 
 -- where a store is after a transaction was applied: an empty transaction has no record
-abbrev pub changed : List Op → Stood → Stood
+abbrev pub changed : List Op → StoreView → StoreView
 changed ops s = record { side = s.side; journal = journal_after s.journal ops; kv = apply ops s.kv }
 
 -- where a store is after the checkpoint that is due, if one is
-abbrev pub renewed : Stood → Stood
+abbrev pub renewed : StoreView → StoreView
 renewed s = if is_due s.journal s.kv
     then (record { side = other_side s.side; journal = next_journal s.journal s.kv; kv = s.kv }) else s
 
 -- A transaction is kept: its changes are made, and then the checkpoint that is due, if one is.
-abbrev pub kept : List Op → Stood → Stood
+abbrev pub kept : List Op → StoreView → StoreView
 kept ops s = renewed (changed ops s)
 
 -- The map in memory after a transaction: it has the changes; or it would be too large; or a disk failed, or memory ran

@@ -6,4 +6,4 @@ pub mod Nodes
 pub mod Posting
 pub mod Servers
 pub mod Serving
-pub mod Turns
+pub mod Iterations

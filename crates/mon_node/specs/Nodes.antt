@@ -4,9 +4,9 @@ use Rattle.mon_disk.specs.Calls.{DiskState}
 use Rattle.mon_disk.specs.Images.{Content}
 use Rattle.mon_frag.specs.declared.partial.Partial.{Partial}
 use Rattle.mon_link.specs.Clocks.{Readings}
-use Rattle.mon_link.specs.Links.{Told}
+use Rattle.mon_link.specs.Links.{Observed}
 use Rattle.mon_msg.specs.Protocol.State.{State, booting}
-use Rattle.mon_store.specs.Stood.{Stood}
+use Rattle.mon_store.specs.StoreView.{StoreView}
 use Rattle.mon_store.specs.Whole.{disk_a, disk_b}
 use Rattle.mon_store.specs.declared.store.Store.{Store}
 
@@ -14,7 +14,7 @@ pub record Node : Type 0 where
   -- the state of its core
   pub state : State
   -- the live side, the journal and the map of its store
-  pub store : Stood
+  pub store : StoreView
   -- the number of its next message that is longer than a datagram
   pub next : ℕ
 
@@ -22,24 +22,24 @@ pub record Node : Type 0 where
 pub record Outside : Type 0 where
   pub parts : List Partial
   pub clock : Option Readings
-  pub link : Option Told
+  pub link : Option Observed
 
 pub record Serving : Type 0 where
   pub node : Node
   pub outside : Outside
 
 -- the live side, the journal and the map of a store
-abbrev pub stood_of : {D : Type 0} → Store D → Stood
-stood_of s = record { side = s.side; journal = s.journal; kv = s.kv }
+abbrev pub store_view_of : {D : Type 0} → Store D → StoreView
+store_view_of s = record { side = s.side; journal = s.journal; kv = s.kv }
 
 -- a monitor with this store that isn't started yet
-abbrev pub unstarted : (rank : ℕ) → Stood → Option Readings → Option Told → Serving
-unstarted rank stood clock link = record {
-  node = record { state = booting rank; store = stood; next = 1 };
+abbrev pub unstarted : (rank : ℕ) → StoreView → Option Readings → Option Observed → Serving
+unstarted rank store_view clock link = record {
+  node = record { state = booting rank; store = store_view; next = 1 };
   outside = record { parts = []; clock = clock; link = link };
 }
 
-abbrev pub outside_of : List Partial → Option Readings → Option Told → Outside
+abbrev pub outside_of : List Partial → Option Readings → Option Observed → Outside
 outside_of parts clock link = record { parts = parts; clock = clock; link = link }
 
 -- ---- the two disks

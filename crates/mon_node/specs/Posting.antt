@@ -4,7 +4,7 @@ use Rattle.mon_bounds.specs.Fitting.{answer_in}
 use Rattle.mon_frag.specs.Pieces.{pieces_of}
 use Rattle.mon_frag.specs.declared.cutting.TheConstants.{DATAGRAM}
 use Rattle.mon_kv.specs.Readers.{epoch}
-use Rattle.mon_link.specs.Links.{Told, LinkState}
+use Rattle.mon_link.specs.Links.{Observed, LinkState}
 use Rattle.mon_link.specs.declared.link.Outgoing.{Outgoing}
 use Rattle.mon_link.specs.declared.link.Peer.TheVariants.{Monitor, Client}
 use Rattle.mon_link.specs.declared.link.Peer.{Peer}
@@ -29,13 +29,13 @@ letter me e (sent.Message to m) = to_peer (Monitor to) (text m)
 letter me e (sent.Reply to r) = to_peer (Client to.client) (text (answer_in me e to r))
 
 -- the number that is next after a message of this length: one that is longer than a datagram uses its number up
-abbrev pub next_behind : (next : ℕ) → (len : ℕ) → ℕ
-next_behind next len = if nat_lt DATAGRAM len then next + 1 else next
+abbrev pub next_after_message : (next : ℕ) → (len : ℕ) → ℕ
+next_after_message next len = if nat_lt DATAGRAM len then next + 1 else next
 
 -- the number that is next after all of these were sent
 abbrev pub next_after : ℕ → List Outgoing → ℕ
 next_after next [] = next
-next_after next (l ∷ letters) = next_after (next_behind next (length l.bytes)) letters
+next_after next (l ∷ letters) = next_after (next_after_message next (length l.bytes)) letters
 
 -- the datagrams of one message, and of all in order
 abbrev pub datagrams_of : (boot next : ℕ) → Outgoing → List Outgoing
@@ -44,14 +44,14 @@ datagrams_of boot next l = map (to_peer l.to) (pieces_of l.bytes boot next)
 abbrev pub datagrams : (boot next : ℕ) → List Outgoing → List Outgoing
 datagrams boot next [] = []
 datagrams boot next (l ∷ letters) =
-    datagrams_of boot next l ++ datagrams boot (next_behind next (length l.bytes)) letters
+    datagrams_of boot next l ++ datagrams boot (next_after_message next (length l.bytes)) letters
 
 -- the messages before the first that is longer than a datagram and for which no number is left
 abbrev pub with_number : (next : ℕ) → List Outgoing → List Outgoing
 with_number next [] = []
 with_number next (l ∷ letters) =
-    if nat_lt (2 ^ 62 + 1) (next_behind next (length l.bytes)) then []
-    else l ∷ with_number (next_behind next (length l.bytes)) letters
+    if nat_lt (2 ^ 62 + 1) (next_after_message next (length l.bytes)) then []
+    else l ∷ with_number (next_after_message next (length l.bytes)) letters
 
 -- the messages and replies as bytes, with the epoch of a store; and how often its monitor was started
 abbrev pub letters : Me → Store → List Sent → List Outgoing
@@ -62,23 +62,23 @@ boot_in m = number m area.Monitor key.BootCount
 
 -- ---- what a link is asked to send
 
-abbrev pub and_sent : List Outgoing → Told → Told
+abbrev pub and_sent : List Outgoing → Observed → Observed
 and_sent ds t = record t { sent = t.sent ++ ds }
 
-abbrev pub SendsAll : List Outgoing → Option Told → Option Told → Type 0
+abbrev pub SendsAll : List Outgoing → Option Observed → Option Observed → Type 0
 SendsAll ds old new = new ≡ option_map (and_sent ds) old
 
 -- a prefix of them
-abbrev pub SendsFront : List Outgoing → Option Told → Option Told → Type 0
-SendsFront ds old new = (n : ℕ) × SendsAll (take n ds) old new
+abbrev pub SendsPrefix : List Outgoing → Option Observed → Option Observed → Type 0
+SendsPrefix ds old new = (n : ℕ) × SendsAll (take n ds) old new
 
-abbrev pub SendsBy : {T E : Type 0} → List Outgoing → Result T E → Option Told → Option Told → Type 0
+abbrev pub SendsBy : {T E : Type 0} → List Outgoing → Result T E → Option Observed → Option Observed → Type 0
 SendsBy ds (Ok x) old new = SendsAll ds old new
-SendsBy ds (Err e) old new = SendsFront ds old new
+SendsBy ds (Err e) old new = SendsPrefix ds old new
 
 -- All of these datagrams were sent, or a prefix of them if the node ended. No fault is counted.
 pub record Posts {T E : Type 0} (ds : List Outgoing) (result : Result T E) (old new : LinkState) : Type 0 where
-  pub told : SendsBy ds result old.told new.told
+  pub observed : SendsBy ds result old.observed new.observed
   pub faults : new.faults ≡ old.faults
 
 -- why not all of them were: the number of the next one passes the greatest, or memory ran out

@@ -1,10 +1,10 @@
 //! What an iteration hears: a timer that is due, or what the link returns.
 
 ghost use Rattle.std.specs.Prelude.{◌≡◌, ℕ, Result, IfOk, IfSome, OnOk};
-ghost use Rattle.mon_bounds.specs.Fitting.{MayCome};
+ghost use Rattle.mon_bounds.specs.Fitting.{IsValidInput};
 ghost use Rattle.mon_frag.specs.Keeping.{taken};
 ghost use Rattle.mon_frag.specs.Whole.{answer_in, kept_in};
-ghost use Rattle.mon_node.specs.Hearing.{due_by, wait_until, input_in, Given, AreAnswers, IsGiven, Hears, answer_came, link_asked, heard, faults_by};
+ghost use Rattle.mon_node.specs.Hearing.{due_by, wait_until, input_in, Given, AreAnswers, IsGiven, Hears, answer_arrived, link_asked, heard, faults_by};
 ghost use Rattle.mon_node.specs.Nodes.{outside_of};
 ghost use Rattle.mon_link.specs.declared.link.Got.{Got as gots};
 ghost use Rattle.mon_types.specs.declared.names.Stop.{Stop as stops};
@@ -66,7 +66,7 @@ fn brought(
     ensures input { IfOk result
         (λ came. came ≡ input_in monitors from.now (answer_in (taken assembly.old from.now datagram.now))) }
     ensures kept { OnOk result (assembly.new ≡ kept_in assembly.old (taken assembly.old from.now datagram.now)) }
-    ensures comes { IfOk result (λ came. IfSome came MayCome) }
+    ensures comes { IfOk result (λ came. IfSome came IsValidInput) }
 {
     if is_whole(datagram) {
         return read(alloc, monitors, from, datagram);
@@ -87,11 +87,11 @@ fn ask<L: Link, C: Clock>(
     clock: &mut C,
     wait: u64,
 ) -> Result<Option<TimedInput>, NodeEnd>
-    ensures heard { let old = outside_of assembly.old (C.left clock.old) (L.state link.old).told in
+    ensures heard { let old = outside_of assembly.old (C.left clock.old) (L.state link.old).observed in
         (answer : Result gots stops) × (later : ℕ) × AreAnswers old answer later
-        × Hears (answer_came monitors later answer (link_asked wait answer old)) result
-        (outside_of assembly.new (C.left clock.new) (L.state link.new).told) }
-    ensures comes { IfOk result (λ came. IfSome came (λ it. MayCome it.input)) }
+        × Hears (answer_arrived monitors later answer (link_asked wait answer old)) result
+        (outside_of assembly.new (C.left clock.new) (L.state link.new).observed) }
+    ensures comes { IfOk result (λ came. IfSome came (λ it. IsValidInput it.input)) }
     ensures faults { (L.state link.new).faults ≡ faults_by result (L.state link.old).faults }
 {
     match link.next(wait) {
@@ -119,11 +119,11 @@ pub(crate) fn hear<L: Link, C: Clock>(
     link: &mut L,
     clock: &mut C,
 ) -> Result<Option<TimedInput>, NodeEnd>
-    ensures heard { let old = outside_of assembly.old (C.left clock.old) (L.state link.old).told in
+    ensures heard { let old = outside_of assembly.old (C.left clock.old) (L.state link.old).observed in
         (g : Given) × IsGiven next.now g old
         × Hears (heard monitors next.now g old) result
-        (outside_of assembly.new (C.left clock.new) (L.state link.new).told) }
-    ensures comes { IfOk result (λ came. IfSome came (λ it. MayCome it.input)) }
+        (outside_of assembly.new (C.left clock.new) (L.state link.new).observed) }
+    ensures comes { IfOk result (λ came. IfSome came (λ it. IsValidInput it.input)) }
     ensures faults { (L.state link.new).faults ≡ faults_by result (L.state link.old).faults }
 {
     let began = clock.now();

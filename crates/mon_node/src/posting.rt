@@ -4,11 +4,11 @@ ghost use Rattle.std.specs.Prelude.{◌≡◌, ◌≤◌, ◌<◌, ◌+◌, ◌^
 ghost use Rattle.std.specs.List.{AllByRecursion};
 ghost use Rattle.mon_bounds.specs.Fitting.{MaySend};
 ghost use Rattle.mon_bytes.specs.declared.limits.TheConstants.{MOST_MESSAGE};
-ghost use Rattle.mon_core.specs.Reacts.{TellsNamed};
+ghost use Rattle.mon_core.specs.Reacts.{SendsNamed};
 ghost use Rattle.mon_types.specs.declared.names.Which.TheVariants as number;
 ghost use Rattle.mon_wire.specs.Message.Whole.{HasText, text};
 ghost use Rattle.mon_wire.specs.declared.body.Body.TheVariants as body;
-ghost use Rattle.mon_node.specs.Posting.{Posts, to_peer, letter, letters, next_behind, next_after, with_number, datagrams_of, datagrams, boot_in, IsSpent};
+ghost use Rattle.mon_node.specs.Posting.{Posts, to_peer, letter, letters, next_after_message, next_after, with_number, datagrams_of, datagrams, boot_in, IsSpent};
 
 use crate::end::NodeEnd;
 use mon_bounds::law_message_fits;
@@ -45,9 +45,10 @@ fn send_each<L: Link>(link: &mut L, to: &Peer, datagrams: &[Bytes]) -> Result<()
 fn numbered(next: &mut u64, len: usize) -> Result<u64, NodeEnd>
     requires { next.old ≤ 2 ^ 62 + 1 }
     ensures number { IfOk result (λ number. number ≡ next.old) }
-    ensures behind { OnOk result (next.new ≡ next_behind next.old len) }
+    ensures behind { OnOk result (next.new ≡ next_after_message next.old len) }
     ensures most { OnOk result (next.new ≤ 2 ^ 62 + 1) }
-    ensures spent { IfErr result (λ end. (end ≡ NodeEnd.Spent number.Seq) × (2 ^ 62 + 1 < next_behind next.old len)) }
+    ensures spent { IfErr result (λ end. (end ≡ NodeEnd.Spent number.Seq)
+        × (2 ^ 62 + 1 < next_after_message next.old len)) }
 {
     let number = *next;
     if len > DATAGRAM {
@@ -70,10 +71,11 @@ fn send_letter<L: Link>(
     requires short { length letter.now.bytes ≤ MOST_MESSAGE }
     requires next { next.old ≤ 2 ^ 62 + 1 }
     ensures posts { Posts (datagrams_of boot next.old letter.now) result (L.state link.old) (L.state link.new) }
-    ensures behind { OnOk result (next.new ≡ next_behind next.old (length letter.now.bytes)) }
+    ensures behind { OnOk result (next.new ≡ next_after_message next.old (length letter.now.bytes)) }
     ensures most { OnOk result (next.new ≤ 2 ^ 62 + 1) }
-    ensures spent { IfErr result (IsSpent (next_behind next.old (length letter.now.bytes))) }
-    ensures unsent { 2 ^ 62 + 1 < next_behind next.old (length letter.now.bytes) → L.state link.new ≡ L.state link.old }
+    ensures spent { IfErr result (IsSpent (next_after_message next.old (length letter.now.bytes))) }
+    ensures unsent { 2 ^ 62 + 1 < next_after_message next.old (length letter.now.bytes)
+        → L.state link.new ≡ L.state link.old }
 {
     let bytes = letter.bytes.as_slice();
     let number = numbered(next, bytes.len())?;
@@ -118,7 +120,7 @@ fn answer_in(me: &Me, epoch: Epoch, id: u64, reply: Reply) -> Message
 /// A message or a reply that is sent: its receiver, and the bytes of its message.
 fn letter(alloc: Global, me: &Me, epoch: Epoch, sent: Sent) -> Result<Outgoing, OutOfMemory>
     requires may { MaySend me.now sent }
-    requires named { TellsNamed sent }
+    requires named { SendsNamed sent }
     ensures letter { IfOk result (λ l. l ≡ letter me.now epoch sent) }
     ensures short { IfOk result (λ l. length l.bytes ≤ MOST_MESSAGE) }
 {
@@ -149,7 +151,7 @@ pub(crate) fn send_all<L: Link>(
     out: Items<Sent>,
 ) -> Result<(), NodeEnd>
     requires may { AllByRecursion (MaySend me.now) out }
-    requires named { AllByRecursion TellsNamed out }
+    requires named { AllByRecursion SendsNamed out }
     requires next { next.old ≤ 2 ^ 62 + 1 }
     ensures posts { Posts (datagrams (boot_in kv.now) next.old (with_number next.old (letters me.now kv.now out)))
         result (L.state link.old) (L.state link.new) }

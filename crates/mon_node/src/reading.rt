@@ -1,7 +1,7 @@
 //! What bytes from a peer are to a monitor.
 
 ghost use Rattle.std.specs.Prelude.{◌≡◌, IfOk, IfSome};
-ghost use Rattle.mon_bounds.specs.Fitting.{MayCome};
+ghost use Rattle.mon_bounds.specs.Fitting.{IsValidInput};
 ghost use Rattle.mon_wire.specs.Message.Whole.{HasText, message_of};
 ghost use Rattle.mon_node.specs.Hearing.{is_request, from_client, from_monitor, input_of, input_read};
 
@@ -24,7 +24,7 @@ fn is_request(body: &Body) -> bool
 fn from_client(client: u32, message: Message) -> Option<Input>
     requires { HasText message }
     ensures input { result ≡ from_client client message.body }
-    ensures comes { IfSome result MayCome }
+    ensures comes { IfSome result IsValidInput }
 {
     match message.body {
         Body::Request { id, request } => Some(Input::Client(Session { client, id }, request)),
@@ -39,7 +39,7 @@ fn from_client(client: u32, message: Message) -> Option<Input>
 fn from_monitor(rank: Rank, message: Message) -> Option<Input>
     requires { HasText message }
     ensures input { result ≡ from_monitor rank message }
-    ensures comes { IfSome result MayCome }
+    ensures comes { IfSome result IsValidInput }
 {
     law_message_fits();
     if message.from == rank && !is_request(&message.body) {
@@ -54,7 +54,7 @@ fn from_monitor(rank: Rank, message: Message) -> Option<Input>
 fn input_of(monitors: u8, from: &Peer, message: Message) -> Option<Input>
     requires { HasText message }
     ensures input { result ≡ input_of monitors from.now message }
-    ensures comes { IfSome result MayCome }
+    ensures comes { IfSome result IsValidInput }
 {
     if message.monitors != monitors {
         drop(message);
@@ -74,7 +74,7 @@ pub(crate) fn read(
     bytes: &[u8],
 ) -> Result<Option<Input>, OutOfMemory>
     ensures input { IfOk result (λ came. came ≡ input_read monitors from.now (message_of bytes.now)) }
-    ensures comes { IfOk result (λ came. IfSome came MayCome) }
+    ensures comes { IfOk result (λ came. IfSome came IsValidInput) }
 {
     match decode(alloc, bytes) {
         Ok(message) => Ok(input_of(monitors, from, message)),

@@ -1,17 +1,17 @@
 //! A node in use.
 
 ghost use Rattle.std.specs.Prelude.{◌≡◌, false, Some, Ok, Option, OnOk, IfErr};
-ghost use Rattle.mon_bounds.specs.Fitting.{MayCome};
+ghost use Rattle.mon_bounds.specs.Fitting.{IsValidInput};
 ghost use Rattle.mon_link.specs.Clocks.{Readings};
-ghost use Rattle.mon_link.specs.Links.{Told};
+ghost use Rattle.mon_link.specs.Links.{Observed};
 ghost use Rattle.mon_msg.specs.Protocol.Timers.{due};
 ghost use Rattle.mon_store.specs.Whole.{IsSound, disk_a, disk_b};
-ghost use Rattle.mon_node.specs.Hearing.{Given, IsGiven, at_moment, faults_by};
+ghost use Rattle.mon_node.specs.Hearing.{Given, IsGiven, at_time, faults_by};
 ghost use Rattle.mon_node.specs.Keeping.{DisksCount};
-ghost use Rattle.mon_node.specs.Lasting.{BothTell, PassTurn};
-ghost use Rattle.mon_node.specs.Nodes.{unstarted, stood_of, disks_of};
-ghost use Rattle.mon_node.specs.Serving.{EndsTurn, IsOfInput};
-ghost use Rattle.mon_node.specs.Turns.{turn};
+ghost use Rattle.mon_node.specs.Lasting.{BothVisible, PassIteration};
+ghost use Rattle.mon_node.specs.Nodes.{unstarted, store_view_of, disks_of};
+ghost use Rattle.mon_node.specs.Serving.{EndsIteration, IsOfInput};
+ghost use Rattle.mon_node.specs.Iterations.{iteration};
 
 use crate::end::{NodeEnd, Served};
 use crate::hearing::hear;
@@ -59,8 +59,8 @@ impl<D: Disk> Server<D> {
         ensures in_use { IsInUse D.state result }
         ensures me { result.me ≡ me.now }
         ensures store { result.store ≡ store }
-        ensures serving { (clock : Option Readings) (link : Option Told)
-            → serving_of result clock link ≡ unstarted me.now.member.rank (stood_of store) clock link }
+        ensures serving { (clock : Option Readings) (link : Option Observed)
+            → serving_of result clock link ≡ unstarted me.now.member.rank (store_view_of store) clock link }
     {
         Server {
             alloc,
@@ -80,20 +80,21 @@ impl<D: Disk> Server<D> {
         now: Moment,
     ) -> Result<(), NodeEnd>
         requires in_use { IsInUse D.state self.old }
-        requires comes { MayCome input.now }
+        requires comes { IsValidInput input.now }
         ensures in_use { OnOk result (IsInUse D.state self.new) }
         ensures me { self.new.me ≡ self.old.me }
-        ensures ends { (clock : Option Readings) → EndsTurn self.old.me
-            (record { came = Ok (Some (at_moment now input.now)); serving = serving_of self.old clock (L.state link.old).told })
-            result (serving_of self.new clock (L.state link.new).told) }
+        ensures ends { (clock : Option Readings) → EndsIteration self.old.me
+            (record { came = Ok (Some (at_time now input.now)); serving = serving_of self.old clock (L.state link.old).observed })
+            result (serving_of self.new clock (L.state link.new).observed) }
         ensures kind { IfErr result IsOfInput }
         ensures faults { (L.state link.new).faults ≡ (L.state link.old).faults }
         ensures counts { DisksCount result (D.state (disk_a self.old.store)).faults
             (D.state (disk_b self.old.store)).faults
             (D.state (disk_a self.new.store)).faults (D.state (disk_b self.new.store)).faults }
-        ensures passes { (clock : Option Readings) → BothTell (disks_of D.state self.old.store) → PassTurn self.old.me
-            (record { came = Ok (Some (at_moment now input.now)); serving = serving_of self.old clock (L.state link.old).told })
-            result (L.state link.new).told (disks_of D.state self.old.store) (disks_of D.state self.new.store) }
+        ensures passes { (clock : Option Readings) → BothVisible (disks_of D.state self.old.store)
+            → PassIteration self.old.me
+            (record { came = Ok (Some (at_time now input.now)); serving = serving_of self.old clock (L.state link.old).observed })
+            result (L.state link.new).observed (disks_of D.state self.old.store) (disks_of D.state self.new.store) }
     {
         let reaction = self.core.react(self.alloc, self.store.kv(), input, now)?;
         keep(&mut self.store, &reaction.tx)?;
@@ -110,7 +111,7 @@ impl<D: Disk> Server<D> {
     }
 
     /// Makes one iteration.
-    pub(crate) fn turn<L: Link, C: Clock>(
+    pub(crate) fn iteration<L: Link, C: Clock>(
         &mut self,
         link: &mut L,
         clock: &mut C,
@@ -118,12 +119,13 @@ impl<D: Disk> Server<D> {
         requires in_use { IsInUse D.state self.old }
         ensures in_use { OnOk result (IsInUse D.state self.new) }
         ensures me { self.new.me ≡ self.old.me }
-        ensures turn { let old = serving_of self.old (C.left clock.old) (L.state link.old).told in
+        ensures iteration { let old = serving_of self.old (C.left clock.old) (L.state link.old).observed in
             let disks = disks_of D.state self.old.store in
             (g : Given) × IsGiven (due self.old.core.state.timers) g old.outside
-            × EndsTurn self.old.me (turn self.old.me g old) result
-            (serving_of self.new (C.left clock.new) (L.state link.new).told)
-            × (BothTell disks → PassTurn self.old.me (turn self.old.me g old) result (L.state link.new).told disks
+            × EndsIteration self.old.me (iteration self.old.me g old) result
+            (serving_of self.new (C.left clock.new) (L.state link.new).observed)
+            × (BothVisible disks → PassIteration self.old.me (iteration self.old.me g old) result
+            (L.state link.new).observed disks
             (disks_of D.state self.new.store)) }
         ensures faults { (L.state link.new).faults ≡ faults_by result (L.state link.old).faults }
         ensures counts { DisksCount result (D.state (disk_a self.old.store)).faults

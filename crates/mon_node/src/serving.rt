@@ -1,8 +1,8 @@
 ghost use Rattle.std.specs.Prelude.{◌≡◌, ℕ, List, false};
 ghost use Rattle.mon_node.specs.Hearing.{Given, faults_at};
 ghost use Rattle.mon_node.specs.Keeping.{DisksCountAt};
-ghost use Rattle.mon_node.specs.Lasting.{BothTell, StandsThrough};
-ghost use Rattle.mon_node.specs.Nodes.{unstarted, stood_of, disks, disks_of};
+ghost use Rattle.mon_node.specs.Lasting.{BothVisible, StandsThrough};
+ghost use Rattle.mon_node.specs.Nodes.{unstarted, store_view_of, disks, disks_of};
 ghost use Rattle.mon_node.specs.Serving.{Serves};
 ghost use Rattle.mon_store.specs.Whole.{IsSound, disk_a, disk_b};
 
@@ -45,13 +45,14 @@ pub fn serve<D: Disk, L: Link, C: Clock>(
 
     // What clock and link gave to each iteration determines all results, and what a crash leaves of two disks whose
     // contents can be seen.
-    ensures serves { let start = unstarted member.rank (stood_of store) (C.left clock.old) (L.state link.old).told in
+    ensures serves { let start = unstarted member.rank (store_view_of store) (C.left clock.old)
+        (L.state link.old).observed in
         let old = disks_of D.state store in let new = disks D.state result.disks.a result.disks.b in
         (first : ℕ) × (given : List Given)
         × Serves (record { member = member; rule = rule }) start turns result.end result.turns (C.left clock.new)
-        (L.state link.new).told first given
-        × (BothTell old → StandsThrough (record { member = member; rule = rule }) first start given result.end
-        (L.state link.new).told old new) }
+        (L.state link.new).observed first given
+        × (BothVisible old → StandsThrough (record { member = member; rule = rule }) first start given result.end
+        (L.state link.new).observed old new) }
 
     ensures faults { (L.state link.new).faults ≡ faults_at result.end (L.state link.old).faults }
     ensures counts { DisksCountAt result.end
@@ -64,7 +65,7 @@ pub fn serve<D: Disk, L: Link, C: Clock>(
         return server.end(end, 0);
     }
     for done in 0..turns {
-        if let Err(end) = server.turn(link, clock) {
+        if let Err(end) = server.iteration(link, clock) {
             return server.end(end, done + 1);
         }
     }

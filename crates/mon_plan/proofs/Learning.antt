@@ -7,7 +7,7 @@ use Rattle.mon_tx.specs.Puts.{put_number}
 use Rattle.mon_tx.specs.declared.key.Area.TheVariants as area
 use Rattle.mon_tx.specs.declared.key.Key.TheVariants as key
 use Rattle.mon_tx.specs.declared.op.Op.{Op}
-use Rattle.mon_msg.specs.Protocol.Changes.{Learn, Last, Record, Copy, ops_of, spelled}
+use Rattle.mon_msg.specs.Protocol.Changes.{Learn, Last, Record, Copy, ops_of, encoded}
 use Rattle.mon_msg.specs.Protocol.Chunks.{record_changes, copy_changes}
 use Rattle.mon_msg.specs.Protocol.Course.{Course}
 use Rattle.mon_msg.specs.Protocol.Learning.{learn_changes, learn}
@@ -15,7 +15,7 @@ use Rattle.mon_msg.specs.Protocol.Played.{Fits}
 use Rattle.mon_types.specs.declared.names.Which.TheVariants as which
 use Rattle.mon_plan.specs.Learned.{learned}
 use Rattle.mon_plan.specs.Plans.{changed}
-use Rattle.mon_plan.proofs.Planning.{changes-append, spelled-append, fit-append}
+use Rattle.mon_plan.proofs.Planning.{changes-append, encoded-append, fit-append}
 
 pub learn-done : (v : ℕ) (value : List Op) (values : List (List Op)) (x : Course) → v + length values ≤ 2 ^ 62 → learn v (value ∷ values) x ≡ Ok (changed (learned v (value ∷ values)) x)
 unfolding learn
@@ -46,22 +46,22 @@ copies-fit (entry ∷ entries) = (tt, copies-fit entries)
 -- ---- one value more
 
 pub learned-next : (tx old : List Op) (v i : ℕ) (values : List (List Op)) (value : List Op) → i < length values → value ≡ get_or values i value
-    → tx ++ spelled (learn_changes v (drop i values)) ≡ old → (tx ++ ops_of (Learn v value)) ++ spelled (learn_changes (v + 1) (drop (i + 1) values)) ≡ old
+    → tx ++ encoded (learn_changes v (drop i values)) ≡ old → (tx ++ ops_of (Learn v value)) ++ encoded (learn_changes (v + 1) (drop (i + 1) values)) ≡ old
 learned-next tx old v i values value lt is h =
     let cells : drop i values ≡ value ∷ drop (suc i) values = drop-cons values i value lt ∙ ap (λ x. x ∷ drop (suc i) values) (sym is) in
-    rw (add-one, add-one) (append_assoc tx (ops_of (Learn v value)) (spelled (learn_changes (suc v) (drop (suc i) values))) ∙ sym (ap (λ vs. tx ++ spelled (learn_changes v vs)) cells) ∙ h)
+    rw (add-one, add-one) (append_assoc tx (ops_of (Learn v value)) (encoded (learn_changes (suc v) (drop (suc i) values))) ∙ sym (ap (λ vs. tx ++ encoded (learn_changes v vs)) cells) ∙ h)
 
 pub records-next : (tx old : List Op) (v i : ℕ) (values : List (List Op)) (value : List Op) → i < length values → value ≡ get_or values i value
-    → tx ++ spelled (record_changes v (drop i values)) ≡ old → (tx ++ ops_of (Record v value)) ++ spelled (record_changes (v + 1) (drop (i + 1) values)) ≡ old
+    → tx ++ encoded (record_changes v (drop i values)) ≡ old → (tx ++ ops_of (Record v value)) ++ encoded (record_changes (v + 1) (drop (i + 1) values)) ≡ old
 records-next tx old v i values value lt is h =
     let cells : drop i values ≡ value ∷ drop (suc i) values = drop-cons values i value lt ∙ ap (λ x. x ∷ drop (suc i) values) (sym is) in
-    rw (add-one, add-one) (append_assoc tx (ops_of (Record v value)) (spelled (record_changes (suc v) (drop (suc i) values))) ∙ sym (ap (λ vs. tx ++ spelled (record_changes v vs)) cells) ∙ h)
+    rw (add-one, add-one) (append_assoc tx (ops_of (Record v value)) (encoded (record_changes (suc v) (drop (suc i) values))) ∙ sym (ap (λ vs. tx ++ encoded (record_changes v vs)) cells) ∙ h)
 
 pub copies-next : (tx old : List Op) (i : ℕ) (entries : List Entry) (entry : Entry) → i < length entries → entry ≡ get_or entries i entry
-    → tx ++ spelled (copy_changes (drop i entries)) ≡ old → (tx ++ ops_of (Copy entry)) ++ spelled (copy_changes (drop (i + 1) entries)) ≡ old
+    → tx ++ encoded (copy_changes (drop i entries)) ≡ old → (tx ++ ops_of (Copy entry)) ++ encoded (copy_changes (drop (i + 1) entries)) ≡ old
 copies-next tx old i entries entry lt is h =
     let cells : drop i entries ≡ entry ∷ drop (suc i) entries = drop-cons entries i entry lt ∙ ap (λ x. x ∷ drop (suc i) entries) (sym is) in
-    rw add-one (append_assoc tx (ops_of (Copy entry)) (spelled (copy_changes (drop (suc i) entries))) ∙ sym (ap (λ es. tx ++ spelled (copy_changes es)) cells) ∙ h)
+    rw add-one (append_assoc tx (ops_of (Copy entry)) (encoded (copy_changes (drop (suc i) entries))) ∙ sym (ap (λ es. tx ++ encoded (copy_changes es)) cells) ∙ h)
 
 -- ---- by the number of values
 
@@ -85,14 +85,14 @@ pub learns-fit : (v : ℕ) (values : List (List Op)) → 1 ≤ v → v - 1 + len
 learns-fit v [] low short = tt
 learns-fit v (value ∷ values) low short = fit-append (learn_changes v (value ∷ values)) (Last (v + length values) ∷ []) (learned-fit v (value ∷ values)) (omega arith, tt)
 
-pub learns-spelled : (old tx new : List Op) (v last : ℕ) (values : List (List Op)) → 1 ≤ v → false ≡ eqb (length values) 0 → last ≡ v - 1 + length values → tx ≡ old ++ spelled (learn_changes v values)
-    → new ≡ tx ++ put_number area.Paxos key.LastCommitted last ∷ [] → new ≡ old ++ spelled (learned v values)
-learns-spelled old tx new v last [] low h is e f = let t : true ≡ false = sym h in absurd cc
-learns-spelled old tx new v last (value ∷ values) low h is e f =
+pub learns-encoded : (old tx new : List Op) (v last : ℕ) (values : List (List Op)) → 1 ≤ v → false ≡ eqb (length values) 0 → last ≡ v - 1 + length values → tx ≡ old ++ encoded (learn_changes v values)
+    → new ≡ tx ++ put_number area.Paxos key.LastCommitted last ∷ [] → new ≡ old ++ encoded (learned v values)
+learns-encoded old tx new v last [] low h is e f = let t : true ≡ false = sym h in absurd cc
+learns-encoded old tx new v last (value ∷ values) low h is e f =
     let n : last ≡ v + length values = omega arith in
-    f ∙ ap (λ ops. ops ++ put_number area.Paxos key.LastCommitted last ∷ []) e ∙ append_assoc old (spelled (learn_changes v (value ∷ values))) (put_number area.Paxos key.LastCommitted last ∷ [])
-    ∙ ap (λ n. old ++ (spelled (learn_changes v (value ∷ values)) ++ put_number area.Paxos key.LastCommitted n ∷ [])) n
-    ∙ ap (λ ops. old ++ ops) (sym (spelled-append (learn_changes v (value ∷ values)) (Last (v + length values) ∷ [])))
+    f ∙ ap (λ ops. ops ++ put_number area.Paxos key.LastCommitted last ∷ []) e ∙ append_assoc old (encoded (learn_changes v (value ∷ values))) (put_number area.Paxos key.LastCommitted last ∷ [])
+    ∙ ap (λ n. old ++ (encoded (learn_changes v (value ∷ values)) ++ put_number area.Paxos key.LastCommitted n ∷ [])) n
+    ∙ ap (λ ops. old ++ ops) (sym (encoded-append (learn_changes v (value ∷ values)) (Last (v + length values) ∷ [])))
 
 -- what isn't at most a number is above it
 pub above : (n m : ℕ) → (n ≤ m → false ≡ true) → m < n

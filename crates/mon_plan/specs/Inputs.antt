@@ -11,11 +11,11 @@ use Rattle.mon_msg.specs.declared.view.Me.{Me}
 use Rattle.mon_types.specs.declared.names.Which.{Which}
 
 -- a message among n monitors isn't longer than one that may be sent
-abbrev pub may_come : (n : ℕ) → Input → Bool
-may_come n (input.Deliver m) = fits n m.body
-may_come n input.Start = true
-may_come n (input.Timer t) = true
-may_come n (input.Client session r) = true
+abbrev pub input_is_short : (n : ℕ) → Input → Bool
+input_is_short n (input.Deliver m) = fits n m.body
+input_is_short n input.Start = true
+input_is_short n (input.Timer t) = true
+input_is_short n (input.Client session r) = true
 
 -- the row of an input: of a message that is heard, and of a timer that is disarmed already
 abbrev pub row : Me → (shared : List Entry) → (now : ℕ) → Input → Course → Result Course Which

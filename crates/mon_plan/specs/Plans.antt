@@ -1,7 +1,7 @@
 -- What a role's plan does to an event under way, and the act that it names.
 use Rattle.std.specs.List.{AllByRecursion}
 use Rattle.std.specs.Prelude.{◌≡◌, ℕ, Bool, true, not, List, Option, Some, None, Result, Ok, Err, if◌then◌else◌, [], ◌∷◌, slice_set}
-use Rattle.mon_msg.specs.Protocol.Changes.{Change, spelled}
+use Rattle.mon_msg.specs.Protocol.Changes.{Change, encoded}
 use Rattle.mon_msg.specs.Protocol.Collecting.{reign}
 use Rattle.mon_msg.specs.Protocol.Course.{Course, ◌▸◌, change_all, say, leader_is, peon_is, timers_are, forget_clients, in_phase}
 use Rattle.mon_msg.specs.Protocol.Entering.{bootstrap, elect}
@@ -115,7 +115,7 @@ module _ {S : Type 0} (me : Me) (now : ℕ) (is : S → Course → Course) (Befo
   pub record Does (p : Plan S) : Type 0 where
     pub changes : List Change
     pub fit : AllByRecursion Fits changes
-    pub spelled : p.tx ≡ spelled changes
+    pub encoded : p.tx ≡ encoded changes
     pub row : (x : Course) → Before x → wanted x ≡ act me now p.next (done is changes p (start x))
 
   -- A call returned such a plan, or `Spent` with the number that runs out in what is wanted, or memory ran out.

@@ -3,7 +3,7 @@
 ghost use Rattle.std.specs.Prelude.{◌≡◌, [], ◌∷◌, ◌++◌, ◌+◌, ◌≤◌, ◌^◌, length, IfOk, OnOk};
 ghost use Rattle.std.specs.List.{AllByRecursion};
 ghost use Rattle.mon_tx.specs.Text.{text, most};
-ghost use Rattle.mon_msg.specs.Protocol.Changes.{Boot, Epoch, Numbers, Promise, Vote, Record, Learn, Copy, Last, Mark, Unmark, ops_of, spelled, erase_all, put_back};
+ghost use Rattle.mon_msg.specs.Protocol.Changes.{Boot, Epoch, Numbers, Promise, Vote, Record, Learn, Copy, Last, Mark, Unmark, ops_of, encoded, erase_all, put_back};
 ghost use Rattle.mon_msg.specs.Protocol.Chunks.{record_changes, copy_changes};
 ghost use Rattle.mon_msg.specs.Protocol.Learning.{learn_changes};
 ghost use Rattle.mon_msg.specs.Protocol.Played.{Fits};
@@ -115,7 +115,7 @@ pub fn put_records(
 ) -> Result<(), OutOfMemory>
     requires short { AllByRecursion (λ ops. length (text ops) ≤ most) values.now }
     requires room { from + length values.now ≤ 2 ^ 63 }
-    ensures changes { OnOk result (tx.new ≡ tx.old ++ spelled (record_changes from values.now)) }
+    ensures changes { OnOk result (tx.new ≡ tx.old ++ encoded (record_changes from values.now)) }
     ensures fit { AllByRecursion Fits (record_changes from values.now) }
 {
     let mut v = from;
@@ -128,7 +128,7 @@ pub fn put_records(
 
 /// Writes entries that a full synchronization copies.
 pub fn put_copies(tx: &mut Transaction, entries: &[Entry]) -> Result<(), OutOfMemory>
-    ensures changes { OnOk result (tx.new ≡ tx.old ++ spelled (copy_changes entries.now)) }
+    ensures changes { OnOk result (tx.new ≡ tx.old ++ encoded (copy_changes entries.now)) }
     ensures fit { AllByRecursion Fits (copy_changes entries.now) }
 {
     for entry in entries {
@@ -146,7 +146,7 @@ pub fn put_learned(
 ) -> Result<(), OutOfMemory>
     requires short { AllByRecursion (λ ops. length (text ops) ≤ most) values.now }
     requires room { from + length values.now ≤ 2 ^ 63 }
-    ensures changes { OnOk result (tx.new ≡ tx.old ++ spelled (learn_changes from values.now)) }
+    ensures changes { OnOk result (tx.new ≡ tx.old ++ encoded (learn_changes from values.now)) }
     ensures fit { AllByRecursion Fits (learn_changes from values.now) }
 {
     let mut v = from;
@@ -173,7 +173,7 @@ pub fn learn(tx: &mut Transaction, from: u64, values: &[Transaction]) -> Result<
     requires from { 1 ≤ from }
     requires room { from + length values.now ≤ 2 ^ 63 }
     ensures act { Learns from values.now result }
-    ensures changes { OnOk result (tx.new ≡ tx.old ++ spelled (learned from values.now)) }
+    ensures changes { OnOk result (tx.new ≡ tx.old ++ encoded (learned from values.now)) }
     ensures fit { OnOk result (AllByRecursion Fits (learned from values.now)) }
 {
     if values.is_empty() {

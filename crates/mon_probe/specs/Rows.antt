@@ -19,10 +19,10 @@ use Rattle.mon_wire.specs.declared.phase.Timer.{Timer}
 use Rattle.mon_probe.specs.declared.here.Here.{Here}
 
 -- what monitors say to each other while one of them probes
-abbrev pub is_told : Body → Bool
-is_told body.Probe = true
-is_told (body.ProbeReply quorum first last) = true
-is_told b = false
+abbrev pub is_role_message : Body → Bool
+is_role_message body.Probe = true
+is_role_message (body.ProbeReply quorum first last) = true
+is_role_message b = false
 
 abbrev pub is_rung : Timer → Bool
 is_rung timer.Probe = true
@@ -31,7 +31,7 @@ is_rung t = false
 -- the inputs of a prober
 abbrev pub is_input : Input → Bool
 is_input input.Start = false
-is_input (input.Deliver m) = is_told m.body
+is_input (input.Deliver m) = is_role_message m.body
 is_input (input.Timer t) = is_rung t
 is_input (input.Client session r) = false
 

@@ -1,7 +1,7 @@
 //! A monitor bootstraps.
 
 ghost use Rattle.std.specs.Prelude.{◌≡◌, ◌+◌, ◌^◌, [], ◌∷◌, min, map, IfOk};
-ghost use Rattle.mon_msg.specs.Protocol.Changes.{Epoch as ToEpoch, spelled};
+ghost use Rattle.mon_msg.specs.Protocol.Changes.{Epoch as ToEpoch, encoded};
 ghost use Rattle.mon_msg.specs.Protocol.Course.{prober_is};
 ghost use Rattle.mon_msg.specs.Protocol.Played.{Fits};
 ghost use Rattle.mon_msg.specs.Protocol.Readings.{readings_of};
@@ -68,7 +68,7 @@ fn ask(alloc: Global, me: &Me, epoch: Epoch, now: Moment) -> Result<Plan<Prober>
 /// The plan of a monitor alone in its map: it puts the epoch, and wins it.
 fn lead(alloc: Global, me: &Me, epoch: Epoch) -> Result<Plan<Prober>, OutOfMemory>
     ensures plan { IfOk result (λ p. p ≡ record {
-      tx = spelled (ToEpoch epoch ∷ []);
+      tx = encoded (ToEpoch epoch ∷ []);
       out = [];
       timers = [];
       state = record { outside = only me.now.member.rank };

@@ -6,7 +6,7 @@ ghost use Rattle.mon_msg.specs.Protocol.Hearing.{hear};
 ghost use Rattle.mon_msg.specs.Protocol.Readings.{readings_of};
 ghost use Rattle.mon_plan.specs.Inputs.{row};
 ghost use Rattle.mon_plan.specs.Leaves.{Leaves};
-ghost use Rattle.mon_probe.specs.Rows.{is_told, is_input, ByRow, PlansProbe};
+ghost use Rattle.mon_probe.specs.Rows.{is_role_message, is_input, ByRow, PlansProbe};
 
 use crate::here::Here;
 use crate::probes::{hear_probe, hear_probe_reply};
@@ -20,7 +20,7 @@ use std::alloc::Global;
 
 /// Hears a PROBE or PROBE_REPLY of another monitor.
 fn hear(here: &Here<'_>, message: &Message) -> Result<Plan<Prober>, RoleStop>
-    requires { IsTrue (is_told message.now.body) }
+    requires { IsTrue (is_role_message message.now.body) }
     ensures plans { (shared : List Entry) (now : ℕ) → let m = message.now in
         ByRow here.now now (hear here.now.me.now shared now m.from m.epoch m.body) result }
     ensures leaves { IfOk result (λ p. Leaves here.now.view.now.phase p.next p.tx) }

@@ -6,7 +6,7 @@ ghost use Rattle.mon_plan.specs.Leaves.{Leaves};
 ghost use Rattle.mon_probe.specs.Rows.{ByRow};
 
 use crate::here::Here;
-use crate::seen::{is_behind, is_cut_off, is_probing, is_quorum, reaches_floor};
+use crate::seen::{is_cut_off, is_probing, is_quorum, lags, reaches_floor};
 use mon_msg::{Body, Next, Plan, Prober, RoleStop};
 use mon_plan::{message, one, planned, sending, stay};
 use mon_types::{Rank, RankSet, Version};
@@ -54,7 +54,7 @@ pub(crate) fn hear_probe_reply(
     if is_cut_off(here.stored, first) {
         return planned(here.alloc, *here.state, Next::FullSync { from });
     }
-    if is_behind(here.stored, last) {
+    if lags(here.stored, last) {
         return planned(here.alloc, *here.state, Next::RecentSync { from });
     }
     if is_quorum(quorum) {

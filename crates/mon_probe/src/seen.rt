@@ -40,7 +40,7 @@ pub(crate) fn is_cut_off(stored: &Stored<'_>, first: Version) -> bool
 }
 
 /// Whether the monitor lacks more than `LAG` of the versions up to `last`.
-pub(crate) fn is_behind(stored: &Stored<'_>, last: Version) -> bool
+pub(crate) fn lags(stored: &Stored<'_>, last: Version) -> bool
     ensures { result ≡ nat_lt ((readings_of stored.now).last + 10) last }
 {
     stored.last().get() + LAG < last.get()

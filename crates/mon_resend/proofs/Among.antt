@@ -12,10 +12,10 @@ use Rattle.mon_resend.specs.declared.note.Note.{Note}
 use Rattle.mon_resend.specs.declared.outbox.Outbox.{Outbox}
 use Rattle.mon_resend.specs.declared.shelf.Kept.{Kept}
 use Rattle.mon_resend.specs.Copied.{AreOf, datagram}
-use Rattle.mon_resend.specs.Notes.{goes}
+use Rattle.mon_resend.specs.Notes.{is_due}
 use Rattle.mon_resend.specs.Sending.{outs, with_got}
-use Rattle.mon_resend.specs.Shelves.{going, with_note}
-use Rattle.mon_resend.specs.World.{sent, all_passed, all_going}
+use Rattle.mon_resend.specs.Shelves.{due_copies, with_note}
+use Rattle.mon_resend.specs.World.{sent, all_passed, all_due_copies}
 use Rattle.mon_resend.proofs.Parts.{same, more, both, one_left, one_right}
 use Rattle.mon_resend.proofs.Walk.{Thins, Grows, of_sent, of_arrived, of_all_passed}
 
@@ -84,16 +84,16 @@ if_goes : (those : List Outgoing) (k : Kept) (kept : List Kept) (b : Bool) → A
 if_goes those k kept true one a = both those (k.out ∷ []) (outs_on kept) one a
 if_goes those k kept false one a = a
 
-going_among : (those : List Outgoing) (again : Bool) (now : ℕ) (kept : List Kept) → IsAmong those kept → AreOf those (going again now kept)
-going_among those again now [] h = h
-going_among those again now (k ∷ kept) h =
-    if_goes those k (filter (λ k. goes again now k.note) kept) (goes again now k.note) (record { each = λ x g. h.each x (one_left (k.out ∷ []) (outs_on kept) x g) })
-    (going_among those again now kept (record { each = λ x g. h.each x (inr g) }))
+due_copies_among : (those : List Outgoing) (again : Bool) (now : ℕ) (kept : List Kept) → IsAmong those kept → AreOf those (due_copies again now kept)
+due_copies_among those again now [] h = h
+due_copies_among those again now (k ∷ kept) h =
+    if_goes those k (filter (λ k. is_due again now k.note) kept) (is_due again now k.note) (record { each = λ x g. h.each x (one_left (k.out ∷ []) (outs_on kept) x g) })
+    (due_copies_among those again now kept (record { each = λ x g. h.each x (inr g) }))
 
-each_going : (those : List Outgoing) (again : Bool) (now : ℕ) (bs : List Outbox) → AllByRecursion (λ b. IsAmong those b.shelf) bs → AreOf those (flat_map (λ b. going again now b.shelf) bs)
-each_going those again now [] h = none_among those
-each_going those again now (b ∷ bs) h =
-    both those (going again now b.shelf) (flat_map (λ b. going again now b.shelf) bs) (going_among those again now b.shelf h.0) (each_going those again now bs h.1)
+each_due_copy : (those : List Outgoing) (again : Bool) (now : ℕ) (bs : List Outbox) → AllByRecursion (λ b. IsAmong those b.shelf) bs → AreOf those (flat_map (λ b. due_copies again now b.shelf) bs)
+each_due_copy those again now [] h = none_among those
+each_due_copy those again now (b ∷ bs) h =
+    both those (due_copies again now b.shelf) (flat_map (λ b. due_copies again now b.shelf) bs) (due_copies_among those again now b.shelf h.0) (each_due_copy those again now bs h.1)
 
-pub goes_among : (again : Bool) (now : ℕ) (c : Copies) → AreOf (outs c) (all_going again now c)
-goes_among again now c = each_going (outs c) again now c.boxes (split (outs c) c.boxes (same (outs c)))
+pub due_among : (again : Bool) (now : ℕ) (c : Copies) → AreOf (outs c) (all_due_copies again now c)
+due_among again now c = each_due_copy (outs c) again now c.boxes (split (outs c) c.boxes (same (outs c)))

@@ -9,7 +9,7 @@ use Rattle.mon_resend.specs.declared.outbox.UnderWay.{UnderWay}
 use Rattle.mon_resend.specs.declared.outbox.UnderWay.TheVariants as under_way
 use Rattle.mon_resend.specs.declared.rows.Way.{Way}
 use Rattle.mon_resend.specs.declared.rows.Way.TheVariants as way
-use Rattle.mon_resend.specs.Again.{note_of, fits, cleared, begun_as, went_on_with, counted_if, under_way_of}
+use Rattle.mon_resend.specs.Again.{note_of, fits, cleared, begun_as, continued_with, counted_if, under_way_of}
 use Rattle.mon_resend.specs.Keeping.{KeepsOrCounts, PieceKeepsOrCounts, EachIsKept, is_sent_again}
 use Rattle.mon_resend.specs.Rows.{way_of}
 use Rattle.mon_resend.specs.Shelves.{has_room}
@@ -39,7 +39,7 @@ first_as way.WhenAsked memory out h total now b =
     let n = note_of h total (length out.bytes) now b in
     first_one (fits n total b.shelf) (has_room 1 (length out.bytes) b.shelf) memory out n b
 
-piece_as : (u : UnderWay) (memory : Bool) (out : Outgoing) (b : Outbox) → PieceKeepsOrCounts u out b (went_on_with u memory out b)
+piece_as : (u : UnderWay) (memory : Bool) (out : Outgoing) (b : Outbox) → PieceKeepsOrCounts u out b (continued_with u memory out b)
 piece_as (under_way.Kept n) memory out b = one (has_room 1 (length out.bytes) b.shelf) memory out n b
 piece_as under_way.Lost memory out b = record { shelf = refl; unkept = refl }
 piece_as under_way.Nothing memory out b = record { shelf = refl; unkept = refl }

@@ -11,8 +11,8 @@ use Rattle.mon_types.specs.declared.names.Stop.{Stop}
 use Rattle.mon_resend.specs.declared.copies.Copies.{Copies}
 use Rattle.mon_resend.specs.Copied.{AreOf, AsksOnce, IsDatagram, datagram}
 use Rattle.mon_resend.specs.Sending.{outs, Shows, ShowsThen, may_go, with_got, isnt_handed_up, run_after, AfterNext, Receives, SendsEach, SendsNow, Keeps, Sends}
-use Rattle.mon_resend.specs.World.{all_going, all_passed, due_of, goes_now, sent}
-use Rattle.mon_resend.proofs.Among.{sent_among, got_among, all_passed_among, goes_among}
+use Rattle.mon_resend.specs.World.{all_due_copies, all_passed, due_of, is_sent_now, sent}
+use Rattle.mon_resend.proofs.Among.{sent_among, got_among, all_passed_among, due_among}
 use Rattle.mon_resend.proofs.Parts.{same, through, more, repeats}
 
 pub shows_then : (o p : Option Readings) (now : ℕ) → p ≡ option_map after o → Shows p now → ShowsThen o now
@@ -39,8 +39,8 @@ asks_after slice wait within (Ok came) memory now run old before between result 
   asks = asks;
   hands = hands came (isnt_handed_up came now old) result (is_datagram came now old) h.0.hands_up;
   repeats =
-      repeats (outs old) (all_going (may_go came run) now (with_got memory came now old)) between link
-      (through _ _ _ (got_among memory came now old) (goes_among (may_go came run) now (with_got memory came now old))) h.0.sends;
+      repeats (outs old) (all_due_copies (may_go came run) now (with_got memory came now old)) between link
+      (through _ _ _ (got_among memory came now old) (due_among (may_go came run) now (with_got memory came now old))) h.0.sends;
 }
 asks_after slice wait within (Err e) memory now run old before between result run_now new link asks h = record {
   slice = slice;
@@ -89,7 +89,7 @@ pub shows_read : (left : Option Readings) (got shown : ℕ) → got ≡ shown �
 shows_read left got shown e h = subst (λ n. Shows left n) (sym e) h
 
 pub held : (rank : ℕ) (bytes : List ℕ) (clock : Option Readings) (old : Copies) (before : LinkState) (new : Copies) (link : LinkState) (now : ℕ) (memory now_it : Bool)
-    → Shows clock now → new ≡ sent memory rank bytes now old → now_it ≡ goes_now rank bytes now old → not now_it ≡ true → link ≡ before → Keeps rank bytes clock old before (Ok tt) new link
+    → Shows clock now → new ≡ sent memory rank bytes now old → now_it ≡ is_sent_now rank bytes now old → not now_it ≡ true → link ≡ before → Keeps rank bytes clock old before (Ok tt) new link
 held rank bytes clock old before new link now memory now_it shows kept goes waits same_link = record {
   now = now;
   shows = shows;
@@ -99,7 +99,7 @@ held rank bytes clock old before new link now memory now_it shows kept goes wait
 }
 
 pub passed_on : (rank : ℕ) (bytes : List ℕ) (clock : Option Readings) (old : Copies) (before : LinkState) (result : Result (Unit {0}) Stop) (new : Copies) (link : LinkState) (now : ℕ) (memory now_it : Bool)
-    → Shows clock now → new ≡ sent memory rank bytes now old → now_it ≡ goes_now rank bytes now old → not now_it ≡ false → CallsSend (Monitor rank) bytes result before link → Keeps rank bytes clock old before result new link
+    → Shows clock now → new ≡ sent memory rank bytes now old → now_it ≡ is_sent_now rank bytes now old → not now_it ≡ false → CallsSend (Monitor rank) bytes result before link → Keeps rank bytes clock old before result new link
 passed_on rank bytes clock old before result new link now memory now_it shows kept goes sends_it calls = record {
   now = now;
   shows = shows;
@@ -134,7 +134,7 @@ fails wait clock run old before e gave link first slice shows rest asks is = rec
 pub gives : (wait : ℕ) (clock : Option Readings) (run : ℕ) (old : Copies) (before between : LinkState) (came : Got) (gave : Result Got Stop) (result : Result Got Stop) (run_now : ℕ) (new : Copies) (link : LinkState) (first second slice : ℕ) (memory : Bool)
     → Shows clock first → ShowsThen clock second → slice ≡ min wait (due_of old - first) → CallsNext slice gave before between → gave ≡ Ok came
     → result ≡ Ok (cond (isnt_handed_up came second old) Idle came) → new ≡ all_passed (may_go came run) second (with_got memory came second old)
-    → SendsEach (all_going (may_go came run) second (with_got memory came second old)) between link → run_now ≡ run_after came run
+    → SendsEach (all_due_copies (may_go came run) second (with_got memory came second old)) between link → run_now ≡ run_after came run
     → Receives wait clock run old before result run_now new link
 gives wait clock run old before between came gave result run_now new link first second slice memory shows shows_then rest asks is hands_up kept sends ran = record {
   first = first;

@@ -12,18 +12,18 @@ use Rattle.mon_resend.specs.declared.datagram.Part.{Part as DatagramPart}
 use Rattle.mon_resend.specs.declared.datagram.Part.TheVariants.{Whole, First, Later}
 use Rattle.mon_resend.specs.declared.datagram.Piece.{Piece as Part}
 use Rattle.mon_resend.specs.declared.note.Event.{Event}
-use Rattle.mon_resend.specs.declared.note.Event.TheVariants.{Sent, Came, Piece, Asked, Rose, Deferred, Left, Turn}
+use Rattle.mon_resend.specs.declared.note.Event.TheVariants.{Sent, Arrived, Piece, Asked, Rose, Deferred, LeftQuorum, Released}
 use Rattle.mon_resend.specs.declared.outbox.Outbox.{Outbox}
 use Rattle.mon_resend.specs.declared.outbox.UnderWay.{UnderWay}
 use Rattle.mon_resend.specs.declared.outbox.UnderWay.TheVariants as under_way
 use Rattle.mon_resend.specs.declared.shelf.Kept.{Kept}
-use Rattle.mon_resend.specs.Again.{nothing, turned, happened, begun, went_on, knows, answered, heard, received, with_earlier, is_earlier, called, is_past, piece_came, passed}
+use Rattle.mon_resend.specs.Again.{nothing, released, happened, begun, continued, knows, answered, heard, received, with_earlier, is_earlier, called, is_past, piece_arrived, passed}
 use Rattle.mon_resend.specs.Calls.{rested, counted}
 use Rattle.mon_resend.specs.Copied.{datagram}
 use Rattle.mon_resend.specs.Datagrams.{part_of}
 use Rattle.mon_resend.specs.Rows.{is_of_epoch}
-use Rattle.mon_resend.specs.Shelves.{went}
-use Rattle.mon_resend.specs.World.{box_of, with_box, with_event, each, risen, in_epoch, left, begins, sent_part, called_at, is_dropped_at, came_at, asks, whole_came, part_came, arrived, all_passed}
+use Rattle.mon_resend.specs.Shelves.{due_sent}
+use Rattle.mon_resend.specs.World.{box_of, with_box, with_event, each, risen, in_epoch, without_ended, begins, sent_part, called_at, is_dropped_at, received_at, asks, whole_arrived, part_arrived, arrived, all_passed}
 use Rattle.mon_wire.specs.declared.kind.Kind.TheVariants as kind
 
 -- ---- of one monitor
@@ -31,22 +31,22 @@ use Rattle.mon_wire.specs.declared.kind.Kind.TheVariants as kind
 abbrev pub Of : (List Kept → UnderWay → Type 0) → Outbox → Type 0
 Of P b = P b.shelf b.under_way
 
--- whether an event is a FORWARD's turn, which happens only as a part of another event
-abbrev pub is_turn : Event → Bool
-is_turn (Turn seq) = true
-is_turn (Sent sent) = false
-is_turn (Came h) = false
-is_turn (Piece is_last) = false
-is_turn (Asked h) = false
-is_turn (Rose epoch) = false
-is_turn Deferred = false
-is_turn Left = false
+-- whether an event releases a FORWARD, which happens only as a part of another event
+abbrev pub is_release : Event → Bool
+is_release (Released seq) = true
+is_release (Sent sent) = false
+is_release (Arrived h) = false
+is_release (Piece is_last) = false
+is_release (Asked h) = false
+is_release (Rose epoch) = false
+is_release Deferred = false
+is_release LeftQuorum = false
 
 abbrev pub Lasts : (List Kept → UnderWay → Type 0) → Type 0
-Lasts P = (event : Event) (now : ℕ) (kept : List Kept) (u : UnderWay) → is_turn event ≡ false → P kept u → P (happened event now kept) u
+Lasts P = (event : Event) (now : ℕ) (kept : List Kept) (u : UnderWay) → is_release event ≡ false → P kept u → P (happened event now kept) u
 
 module _ (P : List Kept → UnderWay → Type 0) (lasts : Lasts P) where
-  of_happened : (event : Event) (now : ℕ) (b : Outbox) → is_turn event ≡ false → Of P b → Of P (with_event event now b)
+  of_happened : (event : Event) (now : ℕ) (b : Outbox) → is_release event ≡ false → Of P b → Of P (with_event event now b)
   of_happened event now b e h = lasts event now b.shelf b.under_way e h
 
   one_of : (x y : Outbox) (b : Bool) → Of P x → Of P y → Of P (cond b x y)
@@ -57,10 +57,10 @@ module _ (P : List Kept → UnderWay → Type 0) (lasts : Lasts P) where
   of_answered h now b g = one_of (with_event (Asked h) now b) b (knows h b.shelf) (of_happened (Asked h) now b refl g) g
 
   of_heard : (h : Header) (now : ℕ) (b : Outbox) → Of P b → Of P (heard h now b)
-  of_heard h now b g = of_happened (Came h) now b refl g
+  of_heard h now b g = of_happened (Arrived h) now b refl g
 
-  of_came : (memory : Bool) (h : Header) (bytes : List ℕ) (now : ℕ) (b : Outbox) → Of P b → Of P (received memory h bytes now b)
-  of_came memory h bytes now b g =
+  of_received : (memory : Bool) (h : Header) (bytes : List ℕ) (now : ℕ) (b : Outbox) → Of P b → Of P (received memory h bytes now b)
+  of_received memory h bytes now b g =
       let asked = record b { asked = cond memory bytes [] } in
       let x = answered h now b in
       let y = heard h now asked in
@@ -86,7 +86,7 @@ module _ (P : List Kept → UnderWay → Type 0) (lasts : Lasts P) where
   if_past x y u true h g = h
   if_past x y u false h g = g
 
-  of_piece : (p : Part) (now : ℕ) (b : Outbox) → Of P b → Of P (piece_came p now b)
+  of_piece : (p : Part) (now : ℕ) (b : Outbox) → Of P b → Of P (piece_arrived p now b)
   of_piece p now b h = if_past b.shelf (happened (Piece p.is_last) now b.shelf) b.under_way (is_past p b.past) h (of_happened (Piece p.is_last) now b refl h)
 
 -- ---- of one of all monitors
@@ -125,7 +125,7 @@ module _ (P : List Kept → UnderWay → Type 0) (none : P [] under_way.Nothing)
   some_at x y true h g = h
   some_at x y false h g = g
 
-  event_at : (event : Event) (now : ℕ) (c : Copies) → is_turn event ≡ false → At P r c.boxes → At P r (each event now c).boxes
+  event_at : (event : Event) (now : ℕ) (c : Copies) → is_release event ≡ false → At P r c.boxes → At P r (each event now c).boxes
   event_at event now c e h = each_at P P (λ b. with_event event now b) none (λ b g. of_happened P lasts event now b e g) c.boxes r h
 
   pub risen_at : (h : Header) (now : ℕ) (c : Copies) → At P r c.boxes → At P r (risen h now c).boxes
@@ -138,9 +138,9 @@ module _ (P : List Kept → UnderWay → Type 0) (none : P [] under_way.Nothing)
       let of_it = record c { own = h.epoch } in
       some_at (record c { own = 0 }) (cond (is_of_epoch h.kind) of_it c) (same_kind h.kind kind.Probe) g (some_at of_it c (is_of_epoch h.kind) g g)
 
-  left_at : (h : Header) (now : ℕ) (c : Copies) → At P r c.boxes → At P r (left h now c).boxes
+  left_at : (h : Header) (now : ℕ) (c : Copies) → At P r c.boxes → At P r (without_ended h now c).boxes
   left_at h now c g =
-      some_at (each Left now c) (cond (same_kind h.kind kind.Ack) (each Deferred now c) c) (same_kind h.kind kind.Probe) (event_at Left now c refl g)
+      some_at (each LeftQuorum now c) (cond (same_kind h.kind kind.Ack) (each Deferred now c) c) (same_kind h.kind kind.Probe) (event_at LeftQuorum now c refl g)
       (some_at (each Deferred now c) c (same_kind h.kind kind.Ack) (event_at Deferred now c refl g) g)
 
   -- after the epoch rose
@@ -155,7 +155,7 @@ module _ (P : List Kept → UnderWay → Type 0) (none : P [] under_way.Nothing)
   sent_other (Some (First h total)) memory rank bytes now c other g =
       let m = begins h now c in
       put_other P m.boxes rank r (begun memory (datagram (Monitor rank) bytes) h total now (box_of rank m)) other (begins_at h now c (risen_at h now c g))
-  sent_other (Some (Later p)) memory rank bytes now c other g = put_other P c.boxes rank r (went_on memory (datagram (Monitor rank) bytes) (box_of rank c)) other g
+  sent_other (Some (Later p)) memory rank bytes now c other g = put_other P c.boxes rank r (continued memory (datagram (Monitor rank) bytes) (box_of rank c)) other g
   sent_other None memory rank bytes now c other g = g
 
   pub called_at_at : (rank : ℕ) (h : Header) (now : ℕ) (c : Copies) → At P r c.boxes → At P r (called_at rank h now c).boxes
@@ -163,27 +163,27 @@ module _ (P : List Kept → UnderWay → Type 0) (none : P [] under_way.Nothing)
       let x = called h.epoch c.own now (box_of rank c) in
       some_at (with_box rank x c) c (same_kind h.kind kind.Propose) (put_at P (called h.epoch c.own now) (λ b k. of_called P lasts h.epoch c.own now b k) c.boxes rank r g) g
 
-  came_at_at : (memory : Bool) (rank : ℕ) (h : Header) (bytes : List ℕ) (now : ℕ) (c : Copies) → At P r c.boxes → At P r (came_at memory rank h bytes now c).boxes
-  came_at_at memory rank h bytes now c g = put_at P (received memory h bytes now) (λ b k. of_came P lasts memory h bytes now b k) c.boxes rank r g
+  received_at_at : (memory : Bool) (rank : ℕ) (h : Header) (bytes : List ℕ) (now : ℕ) (c : Copies) → At P r c.boxes → At P r (received_at memory rank h bytes now c).boxes
+  received_at_at memory rank h bytes now c g = put_at P (received memory h bytes now) (λ b k. of_received P lasts memory h bytes now b k) c.boxes rank r g
 
   -- after the epoch rose
-  pub whole_came_at : (memory : Bool) (rank : ℕ) (h : Header) (bytes : List ℕ) (now : ℕ) (c : Copies) → At P r (risen h now c).boxes → At P r (whole_came memory rank h bytes now c).boxes
-  whole_came_at memory rank h bytes now c g =
+  pub whole_arrived_at : (memory : Bool) (rank : ℕ) (h : Header) (bytes : List ℕ) (now : ℕ) (c : Copies) → At P r (risen h now c).boxes → At P r (whole_arrived memory rank h bytes now c).boxes
+  whole_arrived_at memory rank h bytes now c g =
       let rose = risen h now c in
       let p = called_at rank h now rose in
       let gp = called_at_at rank h now rose g in
-      some_at p (came_at memory rank h bytes now p) (is_dropped_at rank h now rose) gp (came_at_at memory rank h bytes now p gp)
+      some_at p (received_at memory rank h bytes now p) (is_dropped_at rank h now rose) gp (received_at_at memory rank h bytes now p gp)
 
-  pub part_came_at : (part : Option DatagramPart) (memory : Bool) (rank : ℕ) (bytes : List ℕ) (now : ℕ) (c : Copies) → At P r c.boxes → At P r (part_came part memory rank bytes now c).boxes
-  part_came_at (Some (Whole h)) memory rank bytes now c g = whole_came_at memory rank h bytes now c (risen_at h now c g)
-  part_came_at (Some (First h total)) memory rank bytes now c g = some_at (came_at memory rank h bytes now c) c (asks h) (came_at_at memory rank h bytes now c g) g
-  part_came_at (Some (Later p)) memory rank bytes now c g = put_at P (piece_came p now) (λ b k. of_piece P lasts p now b k) c.boxes rank r g
-  part_came_at None memory rank bytes now c g = g
+  pub part_arrived_at : (part : Option DatagramPart) (memory : Bool) (rank : ℕ) (bytes : List ℕ) (now : ℕ) (c : Copies) → At P r c.boxes → At P r (part_arrived part memory rank bytes now c).boxes
+  part_arrived_at (Some (Whole h)) memory rank bytes now c g = whole_arrived_at memory rank h bytes now c (risen_at h now c g)
+  part_arrived_at (Some (First h total)) memory rank bytes now c g = some_at (received_at memory rank h bytes now c) c (asks h) (received_at_at memory rank h bytes now c g) g
+  part_arrived_at (Some (Later p)) memory rank bytes now c g = put_at P (piece_arrived p now) (λ b k. of_piece P lasts p now b k) c.boxes rank r g
+  part_arrived_at None memory rank bytes now c g = g
 
   pub arrived_at : (memory : Bool) (rank : ℕ) (bytes : List ℕ) (now : ℕ) (c : Copies) → At P r c.boxes → At P r (arrived memory rank bytes now c).boxes
-  arrived_at memory rank bytes now c g = part_came_at (part_of bytes) memory rank bytes now c g
+  arrived_at memory rank bytes now c g = part_arrived_at (part_of bytes) memory rank bytes now c g
 
 -- time passes
-pub passed_at : (P Q : List Kept → UnderWay → Type 0) (none : Q [] under_way.Nothing) (r : ℕ) (again : Bool) (now : ℕ) (c : Copies) → ((kept : List Kept) (u : UnderWay) → P kept u → Q (turned now (went again now kept)) u) → At P r c.boxes
+pub passed_at : (P Q : List Kept → UnderWay → Type 0) (none : Q [] under_way.Nothing) (r : ℕ) (again : Bool) (now : ℕ) (c : Copies) → ((kept : List Kept) (u : UnderWay) → P kept u → Q (released now (due_sent again now kept)) u) → At P r c.boxes
     → At Q r (all_passed again now c).boxes
 passed_at P Q none r again now c goes h = each_at P Q (λ b. passed again now b) none (λ b g. goes b.shelf b.under_way g) c.boxes r h

@@ -10,7 +10,7 @@ use Rattle.mon_resend.specs.declared.copies.Copies.{Copies}
 use Rattle.mon_resend.specs.declared.datagram.Part.{Part as DatagramPart}
 use Rattle.mon_resend.specs.declared.datagram.Part.TheVariants.{Whole, First, Later}
 use Rattle.mon_resend.specs.declared.note.Event.{Event}
-use Rattle.mon_resend.specs.declared.note.Event.TheVariants.{Sent, Turn}
+use Rattle.mon_resend.specs.declared.note.Event.TheVariants.{Sent, Released}
 use Rattle.mon_resend.specs.declared.note.Note.{Note}
 use Rattle.mon_resend.specs.declared.outbox.Outbox.{Outbox}
 use Rattle.mon_resend.specs.declared.outbox.UnderWay.{UnderWay}
@@ -18,13 +18,13 @@ use Rattle.mon_resend.specs.declared.outbox.UnderWay.TheVariants as under_way
 use Rattle.mon_resend.specs.declared.rows.Way.{Way}
 use Rattle.mon_resend.specs.declared.rows.Way.TheVariants as way
 use Rattle.mon_resend.specs.declared.shelf.Kept.{Kept}
-use Rattle.mon_resend.specs.Again.{nothing, turned_by, turned, turn_of, happened, cleared, with_copy, first_kept, begun_as, begun, note_of, under_way_of, fits, went_on_with, went_on}
+use Rattle.mon_resend.specs.Again.{nothing, released_by, released, held_forward, happened, cleared, with_copy, first_kept, begun_as, begun, note_of, under_way_of, fits, continued_with, continued}
 use Rattle.mon_resend.specs.Copied.{datagram}
 use Rattle.mon_resend.specs.Datagrams.{part_of}
 use Rattle.mon_resend.specs.Notes.{after, is_ended, is_spent}
 use Rattle.mon_resend.specs.Rows.{way_of}
-use Rattle.mon_resend.specs.Shelves.{applied, has_room, if_gone, went, with_note}
-use Rattle.mon_resend.specs.World.{box_of, with_box, begins, began, sent_part, sent, called_at, arrived, risen, whole_came, part_came, all_passed}
+use Rattle.mon_resend.specs.Shelves.{applied, has_room, after_sending_if_due, due_sent, with_note}
+use Rattle.mon_resend.specs.World.{box_of, with_box, begins, began, sent_part, sent, called_at, arrived, risen, whole_arrived, part_arrived, all_passed}
 use Rattle.mon_resend.proofs.Steps as boxes
 
 -- ---- of one monitor
@@ -37,15 +37,15 @@ abbrev pub Grows : (List Kept → Type 0) → Outgoing → Type 0
 Grows P out = (n : Note) (kept : List Kept) → has_room 1 (length out.bytes) kept ≡ true → P kept → P (kept ++ record { out = out; note = n } ∷ [])
 
 module _ (P : List Kept → Type 0) (lasts : Lasts P) where
-  of_turned_by : (now : ℕ) (kept : List Kept) (turn : Option ℕ) → P kept → P (turned_by now kept turn)
-  of_turned_by now kept None h = h
-  of_turned_by now kept (Some seq) h = lasts (Turn seq) now kept h
+  of_released_by : (now : ℕ) (kept : List Kept) (held_forward : Option ℕ) → P kept → P (released_by now kept held_forward)
+  of_released_by now kept None h = h
+  of_released_by now kept (Some seq) h = lasts (Released seq) now kept h
 
-  pub of_turned : (now : ℕ) (kept : List Kept) → P kept → P (turned now kept)
-  of_turned now kept h = of_turned_by now kept (turn_of kept) h
+  pub of_released : (now : ℕ) (kept : List Kept) → P kept → P (released now kept)
+  of_released now kept h = of_released_by now kept (held_forward kept) h
 
   of_happened : (event : Event) (now : ℕ) (kept : List Kept) → P kept → P (happened event now kept)
-  of_happened event now kept h = of_turned now (applied event now kept) (lasts event now kept h)
+  of_happened event now kept h = of_released now (applied event now kept) (lasts event now kept h)
 
   one_of : (x y : Outbox) (b : Bool) → P x.shelf → P y.shelf → P (cond b x y).shelf
   one_of x y true h g = h
@@ -74,10 +74,10 @@ module _ (P : List Kept → Type 0) (lasts : Lasts P) where
     of_begun : (memory : Bool) (h : Header) (total now : ℕ) (b : Outbox) → P b.shelf → P (begun memory out h total now b).shelf
     of_begun memory h total now b g = of_begun_as (way_of h.kind) memory h total now (cleared h now b) (of_happened (Sent h.kind) now b.shelf g)
 
-    of_went_on : (u : UnderWay) (memory : Bool) (b : Outbox) → P b.shelf → P (went_on_with u memory out b).shelf
-    of_went_on (under_way.Kept n) memory b h = of_copied memory n b.shelf h
-    of_went_on under_way.Lost memory b h = h
-    of_went_on under_way.Nothing memory b h = h
+    of_continued : (u : UnderWay) (memory : Bool) (b : Outbox) → P b.shelf → P (continued_with u memory out b).shelf
+    of_continued (under_way.Kept n) memory b h = of_copied memory n b.shelf h
+    of_continued under_way.Lost memory b h = h
+    of_continued under_way.Nothing memory b h = h
 
 -- ---- of one of all monitors
 
@@ -102,13 +102,13 @@ module _ (P : List Kept → Type 0) (none : P []) (lasts : Lasts P) (r : ℕ) wh
   began_at memory rank out h total now c grows g =
       boxes.put_at Both (begun memory out h total now) (λ b k. of_begun P lasts out grows memory h total now b k) (begins h now c).boxes rank r (boxes.begins_at Both none both_last r h now c g)
 
-  pub went_on_at : (memory : Bool) (rank : ℕ) (out : Outgoing) (c : Copies) → Grows P out → At P r c.boxes → At P r (with_box rank (went_on memory out (box_of rank c)) c).boxes
-  went_on_at memory rank out c grows g = boxes.put_at Both (went_on memory out) (λ b k. of_went_on P lasts out grows b.under_way memory b k) c.boxes rank r g
+  pub continued_at : (memory : Bool) (rank : ℕ) (out : Outgoing) (c : Copies) → Grows P out → At P r c.boxes → At P r (with_box rank (continued memory out (box_of rank c)) c).boxes
+  continued_at memory rank out c grows g = boxes.put_at Both (continued memory out) (λ b k. of_continued P lasts out grows b.under_way memory b k) c.boxes rank r g
 
   pub sent_part_at : (part : Option DatagramPart) (memory : Bool) (rank : ℕ) (bytes : List ℕ) (now : ℕ) (c : Copies) → Grows P (datagram (Monitor rank) bytes) → At P r c.boxes → At P r (sent_part part memory rank bytes now c).boxes
   sent_part_at (Some (Whole h)) memory rank bytes now c grows g = began_at memory rank (datagram (Monitor rank) bytes) h (length bytes) now c grows (risen_at h now c g)
   sent_part_at (Some (First h total)) memory rank bytes now c grows g = began_at memory rank (datagram (Monitor rank) bytes) h total now c grows (risen_at h now c g)
-  sent_part_at (Some (Later p)) memory rank bytes now c grows g = went_on_at memory rank (datagram (Monitor rank) bytes) c grows g
+  sent_part_at (Some (Later p)) memory rank bytes now c grows g = continued_at memory rank (datagram (Monitor rank) bytes) c grows g
   sent_part_at None memory rank bytes now c grows g = g
 
   pub sent_at : (memory : Bool) (rank : ℕ) (bytes : List ℕ) (now : ℕ) (c : Copies) → Grows P (datagram (Monitor rank) bytes) → At P r c.boxes → At P r (sent memory rank bytes now c).boxes
@@ -118,19 +118,19 @@ module _ (P : List Kept → Type 0) (none : P []) (lasts : Lasts P) (r : ℕ) wh
   called_at_at rank h now c g = boxes.called_at_at Both none both_last r rank h now c g
 
   -- after the epoch rose
-  pub whole_came_at : (memory : Bool) (rank : ℕ) (h : Header) (bytes : List ℕ) (now : ℕ) (c : Copies) → At P r (risen h now c).boxes → At P r (whole_came memory rank h bytes now c).boxes
-  whole_came_at memory rank h bytes now c g = boxes.whole_came_at Both none both_last r memory rank h bytes now c g
+  pub whole_arrived_at : (memory : Bool) (rank : ℕ) (h : Header) (bytes : List ℕ) (now : ℕ) (c : Copies) → At P r (risen h now c).boxes → At P r (whole_arrived memory rank h bytes now c).boxes
+  whole_arrived_at memory rank h bytes now c g = boxes.whole_arrived_at Both none both_last r memory rank h bytes now c g
 
-  pub part_came_at : (part : Option DatagramPart) (memory : Bool) (rank : ℕ) (bytes : List ℕ) (now : ℕ) (c : Copies) → At P r c.boxes → At P r (part_came part memory rank bytes now c).boxes
-  part_came_at part memory rank bytes now c g = boxes.part_came_at Both none both_last r part memory rank bytes now c g
+  pub part_arrived_at : (part : Option DatagramPart) (memory : Bool) (rank : ℕ) (bytes : List ℕ) (now : ℕ) (c : Copies) → At P r c.boxes → At P r (part_arrived part memory rank bytes now c).boxes
+  part_arrived_at part memory rank bytes now c g = boxes.part_arrived_at Both none both_last r part memory rank bytes now c g
 
   pub arrived_at : (memory : Bool) (rank : ℕ) (bytes : List ℕ) (now : ℕ) (c : Copies) → At P r c.boxes → At P r (arrived memory rank bytes now c).boxes
-  arrived_at memory rank bytes now c g = part_came_at (part_of bytes) memory rank bytes now c g
+  arrived_at memory rank bytes now c g = part_arrived_at (part_of bytes) memory rank bytes now c g
 
 -- Time passes: what goes on the way is said of each note.
-pub passed_at : (P Q : List Kept → Type 0) (none : Q []) (lasts : Lasts Q) (r : ℕ) (again : Bool) (now : ℕ) (c : Copies) → ((kept : List Kept) → P kept → Q (went again now kept)) → At P r c.boxes → At Q r (all_passed again now c).boxes
+pub passed_at : (P Q : List Kept → Type 0) (none : Q []) (lasts : Lasts Q) (r : ℕ) (again : Bool) (now : ℕ) (c : Copies) → ((kept : List Kept) → P kept → Q (due_sent again now kept)) → At P r c.boxes → At Q r (all_passed again now c).boxes
 passed_at P Q none lasts r again now c goes h =
-    boxes.passed_at (λ kept u. P kept) (λ kept u. Q kept) none r again now c (λ kept u g. of_turned Q lasts now (went again now kept) (goes kept g)) h
+    boxes.passed_at (λ kept u. P kept) (λ kept u. Q kept) none r again now c (λ kept u g. of_released Q lasts now (due_sent again now kept) (goes kept g)) h
 
 -- what becomes of one monitor's copies
 pub put_self : (P Q : List Kept → Type 0) (f : Outbox → Outbox) → Q [] → ((b : Outbox) → P b.shelf → Q (f b).shelf) → (bs : List Outbox) (r : ℕ) → At P r bs → At Q r (set bs r (f (get_or bs r nothing)))
@@ -168,4 +168,4 @@ module _ (P : List Kept → Type 0) (none : P []) (thins : Thins P) where
   pub of_all_passed : (again : Bool) (now : ℕ) (c : Copies) → AllKeep P c → AllKeep P (all_passed again now c)
   of_all_passed again now c h =
       all_of_each (all_passed again now c).boxes
-      (λ r. passed_at P P none lasts r again now c (λ kept g. thins (if_gone again now) (λ k. not (is_spent now k.note)) kept g) (one_of_all c.boxes r h))
+      (λ r. passed_at P P none lasts r again now c (λ kept g. thins (after_sending_if_due again now) (λ k. not (is_spent now k.note)) kept g) (one_of_all c.boxes r h))

@@ -12,7 +12,7 @@ use Rattle.mon_resend.specs.declared.calls.Earlier.{Earlier}
 use Rattle.mon_resend.specs.declared.datagram.Piece.{Piece as Part}
 use Rattle.mon_resend.specs.declared.measure.Measure.{Measure}
 use Rattle.mon_resend.specs.declared.note.Event.{Event}
-use Rattle.mon_resend.specs.declared.note.Event.TheVariants.{Sent, Came, Piece, Asked, Turn}
+use Rattle.mon_resend.specs.declared.note.Event.TheVariants.{Sent, Arrived, Piece, Asked, Released}
 use Rattle.mon_resend.specs.declared.note.Note.{Note}
 use Rattle.mon_resend.specs.declared.outbox.Number.{Number}
 use Rattle.mon_resend.specs.declared.outbox.Outbox.{Outbox}
@@ -25,7 +25,7 @@ use Rattle.mon_resend.specs.Calls.{no_earlier, rested, unacknowledged, acknowled
 use Rattle.mon_resend.specs.Measures.{unmeasured, measured, waits}
 use Rattle.mon_resend.specs.Notes.{plus, times, noted}
 use Rattle.mon_resend.specs.Rows.{way_of, is_answered, is_asked_again, is_measured}
-use Rattle.mon_resend.specs.Shelves.{applied, has_room, went}
+use Rattle.mon_resend.specs.Shelves.{applied, has_room, due_sent}
 use Rattle.mon_wire.specs.declared.kind.Kind.TheVariants as kind
 
 abbrev pub nothing : Outbox
@@ -64,18 +64,18 @@ if_held None = None
 if_held (Some k) = if k.note.held then Some k.note.header.first else None
 
 -- the number of the first FORWARD, if it is held
-abbrev pub turn_of : List Kept → Option ℕ
-turn_of kept = if_held (first_forward kept)
+abbrev pub held_forward : List Kept → Option ℕ
+held_forward kept = if_held (first_forward kept)
 
-abbrev pub turned_by : ℕ → List Kept → Option ℕ → List Kept
-turned_by now kept None = kept
-turned_by now kept (Some seq) = applied (Turn seq) now kept
+abbrev pub released_by : ℕ → List Kept → Option ℕ → List Kept
+released_by now kept None = kept
+released_by now kept (Some seq) = applied (Released seq) now kept
 
-abbrev pub turned : ℕ → List Kept → List Kept
-turned now kept = turned_by now kept (turn_of kept)
+abbrev pub released : ℕ → List Kept → List Kept
+released now kept = released_by now kept (held_forward kept)
 
 abbrev pub happened : Event → ℕ → List Kept → List Kept
-happened event now kept = turned now (applied event now kept)
+happened event now kept = released now (applied event now kept)
 
 -- ---- a message is sent
 
@@ -138,18 +138,18 @@ abbrev pub begins_now : Header → (total len now : ℕ) → Outbox → Bool
 begins_now h total len now b = begins_as (way_of h.kind) (note_of h total len now (cleared h now b))
 
 -- the box after a later piece was given to send
-abbrev pub went_on_with : UnderWay → (memory : Bool) → Outgoing → Outbox → Outbox
-went_on_with (under_way.Kept n) memory out b = copied memory out n b
-went_on_with under_way.Lost memory out b = b
-went_on_with under_way.Nothing memory out b = b
+abbrev pub continued_with : UnderWay → (memory : Bool) → Outgoing → Outbox → Outbox
+continued_with (under_way.Kept n) memory out b = copied memory out n b
+continued_with under_way.Lost memory out b = b
+continued_with under_way.Nothing memory out b = b
 
-abbrev pub went_on : (memory : Bool) → Outgoing → Outbox → Outbox
-went_on memory out b = went_on_with b.under_way memory out b
+abbrev pub continued : (memory : Bool) → Outgoing → Outbox → Outbox
+continued memory out b = continued_with b.under_way memory out b
 
-abbrev pub goes_on_now : UnderWay → Bool
-goes_on_now (under_way.Kept n) = not n.held
-goes_on_now under_way.Lost = false
-goes_on_now under_way.Nothing = true
+abbrev pub continues_now : UnderWay → Bool
+continues_now (under_way.Kept n) = not n.held
+continues_now under_way.Lost = false
+continues_now under_way.Nothing = true
 
 -- ---- a message arrives
 
@@ -165,7 +165,7 @@ measured_by h now b = measured_with h now b.measure (answered_one h b.shelf)
 
 -- the copies that an arrived message answers are dropped
 abbrev pub heard : Header → ℕ → Outbox → Outbox
-heard h now b = record b { measure = measured_by h now b; shelf = happened (Came h) now b.shelf }
+heard h now b = record b { measure = measured_by h now b; shelf = happened (Arrived h) now b.shelf }
 
 -- whether the answer to an arrived question is kept
 abbrev pub knows : Header → List Kept → Bool
@@ -218,8 +218,8 @@ abbrev pub is_past : Part → Option Number → Bool
 is_past p None = false
 is_past p (Some n) = n.boot == p.boot && n.seq == p.seq
 
-abbrev pub piece_came : Part → ℕ → Outbox → Outbox
-piece_came p now b = record b {
+abbrev pub piece_arrived : Part → ℕ → Outbox → Outbox
+piece_arrived p now b = record b {
   heard = Some (record { boot = p.boot; seq = p.seq });
   shelf = if is_past p b.past then b.shelf else happened (Piece p.is_last) now b.shelf;
 }
@@ -227,4 +227,4 @@ piece_came p now b = record b {
 -- ---- time passes
 
 abbrev pub passed : (again : Bool) → ℕ → Outbox → Outbox
-passed again now b = record b { shelf = turned now (went again now b.shelf) }
+passed again now b = record b { shelf = released now (due_sent again now b.shelf) }

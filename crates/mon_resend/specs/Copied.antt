@@ -1,6 +1,6 @@
 -- What is sent again.
 use Rattle.std.specs.Prelude.{◌≡◌, ℕ, ◌≤◌, List, [], ◌∷◌, ◌++◌, ◌⊎◌, Result, Ok, Err, option_map}
-use Rattle.mon_link.specs.Links.{LinkState, Told, CallsNext}
+use Rattle.mon_link.specs.Links.{LinkState, Observed, CallsNext}
 use Rattle.mon_link.specs.declared.link.Got.{Got}
 use Rattle.mon_link.specs.declared.link.Got.TheVariants.{Datagram, Idle, Closed}
 use Rattle.mon_link.specs.declared.link.Outgoing.{Outgoing}
@@ -19,14 +19,14 @@ pub record AreOf (those these : List Outgoing) : Type 0 where
 abbrev pub datagram : Peer → List ℕ → Outgoing
 datagram to bytes = record { to = to; bytes = bytes }
 
-abbrev pub with_sent : List Outgoing → Told → Told
+abbrev pub with_sent : List Outgoing → Observed → Observed
 with_sent more t = record t { sent = t.sent ++ more }
 
 -- a link was asked for nothing but to send some of these
 pub record RepeatsOnly (kept : List Outgoing) (old new : LinkState) : Type 0 where
   pub more : List Outgoing
   pub among : AreOf kept more
-  pub told : new.told ≡ option_map (with_sent more) old.told
+  pub observed : new.observed ≡ option_map (with_sent more) old.observed
   pub faults : new.faults ≡ old.faults
 
 abbrev pub IsDatagram : Got → Type 0

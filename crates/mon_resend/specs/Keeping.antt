@@ -8,7 +8,7 @@ use Rattle.mon_resend.specs.declared.outbox.UnderWay.{UnderWay}
 use Rattle.mon_resend.specs.declared.outbox.UnderWay.TheVariants as under_way
 use Rattle.mon_resend.specs.declared.rows.Way.{Way}
 use Rattle.mon_resend.specs.declared.rows.Way.TheVariants as way
-use Rattle.mon_resend.specs.Again.{note_of, fits, cleared, begun, went_on}
+use Rattle.mon_resend.specs.Again.{note_of, fits, cleared, begun, continued}
 use Rattle.mon_resend.specs.Notes.{plus}
 use Rattle.mon_resend.specs.Rows.{way_of}
 use Rattle.mon_resend.specs.Shelves.{has_room}
@@ -58,4 +58,4 @@ pub record EachIsKept : Type 0 where
   pub first : (memory : Bool) (out : Outgoing) (h : Header) (total now : ℕ) (b : Outbox)
       → FirstKeepsOrCounts out h total now (cleared h now b) (begun memory out h total now b)
   pub later : (memory : Bool) (out : Outgoing) (b : Outbox)
-      → PieceKeepsOrCounts b.under_way out b (went_on memory out b)
+      → PieceKeepsOrCounts b.under_way out b (continued memory out b)

@@ -3,7 +3,7 @@ use Rattle.std.specs.Prelude.{ℕ, ◌+◌, ◌*◌, ◌-◌, ◌^◌, min, max,
 use Rattle.mon_decode.specs.declared.header.Header.{Header}
 use Rattle.mon_decode.specs.Headers.{same_kind}
 use Rattle.mon_resend.specs.declared.note.Event.{Event}
-use Rattle.mon_resend.specs.declared.note.Event.TheVariants.{Sent, Came, Piece, Asked, Rose, Deferred, Left, Turn}
+use Rattle.mon_resend.specs.declared.note.Event.TheVariants.{Sent, Arrived, Piece, Asked, Rose, Deferred, LeftQuorum, Released}
 use Rattle.mon_resend.specs.declared.note.Note.{Note}
 use Rattle.mon_resend.specs.declared.note.TheConstants.{TIMES, NEVER, LONGEST, LEAST_OF_COOKIE, LEAST_OF_CHUNK, AFTER_CHUNK, PIECE_TIME}
 use Rattle.mon_resend.specs.declared.rows.Way.{Way}
@@ -53,13 +53,13 @@ noted header pieces held wait now = record {
 
 abbrev pub is_ended : Event → Note → Bool
 is_ended (Sent sent) n = ends sent n.header.kind
-is_ended (Came header) n = is_answered n.header header
+is_ended (Arrived header) n = is_answered n.header header
 is_ended (Rose epoch) n = is_of_epoch n.header.kind && nat_lt n.header.epoch epoch
 is_ended Deferred n = same_kind n.header.kind kind.Propose
-is_ended Left n = true
+is_ended LeftQuorum n = true
 is_ended (Piece is_last) n = false
 is_ended (Asked header) n = false
-is_ended (Turn seq) n = false
+is_ended (Released seq) n = false
 
 -- the copy is now to be sent, as if for the first time
 abbrev pub called : ℕ → Note → Note
@@ -68,19 +68,19 @@ called now n = record n { last = now; due = now; times = 0; held = true }
 -- the note after an event that doesn't end the copy
 abbrev pub after : Event → ℕ → Note → Note
 after (Asked header) now n = if is_asked_again n.header header then called now n else n
-after (Turn seq) now n = if n.held && n.header.first == seq then called now n else n
+after (Released seq) now n = if n.held && n.header.first == seq then called now n else n
 after (Piece is_last) now n = if same_kind n.header.kind kind.GetChunk then record n { due = plus now (if is_last then AFTER_CHUNK else n.every) } else n
 after (Sent sent) now n = n
-after (Came header) now n = n
+after (Arrived header) now n = n
 after (Rose epoch) now n = n
 after Deferred now n = n
-after Left now n = n
+after LeftQuorum now n = n
 
 -- ---- time
 
 -- The copy is to be sent now. Without `again`, only a held one is.
-abbrev pub goes : Bool → ℕ → Note → Bool
-goes again now n = nat_le n.due now && (again || n.held) && nat_lt n.times TIMES
+abbrev pub is_due : Bool → ℕ → Note → Bool
+is_due again now n = nat_le n.due now && (again || n.held) && nat_lt n.times TIMES
 
 abbrev pub is_spent : ℕ → Note → Bool
 is_spent now n = nat_le n.due now && nat_le TIMES n.times
@@ -89,8 +89,8 @@ abbrev pub doubled : ℕ → ℕ
 doubled every = min (times every 2) (max every LONGEST)
 
 -- the note after the copy was sent
-abbrev pub gone : ℕ → Note → Note
-gone now n =
+abbrev pub after_sending : ℕ → Note → Note
+after_sending now n =
     if is_when_asked (way_of n.header.kind) then record n { due = NEVER; held = false }
     else if n.held then record n { due = plus now n.every; held = false }
     else record n { last = now; due = plus now (doubled n.every); every = doubled n.every; times = min (n.times + 1) 255 }

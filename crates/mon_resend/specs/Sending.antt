@@ -12,7 +12,7 @@ use Rattle.mon_types.specs.declared.names.Stop.{Stop}
 use Rattle.mon_resend.specs.declared.copies.Copies.{Copies}
 use Rattle.mon_resend.specs.declared.resending.TheConstants.{RUN}
 use Rattle.mon_resend.specs.Notes.{plus}
-use Rattle.mon_resend.specs.World.{sent, goes_now, arrived, is_taken, all_going, all_passed, due_of}
+use Rattle.mon_resend.specs.World.{sent, is_sent_now, arrived, is_taken, all_due_copies, all_passed, due_of}
 
 -- the datagrams that are kept
 abbrev pub outs : Copies → List Outgoing
@@ -60,7 +60,7 @@ isnt_handed_up Closed now c = false
 pub record Gave (came : Got) (memory : Bool) (now run : ℕ) (old : Copies) (between : LinkState) (result : Result Got Stop) (new : Copies) (link : LinkState) : Type 0 where
   pub hands_up : result ≡ Ok (if isnt_handed_up came now old then Idle else came)
   pub kept : new ≡ all_passed (may_go came run) now (with_got memory came now old)
-  pub sends : SendsEach (all_going (may_go came run) now (with_got memory came now old)) between link
+  pub sends : SendsEach (all_due_copies (may_go came run) now (with_got memory came now old)) between link
 
 abbrev pub AfterNext : Result Got Stop → (memory : Bool) → (now run : ℕ) → Copies → LinkState → Result Got Stop → (run_now : ℕ) → Copies → LinkState → Type 0
 AfterNext (Ok came) memory now run old between result run_now new link = Gave came memory now run old between result new link × (run_now ≡ run_after came run)
@@ -90,7 +90,7 @@ pub record Keeps (rank : ℕ) (bytes : List ℕ) (clock : Option Readings) (old 
   pub shows : Shows clock now
   pub memory : Bool
   pub kept : new ≡ sent memory rank bytes now old
-  pub sends : SendsNow (goes_now rank bytes now old) (Monitor rank) bytes result before link
+  pub sends : SendsNow (is_sent_now rank bytes now old) (Monitor rank) bytes result before link
 
 -- A datagram for a client is sent.
 abbrev pub Sends : Peer → List ℕ → Option Readings → Copies → LinkState → Result (Unit {0}) Stop → Copies → LinkState → Type 0

@@ -7,7 +7,7 @@ use Rattle.mon_resend.specs.declared.note.Note.{Note}
 use Rattle.mon_resend.specs.declared.note.TheConstants.{NEVER}
 use Rattle.mon_resend.specs.declared.shelf.Kept.{Kept}
 use Rattle.mon_resend.specs.declared.shelf.TheConstants.{MOST_KEPT, MOST_KEPT_BYTES}
-use Rattle.mon_resend.specs.Notes.{plus, is_ended, after, goes, gone, is_spent}
+use Rattle.mon_resend.specs.Notes.{plus, is_ended, after, is_due, after_sending, is_spent}
 
 abbrev pub bytes_of : List Kept → ℕ
 bytes_of kept = min (sum_by (λ k. length k.out.bytes) kept) (2 ^ 64 - 1)
@@ -30,16 +30,17 @@ first_due [] = NEVER
 first_due (k ∷ kept) = min k.note.due (first_due kept)
 
 -- the copies that are to be sent now
-abbrev pub going : Bool → ℕ → List Kept → List Outgoing
-going again now kept = map (λ k. k.out) (filter (λ k. goes again now k.note) kept)
+abbrev pub due_copies : Bool → ℕ → List Kept → List Outgoing
+due_copies again now kept = map (λ k. k.out) (filter (λ k. is_due again now k.note) kept)
 
-abbrev pub going_at : Bool → ℕ → Option Kept → List Outgoing
-going_at again now None = []
-going_at again now (Some k) = if goes again now k.note then k.out ∷ [] else []
+abbrev pub due_copy_at : Bool → ℕ → Option Kept → List Outgoing
+due_copy_at again now None = []
+due_copy_at again now (Some k) = if is_due again now k.note then k.out ∷ [] else []
 
-abbrev pub if_gone : Bool → ℕ → Note → Note
-if_gone again now n = if goes again now n then gone now n else n
+abbrev pub after_sending_if_due : Bool → ℕ → Note → Note
+after_sending_if_due again now n = if is_due again now n then after_sending now n else n
 
 -- The due copies were sent. Those that had been sent often enough before are dropped.
-abbrev pub went : Bool → ℕ → List Kept → List Kept
-went again now kept = map (λ k. with_note (if_gone again now k.note) k) (filter (λ k. not (is_spent now k.note)) kept)
+abbrev pub due_sent : Bool → ℕ → List Kept → List Kept
+due_sent again now kept =
+    map (λ k. with_note (after_sending_if_due again now k.note) k) (filter (λ k. not (is_spent now k.note)) kept)

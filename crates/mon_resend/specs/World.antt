@@ -9,14 +9,14 @@ use Rattle.mon_resend.specs.declared.copies.Copies.{Copies}
 use Rattle.mon_resend.specs.declared.datagram.Part.{Part}
 use Rattle.mon_resend.specs.declared.datagram.Part.TheVariants.{Whole, First, Later}
 use Rattle.mon_resend.specs.declared.note.Event.{Event}
-use Rattle.mon_resend.specs.declared.note.Event.TheVariants.{Rose, Deferred, Left}
+use Rattle.mon_resend.specs.declared.note.Event.TheVariants.{Rose, Deferred, LeftQuorum}
 use Rattle.mon_resend.specs.declared.note.TheConstants.{NEVER}
 use Rattle.mon_resend.specs.declared.outbox.Outbox.{Outbox}
-use Rattle.mon_resend.specs.Again.{nothing, happened, begun, begins_now, went_on, goes_on_now, received, is_known, called, is_dropped, piece_came, passed}
+use Rattle.mon_resend.specs.Again.{nothing, happened, begun, begins_now, continued, continues_now, received, is_known, called, is_dropped, piece_arrived, passed}
 use Rattle.mon_resend.specs.Copied.{datagram}
 use Rattle.mon_resend.specs.Datagrams.{part_of}
 use Rattle.mon_resend.specs.Rows.{is_of_epoch}
-use Rattle.mon_resend.specs.Shelves.{first_due, going}
+use Rattle.mon_resend.specs.Shelves.{first_due, due_copies}
 use Rattle.mon_wire.specs.declared.kind.Kind.TheVariants as kind
 
 abbrev pub fresh : Copies
@@ -57,16 +57,16 @@ in_epoch h c =
     else c
 
 -- A PROBE ends all copies, and an ACK ends those of PROPOSE.
-abbrev pub left : Header → ℕ → Copies → Copies
-left h now c =
-    if same_kind h.kind kind.Probe then each Left now c
+abbrev pub without_ended : Header → ℕ → Copies → Copies
+without_ended h now c =
+    if same_kind h.kind kind.Probe then each LeftQuorum now c
     else if same_kind h.kind kind.Ack then each Deferred now c
     else c
 
 -- ---- a datagram is given to send to a monitor
 
 abbrev pub begins : Header → ℕ → Copies → Copies
-begins h now c = left h now (in_epoch h (risen h now c))
+begins h now c = without_ended h now (in_epoch h (risen h now c))
 
 abbrev pub began : (memory : Bool) → (rank : ℕ) → Outgoing → Header → (total now : ℕ) → Copies → Copies
 began memory rank out h total now c = with_box rank (begun memory out h total now (box_of rank (begins h now c))) (begins h now c)
@@ -77,21 +77,21 @@ begins_at rank h total len now c = begins_now h total len now (box_of rank (begi
 abbrev pub sent_part : Option Part → (memory : Bool) → (rank : ℕ) → List ℕ → ℕ → Copies → Copies
 sent_part (Some (Whole h)) memory rank bytes now c = began memory rank (datagram (Monitor rank) bytes) h (length bytes) now c
 sent_part (Some (First h total)) memory rank bytes now c = began memory rank (datagram (Monitor rank) bytes) h total now c
-sent_part (Some (Later p)) memory rank bytes now c = with_box rank (went_on memory (datagram (Monitor rank) bytes) (box_of rank c)) c
+sent_part (Some (Later p)) memory rank bytes now c = with_box rank (continued memory (datagram (Monitor rank) bytes) (box_of rank c)) c
 sent_part None memory rank bytes now c = c
 
 abbrev pub sent : (memory : Bool) → (rank : ℕ) → List ℕ → ℕ → Copies → Copies
 sent memory rank bytes now c = sent_part (part_of bytes) memory rank bytes now c
 
 -- whether the datagram is sent now
-abbrev pub part_goes : Option Part → (rank : ℕ) → List ℕ → ℕ → Copies → Bool
-part_goes (Some (Whole h)) rank bytes now c = begins_at rank h (length bytes) (length bytes) now c
-part_goes (Some (First h total)) rank bytes now c = begins_at rank h total (length bytes) now c
-part_goes (Some (Later p)) rank bytes now c = goes_on_now (box_of rank c).under_way
-part_goes None rank bytes now c = true
+abbrev pub is_part_sent : Option Part → (rank : ℕ) → List ℕ → ℕ → Copies → Bool
+is_part_sent (Some (Whole h)) rank bytes now c = begins_at rank h (length bytes) (length bytes) now c
+is_part_sent (Some (First h total)) rank bytes now c = begins_at rank h total (length bytes) now c
+is_part_sent (Some (Later p)) rank bytes now c = continues_now (box_of rank c).under_way
+is_part_sent None rank bytes now c = true
 
-abbrev pub goes_now : (rank : ℕ) → List ℕ → ℕ → Copies → Bool
-goes_now rank bytes now c = part_goes (part_of bytes) rank bytes now c
+abbrev pub is_sent_now : (rank : ℕ) → List ℕ → ℕ → Copies → Bool
+is_sent_now rank bytes now c = is_part_sent (part_of bytes) rank bytes now c
 
 -- ---- a datagram arrives from a monitor
 
@@ -101,13 +101,13 @@ called_at rank h now c = if same_kind h.kind kind.Propose then with_box rank (ca
 abbrev pub is_dropped_at : (rank : ℕ) → Header → ℕ → Copies → Bool
 is_dropped_at rank h now c = same_kind h.kind kind.Propose && is_dropped h.epoch c.own now (box_of rank c)
 
-abbrev pub came_at : (memory : Bool) → (rank : ℕ) → Header → List ℕ → ℕ → Copies → Copies
-came_at memory rank h bytes now c = with_box rank (received memory h bytes now (box_of rank c)) c
+abbrev pub received_at : (memory : Bool) → (rank : ℕ) → Header → List ℕ → ℕ → Copies → Copies
+received_at memory rank h bytes now c = with_box rank (received memory h bytes now (box_of rank c)) c
 
-abbrev pub whole_came : (memory : Bool) → (rank : ℕ) → Header → List ℕ → ℕ → Copies → Copies
-whole_came memory rank h bytes now c =
+abbrev pub whole_arrived : (memory : Bool) → (rank : ℕ) → Header → List ℕ → ℕ → Copies → Copies
+whole_arrived memory rank h bytes now c =
     if is_dropped_at rank h now (risen h now c) then called_at rank h now (risen h now c)
-    else came_at memory rank h bytes now (called_at rank h now (risen h now c))
+    else received_at memory rank h bytes now (called_at rank h now (risen h now c))
 
 abbrev pub is_whole_known : (rank : ℕ) → Header → List ℕ → ℕ → Copies → Bool
 is_whole_known rank h bytes now c =
@@ -117,20 +117,20 @@ is_whole_known rank h bytes now c =
 abbrev pub asks : Header → Bool
 asks h = same_kind h.kind kind.Begin || same_kind h.kind kind.Forward
 
-abbrev pub first_came : (memory : Bool) → (rank : ℕ) → Header → List ℕ → ℕ → Copies → Copies
-first_came memory rank h bytes now c = if asks h then came_at memory rank h bytes now c else c
+abbrev pub first_arrived : (memory : Bool) → (rank : ℕ) → Header → List ℕ → ℕ → Copies → Copies
+first_arrived memory rank h bytes now c = if asks h then received_at memory rank h bytes now c else c
 
 abbrev pub is_first_known : (rank : ℕ) → Header → List ℕ → Copies → Bool
 is_first_known rank h bytes c = asks h && is_known h bytes (box_of rank c)
 
-abbrev pub part_came : Option Part → (memory : Bool) → (rank : ℕ) → List ℕ → ℕ → Copies → Copies
-part_came (Some (Whole h)) memory rank bytes now c = whole_came memory rank h bytes now c
-part_came (Some (First h total)) memory rank bytes now c = first_came memory rank h bytes now c
-part_came (Some (Later p)) memory rank bytes now c = with_box rank (piece_came p now (box_of rank c)) c
-part_came None memory rank bytes now c = c
+abbrev pub part_arrived : Option Part → (memory : Bool) → (rank : ℕ) → List ℕ → ℕ → Copies → Copies
+part_arrived (Some (Whole h)) memory rank bytes now c = whole_arrived memory rank h bytes now c
+part_arrived (Some (First h total)) memory rank bytes now c = first_arrived memory rank h bytes now c
+part_arrived (Some (Later p)) memory rank bytes now c = with_box rank (piece_arrived p now (box_of rank c)) c
+part_arrived None memory rank bytes now c = c
 
 abbrev pub arrived : (memory : Bool) → (rank : ℕ) → List ℕ → ℕ → Copies → Copies
-arrived memory rank bytes now c = part_came (part_of bytes) memory rank bytes now c
+arrived memory rank bytes now c = part_arrived (part_of bytes) memory rank bytes now c
 
 -- whether the datagram isn't handed up
 abbrev pub is_part_taken : Option Part → (rank : ℕ) → List ℕ → ℕ → Copies → Bool
@@ -148,8 +148,8 @@ abbrev pub all_passed : (again : Bool) → ℕ → Copies → Copies
 all_passed again now c = record c { boxes = map (λ b. passed again now b) c.boxes }
 
 -- the copies that are to be sent now, monitor by monitor
-abbrev pub all_going : (again : Bool) → ℕ → Copies → List Outgoing
-all_going again now c = flat_map (λ b. going again now b.shelf) c.boxes
+abbrev pub all_due_copies : (again : Bool) → ℕ → Copies → List Outgoing
+all_due_copies again now c = flat_map (λ b. due_copies again now b.shelf) c.boxes
 
 abbrev pub boxes_due : List Outbox → ℕ
 boxes_due [] = NEVER

@@ -2,7 +2,7 @@
 
 ghost use Rattle.std.specs.Prelude.{◌≡◌, ◌<◌, ◌-◌, length, min};
 ghost use Rattle.mon_resend.specs.Copied.{datagram};
-ghost use Rattle.mon_resend.specs.World.{all_passed, arrived, began, begins_at, box_of, called_at, due_of, each, first_came, fresh, goes_now, in_epoch, is_dropped_at, is_first_known, is_taken, is_whole_known, left, risen, sent, unkept_of, whole_came, with_box, with_event};
+ghost use Rattle.mon_resend.specs.World.{all_passed, arrived, began, begins_at, box_of, called_at, due_of, each, first_arrived, fresh, is_sent_now, in_epoch, is_dropped_at, is_first_known, is_taken, is_whole_known, without_ended, risen, sent, unkept_of, whole_arrived, with_box, with_event};
 ghost use Rattle.mon_resend.specs.Again.{passed};
 ghost use Rattle.mon_link.specs.declared.link.Peer.TheVariants.{Monitor};
 
@@ -101,7 +101,7 @@ impl Copies {
     }
 
     /// Notes the epoch of a message to any monitor, or 0 for a PROBE.
-    fn is_in(&mut self, header: &Header)
+    fn notes_epoch(&mut self, header: &Header)
         ensures { self.new ≡ in_epoch header.now self.old }
     {
         if same_kind(header.kind, Kind::Probe) {
@@ -114,10 +114,10 @@ impl Copies {
     /// Drops the copies that a message to any monitor ends for all monitors: all of them for a PROBE, PROPOSEs for an
     /// ACK.
     fn leaves(&mut self, header: &Header, now: u64)
-        ensures { self.new ≡ left header.now now self.old }
+        ensures { self.new ≡ without_ended header.now now self.old }
     {
         if same_kind(header.kind, Kind::Probe) {
-            self.apply(Event::Left, now);
+            self.apply(Event::LeftQuorum, now);
         } else if same_kind(header.kind, Kind::Ack) {
             self.apply(Event::Deferred, now);
         }
@@ -133,19 +133,19 @@ impl Copies {
         now: u64,
     ) -> Answer
         ensures after { self.new ≡ began result.has_memory to (datagram (Monitor to) bytes.now) header total now self.old }
-        ensures goes { result.yes ≡ begins_at to header total (length bytes.now) now self.old }
+        ensures goes { result.verdict ≡ begins_at to header total (length bytes.now) now self.old }
     {
         self.rises(&header, now);
-        self.is_in(&header);
+        self.notes_epoch(&header);
         self.leaves(&header, now);
         self.boxes[usize::from(to.get())].begins(alloc, to, header, total, bytes, now)
     }
 
-    /// Notes a datagram for a monitor, and keeps a copy if its message is sent again. `yes` means that it is sent now.
-    /// Otherwise it waits for the answer to an earlier FORWARD, or is lost if there is no room for it.
+    /// Notes a datagram for a monitor, and keeps a copy if its message is sent again. `verdict` means that it is sent
+    /// now. Otherwise it waits for the answer to an earlier FORWARD, or is lost if there is no room for it.
     pub(crate) fn sends(&mut self, alloc: Global, to: Rank, bytes: &[u8], now: u64) -> Answer
         ensures after { self.new ≡ sent result.has_memory to bytes.now now self.old }
-        ensures goes { result.yes ≡ goes_now to bytes.now now self.old }
+        ensures goes { result.verdict ≡ is_sent_now to bytes.now now self.old }
     {
         match part_of(bytes) {
             Some(Part::Whole(header)) => self.begins(
@@ -164,7 +164,7 @@ impl Copies {
                 bytes,
                 now,
             ),
-            Some(Part::Later(_)) => self.boxes[usize::from(to.get())].goes_on(alloc, to, bytes),
+            Some(Part::Later(_)) => self.boxes[usize::from(to.get())].continues(alloc, to, bytes),
             None => Answer::of(true),
         }
     }
@@ -181,7 +181,7 @@ impl Copies {
         self.boxes[usize::from(from.get())].drops(header.epoch, own, now)
     }
 
-    fn comes_whole(
+    fn whole_arrives(
         &mut self,
         alloc: Global,
         from: Rank,
@@ -189,25 +189,25 @@ impl Copies {
         bytes: &[u8],
         now: u64,
     ) -> Answer
-        ensures after { self.new ≡ whole_came result.has_memory from header.now bytes.now now self.old }
-        ensures known { result.yes ≡ is_whole_known from header.now bytes.now now self.old }
+        ensures after { self.new ≡ whole_arrived result.has_memory from header.now bytes.now now self.old }
+        ensures known { result.verdict ≡ is_whole_known from header.now bytes.now now self.old }
     {
         self.rises(header, now);
         if self.drops(from, header, now) {
             return Answer::of(true);
         }
-        self.boxes[usize::from(from.get())].comes(alloc, header, bytes, now)
+        self.boxes[usize::from(from.get())].arrives(alloc, header, bytes, now)
     }
 
-    /// Notes a datagram from a monitor. `yes` means that it isn't handed up: a kept answer answers it, or it is a
+    /// Notes a datagram from a monitor. `verdict` means that it isn't handed up: a kept answer answers it, or it is a
     /// PROPOSE that is dropped. No piece of a long message answers a copy, since another piece may be missing.
-    pub(crate) fn comes(&mut self, alloc: Global, from: Rank, bytes: &[u8], now: u64) -> Answer
+    pub(crate) fn arrives(&mut self, alloc: Global, from: Rank, bytes: &[u8], now: u64) -> Answer
         ensures after { self.new ≡ arrived result.has_memory from bytes.now now self.old }
-        ensures known { result.yes ≡ is_taken from bytes.now now self.old }
+        ensures known { result.verdict ≡ is_taken from bytes.now now self.old }
     {
         match part_of(bytes) {
-            Some(Part::Whole(header)) => self.comes_whole(alloc, from, &header, bytes, now),
-            Some(Part::First(header, _)) => self.comes_first(alloc, from, &header, bytes, now),
+            Some(Part::Whole(header)) => self.whole_arrives(alloc, from, &header, bytes, now),
+            Some(Part::First(header, _)) => self.first_arrives(alloc, from, &header, bytes, now),
             Some(Part::Later(piece)) => {
                 self.boxes[usize::from(from.get())].hears_piece(piece, now);
                 Answer::of(false)
@@ -216,7 +216,7 @@ impl Copies {
         }
     }
 
-    fn comes_first(
+    fn first_arrives(
         &mut self,
         alloc: Global,
         from: Rank,
@@ -224,11 +224,11 @@ impl Copies {
         bytes: &[u8],
         now: u64,
     ) -> Answer
-        ensures after { self.new ≡ first_came result.has_memory from header.now bytes.now now self.old }
-        ensures known { result.yes ≡ is_first_known from header.now bytes.now self.old }
+        ensures after { self.new ≡ first_arrived result.has_memory from header.now bytes.now now self.old }
+        ensures known { result.verdict ≡ is_first_known from header.now bytes.now self.old }
     {
         if same_kind(header.kind, Kind::Begin) || same_kind(header.kind, Kind::Forward) {
-            return self.boxes[usize::from(from.get())].comes(alloc, header, bytes, now);
+            return self.boxes[usize::from(from.get())].arrives(alloc, header, bytes, now);
         }
         Answer::of(false)
     }
@@ -263,7 +263,7 @@ impl Copies {
     }
 
     /// Milliseconds until the next copy is due, at most `wait`.
-    pub(crate) fn rests(&self, now: u64, wait: u64) -> u64
+    pub(crate) fn next_wait(&self, now: u64, wait: u64) -> u64
         ensures { result ≡ min wait (due_of self.now - now) }
     {
         wait.min(self.due().saturating_sub(now))

@@ -4,7 +4,7 @@ ghost use Rattle.std.specs.Prelude.{◌≡◌};
 ghost use Rattle.mon_resend.specs.Datagrams.{part_of, piece_in};
 
 use mon_decode::{Header, read_header};
-use mon_frag::{PART, behind_header, is_whole};
+use mon_frag::{PART, is_whole, piece_payload};
 
 /// A piece of a long message that isn't the first one. The two numbers distinguish the message from others of its sender.
 #[derive(Clone, Copy)]
@@ -37,7 +37,7 @@ fn read_piece(datagram: &[u8]) -> Option<Part>
             is_last: piece.total - piece.place <= PART,
         }));
     }
-    match read_header(behind_header(datagram)) {
+    match read_header(piece_payload(datagram)) {
         Some(header) => Some(Part::First(header, piece.total)),
         None => None,
     }

@@ -12,6 +12,6 @@ pub fn law_within()
 /// Each datagram of a message that is sent again is kept if there is room, or it is counted that memory was refused for it.
 /// Nothing else is counted of what is sent.
 #[tactic(auto, using(crate::proofs::Keeping::each_is_kept))]
-pub fn law_kept()
+pub fn law_copies_kept()
     ensures { EachIsKept }
 {}

@@ -15,5 +15,5 @@ mod shelf;
 
 pub use copies::Copies;
 pub use datagram::{Part, Piece, part_of};
-pub use laws::{law_kept, law_within};
+pub use laws::{law_copies_kept, law_within};
 pub use resending::Resending;

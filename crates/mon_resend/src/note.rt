@@ -1,8 +1,8 @@
 //! When a copy is sent, and when it is dropped.
 
 ghost use Rattle.std.specs.Prelude.{◌≡◌};
-ghost use Rattle.mon_resend.specs.Shelves.{if_gone};
-ghost use Rattle.mon_resend.specs.Notes.{noted, least_of, is_ended, called, after, goes, gone, is_spent, plus};
+ghost use Rattle.mon_resend.specs.Shelves.{after_sending_if_due};
+ghost use Rattle.mon_resend.specs.Notes.{noted, least_of, is_ended, called, after, is_due, after_sending, is_spent, plus};
 
 use crate::rows::{Way, ends, is_answered, is_asked_again, is_of_epoch, way_of};
 use mon_decode::{Header, same_kind};
@@ -36,7 +36,7 @@ pub enum Event {
     /// A new message of this kind is to be sent to it.
     Sent(Kind),
     /// A message came from it.
-    Came(Header),
+    Arrived(Header),
     /// A later piece of a long message came from it.
     Piece { is_last: bool },
     /// This question of it arrived again, and the kept answer is to be sent again.
@@ -46,9 +46,9 @@ pub enum Event {
     /// The own monitor acknowledged another one's proposal.
     Deferred,
     /// The own monitor left its quorum: it probes.
-    Left,
+    LeftQuorum,
     /// The FORWARD of this number may go: none before it waits for its ROUTE.
-    Turn(u64),
+    Released(u64),
 }
 
 /// What is noted of a copy, which is a whole message or a piece of one.
@@ -116,11 +116,11 @@ impl Note {
     {
         match event {
             Event::Sent(kind) => ends(kind, self.header.kind),
-            Event::Came(header) => is_answered(&self.header, &header),
+            Event::Arrived(header) => is_answered(&self.header, &header),
             Event::Rose(epoch) => is_of_epoch(self.header.kind) && self.header.epoch < epoch,
             Event::Deferred => same_kind(self.header.kind, Kind::Propose),
-            Event::Left => true,
-            Event::Piece { .. } | Event::Asked(_) | Event::Turn(_) => false,
+            Event::LeftQuorum => true,
+            Event::Piece { .. } | Event::Asked(_) | Event::Released(_) => false,
         }
     }
 
@@ -149,7 +149,7 @@ impl Note {
                     self
                 }
             }
-            Event::Turn(seq) => {
+            Event::Released(seq) => {
                 if self.held && self.header.first == seq {
                     self.called(now)
                 } else {
@@ -163,8 +163,11 @@ impl Note {
                     self
                 }
             }
-            Event::Sent(_) | Event::Came(_) | Event::Rose(_) | Event::Deferred | Event::Left =>
-                self,
+            Event::Sent(_)
+            | Event::Arrived(_)
+            | Event::Rose(_)
+            | Event::Deferred
+            | Event::LeftQuorum => self,
         }
     }
 
@@ -179,8 +182,8 @@ impl Note {
     }
 
     /// Whether the copy is to be sent now. Without `again`, only a held one is.
-    pub(crate) fn goes(&self, again: bool, now: u64) -> bool
-        ensures { result ≡ goes again now self.now }
+    pub(crate) fn is_due(&self, again: bool, now: u64) -> bool
+        ensures { result ≡ is_due again now self.now }
     {
         self.due <= now && (again || self.held) && self.times < TIMES
     }
@@ -193,8 +196,8 @@ impl Note {
     }
 
     /// The note after the copy was sent.
-    pub(crate) fn gone(self, now: u64) -> Note
-        ensures { result ≡ gone now self }
+    pub(crate) fn after_sending(self, now: u64) -> Note
+        ensures { result ≡ after_sending now self }
     {
         if way_of(self.header.kind) == Way::WhenAsked {
             return Note {
@@ -222,10 +225,10 @@ impl Note {
 
     /// The note after the due copies were sent: it changes if this copy was among them.
     pub(crate) fn passed(self, again: bool, now: u64) -> Note
-        ensures { result ≡ if_gone again now self }
+        ensures { result ≡ after_sending_if_due again now self }
     {
-        if self.goes(again, now) {
-            self.gone(now)
+        if self.is_due(again, now) {
+            self.after_sending(now)
         } else {
             self
         }

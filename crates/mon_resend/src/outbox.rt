@@ -3,7 +3,7 @@
 ghost use Rattle.std.specs.Prelude.{◌≡◌, true, false, if◌then◌else◌, [], find, is_some, length, not, option_map};
 ghost use Rattle.std.specs.List.{list_any};
 ghost use Rattle.mon_resend.specs.Copied.{datagram};
-ghost use Rattle.mon_resend.specs.Again.{nothing, first_forward, happened, turn_of, turned, cleared, note_of, under_way_of, fits, copied, counted_if, begun, begins_now, went_on, goes_on_now, measured_by, heard, knows, answered, answered_one, received, is_known, called, is_dropped, is_past, piece_came, passed};
+ghost use Rattle.mon_resend.specs.Again.{nothing, first_forward, happened, held_forward, released, cleared, note_of, under_way_of, fits, copied, counted_if, begun, begins_now, continued, continues_now, measured_by, heard, knows, answered, answered_one, received, is_known, called, is_dropped, is_past, piece_arrived, passed};
 ghost use Rattle.mon_link.specs.declared.link.Peer.TheVariants.{Monitor};
 
 use crate::calls::{Acknowledged, Earlier};
@@ -41,17 +41,17 @@ pub struct Number {
 /// The Boolean result of a step, and whether memory sufficed for what the step had to keep.
 #[derive(Clone, Copy)]
 pub struct Answer {
-    pub yes: bool,
+    pub verdict: bool,
     pub has_memory: bool,
 }
 
 impl Answer {
     /// The answer of a step that had nothing to keep.
-    pub(crate) fn of(yes: bool) -> Answer
-        ensures { result ≡ record { yes = yes; has_memory = true } }
+    pub(crate) fn of(verdict: bool) -> Answer
+        ensures { result ≡ record { verdict = verdict; has_memory = true } }
     {
         Answer {
-            yes,
+            verdict,
             has_memory: true,
         }
     }
@@ -104,8 +104,8 @@ impl Outbox {
     }
 
     /// The number of the first FORWARD, if it is held.
-    fn turn(&self) -> Option<u64>
-        ensures { result ≡ turn_of self.now.shelf }
+    fn held_forward(&self) -> Option<u64>
+        ensures { result ≡ held_forward self.now.shelf }
     {
         let Some(kept) = self.first_forward() else {
             return None;
@@ -118,11 +118,11 @@ impl Outbox {
     }
 
     /// Makes the first FORWARD due now if it is held.
-    fn turns(&mut self, now: u64)
-        ensures { self.new ≡ record self.old { shelf = turned now self.old.shelf } }
+    fn release(&mut self, now: u64)
+        ensures { self.new ≡ record self.old { shelf = released now self.old.shelf } }
     {
-        if let Some(seq) = self.turn() {
-            self.shelf.apply(Event::Turn(seq), now);
+        if let Some(seq) = self.held_forward() {
+            self.shelf.apply(Event::Released(seq), now);
         }
     }
 
@@ -131,7 +131,7 @@ impl Outbox {
         ensures { self.new ≡ record self.old { shelf = happened event now self.old.shelf } }
     {
         self.shelf.apply(event, now);
-        self.turns(now);
+        self.release(now);
     }
 
     /// Drops the copies that a new message ends, and notes what a GET_CHUNK or an ACK changes.
@@ -191,9 +191,9 @@ impl Outbox {
         has_memory
     }
 
-    /// Keeps a copy of the first datagram of a message, if there is room for the whole message. `yes` means that the
-    /// datagram is sent now. A FORWARD waits until the one before it is answered, since the leader takes none after a
-    /// later one. A FORWARD that must wait and has no room is lost.
+    /// Keeps a copy of the first datagram of a message, if there is room for the whole message. `verdict` means that
+    /// the datagram is sent now. A FORWARD waits until the one before it is answered, since the leader takes none after
+    /// a later one. A FORWARD that must wait and has no room is lost.
     pub(crate) fn begins(
         &mut self,
         alloc: Global,
@@ -204,34 +204,37 @@ impl Outbox {
         now: u64,
     ) -> Answer
         ensures after { self.new ≡ begun result.has_memory (datagram (Monitor to) bytes.now) header total now self.old }
-        ensures goes { result.yes ≡ begins_now header total (length bytes.now) now self.old }
+        ensures goes { result.verdict ≡ begins_now header total (length bytes.now) now self.old }
     {
         self.clears(&header, now);
         if way_of(header.kind) == Way::Never {
             return Answer::of(true);
         }
         let note = self.note_of(header, total, bytes.len() as u64, now);
-        let yes = !note.held;
+        let verdict = !note.held;
         let fits = self.fits(&note, total);
         self.under_way = under_way_of(note, fits);
         if !fits {
-            return Answer::of(yes);
+            return Answer::of(verdict);
         }
         let has_memory = self.keep(alloc, to, bytes, note);
-        Answer { yes, has_memory }
+        Answer {
+            verdict,
+            has_memory,
+        }
     }
 
-    /// Keeps a copy of a later piece, if its message is one of which copies are kept. `yes` means that the piece is
+    /// Keeps a copy of a later piece, if its message is one of which copies are kept. `verdict` means that the piece is
     /// sent now.
-    pub(crate) fn goes_on(&mut self, alloc: Global, to: Rank, bytes: &[u8]) -> Answer
-        ensures after { self.new ≡ went_on result.has_memory (datagram (Monitor to) bytes.now) self.old }
-        ensures goes { result.yes ≡ goes_on_now self.old.under_way }
+    pub(crate) fn continues(&mut self, alloc: Global, to: Rank, bytes: &[u8]) -> Answer
+        ensures after { self.new ≡ continued result.has_memory (datagram (Monitor to) bytes.now) self.old }
+        ensures goes { result.verdict ≡ continues_now self.old.under_way }
     {
         match self.under_way {
             UnderWay::Kept(note) => {
                 let has_memory = self.keep(alloc, to, bytes, note);
                 Answer {
-                    yes: !note.held,
+                    verdict: !note.held,
                     has_memory,
                 }
             }
@@ -270,7 +273,7 @@ impl Outbox {
         ensures { self.new ≡ heard came.now now self.old }
     {
         self.measure = self.measured(came, now);
-        self.apply(Event::Came(*came), now);
+        self.apply(Event::Arrived(*came), now);
     }
 
     /// Whether the answer to a question is kept.
@@ -295,12 +298,12 @@ impl Outbox {
         true
     }
 
-    /// Notes an arrived message. `yes` means that the kept answer is sent again and the message isn't handed up. The
-    /// monitor would sync a repeated BEGIN once more, and a new CHUNK's pieces don't complete those of the earlier one.
-    /// A FORWARD is always handed up.
-    pub(crate) fn comes(&mut self, alloc: Global, came: &Header, bytes: &[u8], now: u64) -> Answer
+    /// Notes an arrived message. `verdict` means that the kept answer is sent again and the message isn't handed up.
+    /// The monitor would sync a repeated BEGIN once more, and a new CHUNK's pieces don't complete those of the earlier
+    /// one. A FORWARD is always handed up.
+    pub(crate) fn arrives(&mut self, alloc: Global, came: &Header, bytes: &[u8], now: u64) -> Answer
         ensures after { self.new ≡ received result.has_memory came.now bytes.now now self.old }
-        ensures known { result.yes ≡ is_known came.now bytes.now self.old }
+        ensures known { result.verdict ≡ is_known came.now bytes.now self.old }
     {
         if same_kind(came.kind, Kind::Begin) {
             return Answer::of(self.answers(came, now));
@@ -316,16 +319,16 @@ impl Outbox {
         if self.asked.as_slice() == bytes {
             return Answer::of(self.answers(came, now));
         }
-        let has_memory = self.is_asked(alloc, bytes);
+        let has_memory = self.remembers_question(alloc, bytes);
         self.hears(came, now);
         Answer {
-            yes: false,
+            verdict: false,
             has_memory,
         }
     }
 
     /// Remembers an arrived GET_CHUNK as the last one. Returns false, and counts it, if memory is refused.
-    fn is_asked(&mut self, alloc: Global, bytes: &[u8]) -> bool
+    fn remembers_question(&mut self, alloc: Global, bytes: &[u8]) -> bool
         ensures { self.new ≡ counted_if (not result) self.old
             (record self.old { asked = if result then bytes.now else [] }) }
     {
@@ -373,7 +376,7 @@ impl Outbox {
     /// Notes a later piece of a long message. It changes when the GET_CHUNK is due, unless it is a late piece of the
     /// message that the GET_CHUNK follows.
     pub(crate) fn hears_piece(&mut self, piece: Piece, now: u64)
-        ensures { self.new ≡ piece_came piece now self.old }
+        ensures { self.new ≡ piece_arrived piece now self.old }
     {
         self.heard = Some(Number {
             boot: piece.boot,
@@ -393,8 +396,8 @@ impl Outbox {
     pub(crate) fn passes(&mut self, again: bool, now: u64)
         ensures { self.new ≡ passed again now self.old }
     {
-        self.shelf.went(again, now);
-        self.turns(now);
+        self.shelf.due_sent(again, now);
+        self.release(now);
     }
 }
 

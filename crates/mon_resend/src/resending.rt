@@ -3,8 +3,8 @@
 ghost use Rattle.std.specs.Prelude.{◌≡◌, ◌<◌, ◌++◌, ◌∷◌, ◌⊎◌, [], Ok, slice_get, option_map};
 ghost use Rattle.mon_resend.specs.Copied.{AreOf, AsksOnce, datagram};
 ghost use Rattle.mon_resend.specs.Sending.{Receives, Sends, SendsEach, isnt_handed_up, may_go, outs, run_after, with_got};
-ghost use Rattle.mon_resend.specs.Shelves.{going, going_at};
-ghost use Rattle.mon_resend.specs.World.{all_going, all_passed, box_of, fresh, goes_now, sent};
+ghost use Rattle.mon_resend.specs.Shelves.{due_copies, due_copy_at};
+ghost use Rattle.mon_resend.specs.World.{all_due_copies, all_passed, box_of, fresh, is_sent_now, sent};
 ghost use Rattle.mon_link.specs.Clocks.{after};
 ghost use Rattle.mon_link.specs.Links.{CallsSend, count_after};
 ghost use Rattle.mon_link.specs.declared.link.Peer.TheVariants.{Monitor};
@@ -49,13 +49,13 @@ impl<L: Link + Drop, C: Clock + Drop> Resending<L, C> {
     /// Sends one of the copies for a monitor, if it is due. A failure of the link below is ignored.
     fn repeat_one(&mut self, place: usize, at: usize, again: bool, now: u64)
         requires { place < 15 }
-        ensures sends { SendsEach (going_at again now (slice_get (box_of place self.old.copies).shelf at)) (L.state self.old.inner) (L.state self.new.inner) }
+        ensures sends { SendsEach (due_copy_at again now (slice_get (box_of place self.old.copies).shelf at)) (L.state self.old.inner) (L.state self.new.inner) }
         ensures others { (self.new.copies ≡ self.old.copies) × (self.new.losses ≡ self.old.losses) × (self.new.run ≡ self.old.run) }
     {
         let Some(kept) = self.copies.kept(place).get(at) else {
             return;
         };
-        if !kept.note.goes(again, now) {
+        if !kept.note.is_due(again, now) {
             return;
         }
         let _ = self.inner.send(kept.out.to, kept.out.bytes.as_slice());
@@ -64,7 +64,7 @@ impl<L: Link + Drop, C: Clock + Drop> Resending<L, C> {
     /// Sends the due copies for one monitor.
     fn repeat_at(&mut self, place: usize, again: bool, now: u64)
         requires { place < 15 }
-        ensures sends { SendsEach (going again now (box_of place self.old.copies).shelf) (L.state self.old.inner) (L.state self.new.inner) }
+        ensures sends { SendsEach (due_copies again now (box_of place self.old.copies).shelf) (L.state self.old.inner) (L.state self.new.inner) }
         ensures others { (self.new.copies ≡ self.old.copies) × (self.new.losses ≡ self.old.losses) × (self.new.run ≡ self.old.run) }
     {
         for at in 0..self.copies.kept(place).len() {
@@ -74,7 +74,7 @@ impl<L: Link + Drop, C: Clock + Drop> Resending<L, C> {
 
     /// Sends the due copies, monitor by monitor, and updates their notes.
     fn repeat(&mut self, again: bool, now: u64)
-        ensures sends { SendsEach (all_going again now self.old.copies) (L.state self.old.inner) (L.state self.new.inner) }
+        ensures sends { SendsEach (all_due_copies again now self.old.copies) (L.state self.old.inner) (L.state self.new.inner) }
         ensures kept { self.new.copies ≡ all_passed again now self.old.copies }
         ensures others { (self.new.losses ≡ self.old.losses) × (self.new.run ≡ self.old.run) }
     {
@@ -98,7 +98,7 @@ impl<L: Link + Drop, C: Clock + Drop> Resending<L, C> {
 
     /// Counts consecutive datagrams. Returns whether messages may be sent again: if the link below gave no datagram, or
     /// `RUN` in a row. Until then, an answer may be among the datagrams that wait in it.
-    fn counts(&mut self, got: &Got) -> bool
+    fn note_arrival(&mut self, got: &Got) -> bool
         ensures may { result ≡ may_go got.now self.old.run }
         ensures run { self.new ≡ record self.old { run = run_after got.now self.old.run } }
     {
@@ -112,24 +112,26 @@ impl<L: Link + Drop, C: Clock + Drop> Resending<L, C> {
         true
     }
 
-    /// Notes what the link below gave. `yes` means that it isn't handed up.
+    /// Notes what the link below gave. `verdict` means that it isn't handed up.
     fn note(&mut self, got: &Got, now: u64) -> Answer
         ensures kept { self.new ≡ record self.old { copies = with_got result.has_memory got.now now self.old.copies } }
-        ensures known { result.yes ≡ isnt_handed_up got.now now self.old.copies }
+        ensures known { result.verdict ≡ isnt_handed_up got.now now self.old.copies }
     {
         match got {
             Got::Datagram { from, bytes } => match from {
-                Peer::Monitor(rank) => self.copies.comes(self.alloc, *rank, bytes.as_slice(), now),
+                Peer::Monitor(rank) => self
+                    .copies
+                    .arrives(self.alloc, *rank, bytes.as_slice(), now),
                 Peer::Client(_) => Answer::of(false),
             },
             Got::Idle | Got::Closed => Answer::of(false),
         }
     }
 
-    /// Keeps a copy of a datagram if its message is sent again. `yes` means that the datagram is sent now.
-    fn keeps(&mut self, to: Rank, bytes: &[u8], now: u64) -> Answer
+    /// Keeps a copy of a datagram if its message is sent again. `verdict` means that the datagram is sent now.
+    fn keep_copy(&mut self, to: Rank, bytes: &[u8], now: u64) -> Answer
         ensures kept { self.new ≡ record self.old { copies = sent result.has_memory to bytes.now now self.old.copies } }
-        ensures goes { result.yes ≡ goes_now to bytes.now now self.old.copies }
+        ensures goes { result.verdict ≡ is_sent_now to bytes.now now self.old.copies }
     {
         self.copies.sends(self.alloc, to, bytes, now)
     }
@@ -138,7 +140,7 @@ impl<L: Link + Drop, C: Clock + Drop> Resending<L, C> {
 impl<L: Link + Drop, C: Clock + Drop> Link for Resending<L, C> {
     ghost use Rattle.std.specs.Prelude.{None};
 
-    ghost state = { λ r. record { told = None; faults = (L.state r.inner).faults; losses = r.losses } };
+    ghost state = { λ r. record { observed = None; faults = (L.state r.inner).faults; losses = r.losses } };
 
     /// Asks the link below once, and waits at most until a copy is due. Then sends the due copies. Returns `Idle` for a
     /// datagram that isn't handed up, and an error of the link below at once.
@@ -149,13 +151,13 @@ impl<L: Link + Drop, C: Clock + Drop> Link for Resending<L, C> {
         ensures losses { self.new.losses ≡ self.old.losses }
     {
         let before = self.clock.now().get();
-        let rest = self.copies.rests(before, wait);
+        let rest = self.copies.next_wait(before, wait);
         let got = self.inner.next(rest)?;
         let now = self.clock.now().get();
-        let again = self.counts(&got);
+        let again = self.note_arrival(&got);
         let known = self.note(&got, now);
         self.repeat(again, now);
-        if known.yes {
+        if known.verdict {
             return Ok(Got::Idle);
         }
         Ok(got)
@@ -173,7 +175,7 @@ impl<L: Link + Drop, C: Clock + Drop> Link for Resending<L, C> {
         match to {
             Peer::Monitor(rank) => {
                 let now = self.clock.now().get();
-                if !self.keeps(rank, bytes, now).yes {
+                if !self.keep_copy(rank, bytes, now).verdict {
                     return Ok(());
                 }
                 self.passes(Peer::Monitor(rank), bytes)

@@ -2,7 +2,7 @@
 
 ghost use Rattle.std.specs.Prelude.{◌≡◌, ◌≤◌, ◌++◌, ◌∷◌, [], vec_len, if◌then◌else◌};
 ghost use Rattle.mon_resend.specs.Copied.{datagram};
-ghost use Rattle.mon_resend.specs.Shelves.{applied, bytes_of, first_due, has_room, went};
+ghost use Rattle.mon_resend.specs.Shelves.{applied, bytes_of, first_due, has_room, due_sent};
 
 use crate::note::{Event, NEVER, Note};
 use mon_bytes::Bytes;
@@ -115,8 +115,8 @@ impl Shelf {
     }
 
     /// Updates the notes after the due copies were sent, and drops the copies that are due again after `TIMES` copies.
-    pub(crate) fn went(&mut self, again: bool, now: u64)
-        ensures { self.new ≡ went again now self.old }
+    pub(crate) fn due_sent(&mut self, again: bool, now: u64)
+        ensures { self.new ≡ due_sent again now self.old }
     {
         self.kept.retain(|kept| !kept.note.is_spent(now));
         for kept in self.kept.iter_mut() {

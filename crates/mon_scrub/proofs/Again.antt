@@ -83,14 +83,14 @@ part_again n name rest p h =
     ) refl
 
 -- a part's line, as it is read
-abbrev spelled : (name : List ℕ) → Part → List ℕ → List ℕ
-spelled name p rest = name ++ (decimal p.keys ++ 32 ∷ (codes "sha256=" ++ (encode_lower p.digest ++ 10 ∷ rest)))
+abbrev encoded : (name : List ℕ) → Part → List ℕ → List ℕ
+encoded name p rest = name ++ (decimal p.keys ++ 32 ∷ (codes "sha256=" ++ (encode_lower p.digest ++ 10 ∷ rest)))
 
 parts_joined : (kv logm paxos : Part) (rest : List ℕ)
-    → spelled (codes "kv keys=") kv (spelled (codes "logm keys=") logm (spelled (codes "paxos keys=") paxos rest)) ≡ parts_text prefixes (kv ∷ logm ∷ paxos ∷ []) ++ rest
+    → encoded (codes "kv keys=") kv (encoded (codes "logm keys=") logm (encoded (codes "paxos keys=") paxos rest)) ≡ parts_text prefixes (kv ∷ logm ∷ paxos ∷ []) ++ rest
 parts_joined kv logm paxos rest =
-    line_of (codes "kv") kv (spelled (codes "logm keys=") logm (spelled (codes "paxos keys=") paxos rest))
-    ∙ ap (λ (t : List ℕ). part_text (codes "kv") kv ++ t) (line_of (codes "logm") logm (spelled (codes "paxos keys=") paxos rest)
+    line_of (codes "kv") kv (encoded (codes "logm keys=") logm (encoded (codes "paxos keys=") paxos rest))
+    ∙ ap (λ (t : List ℕ). part_text (codes "kv") kv ++ t) (line_of (codes "logm") logm (encoded (codes "paxos keys=") paxos rest)
     ∙ ap (λ (t : List ℕ). part_text (codes "logm") logm ++ t) (line_of (codes "paxos") paxos rest))
     ∙ three (part_text (codes "kv") kv) (part_text (codes "logm") logm) (part_text (codes "paxos") paxos) rest
   where
@@ -98,12 +98,12 @@ parts_joined kv logm paxos rest =
     three p q r rest = simp append_assoc
 
 three_again : (n : ℕ) (kv logm paxos : Part) (rest : List ℕ) → IsPart kv → IsPart logm → IsPart paxos
-    → parts_at n (spelled (codes "kv keys=") kv (spelled (codes "logm keys=") logm (spelled (codes "paxos keys=") paxos rest))) ≡ Ok (kv ∷ logm ∷ paxos ∷ [], rest)
+    → parts_at n (encoded (codes "kv keys=") kv (encoded (codes "logm keys=") logm (encoded (codes "paxos keys=") paxos rest))) ≡ Ok (kv ∷ logm ∷ paxos ∷ [], rest)
 unfolding parts_at
 three_again n kv logm paxos rest a b d =
     rw (
-      part_again n (codes "kv keys=") (spelled (codes "logm keys=") logm (spelled (codes "paxos keys=") paxos rest)) kv a,
-      part_again (n + 1) (codes "logm keys=") (spelled (codes "paxos keys=") paxos rest) logm b,
+      part_again n (codes "kv keys=") (encoded (codes "logm keys=") logm (encoded (codes "paxos keys=") paxos rest)) kv a,
+      part_again (n + 1) (codes "logm keys=") (encoded (codes "paxos keys=") paxos rest) logm b,
       part_again (n + 2) (codes "paxos keys=") rest paxos d,
     ) refl
 

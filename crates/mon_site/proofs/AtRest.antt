@@ -8,7 +8,7 @@ use Rattle.mon_types.specs.declared.names.Stop.{Stop}
 use Rattle.mon_disk.specs.Calls.{Called}
 use Rattle.mon_disk.specs.Images.{images}
 use Rattle.mon_disk.specs.Memory.{begins_with, from_of, seen_of}
-use Rattle.mon_disk.specs.MemoryDisk.{MemoryState, tells, state_of}
+use Rattle.mon_disk.specs.MemoryDisk.{MemoryState, observed_of, state_of}
 use Rattle.mon_disk.proofs.Contents.{settled_only}
 use Rattle.mon_disk.proofs.Following.{now}
 use Rattle.mon_tx.specs.Map.{Store}
@@ -37,13 +37,13 @@ unfolding journal.content
 new_files = refl
 
 abbrev pub empty_disk : MemoryState
-empty_disk = record { past = []; life = begins_with []; known = 0; faults = 0; wants = 0 }
+empty_disk = record { past = []; life = begins_with []; known = 0; faults = 0; refusals = 0 }
 
 pub empty_rests : (member : Member) → Rests member empty no_files empty_disk empty_disk
 empty_rests member = record {
   calm_a = record { calm = refl; only = settled_only [] [] };
   calm_b = record { calm = refl; only = settled_only [] [] };
-  opens = record { stood = record { side = A; journal = created member 1 None; kv = empty }; opens = new_opens member [] [] new_found; form = refl; map = refl };
+  opens = record { store_view = record { side = A; journal = created member 1 None; kv = empty }; opens = new_opens member [] [] new_found; form = refl; map = refl };
   files = new_files;
 }
 
@@ -53,8 +53,8 @@ pub read : (stop : Option Stop) (old new : MemoryState) → Called [] (images (c
 read stop old new called seen = record {
   seen = same;
   calm = λ was. record {
-    calm = none_stands new.life.upset (unfailing stop [] (tells old.life) (tells new.life) (ap from_of was.calm) called.made).1;
-    only = λ c left. seen ∙ was.only c (now (content old) (content new) (images (content old)) called.any_moment c left);
+    calm = none_stands new.life.upset (unfailing stop [] (observed_of old.life) (observed_of new.life) (ap from_of was.calm) called.made).1;
+    only = λ c left. seen ∙ was.only c (now (content old) (content new) (images (content old)) called.any_time c left);
   };
 }
   where
@@ -101,10 +101,10 @@ some_by file false is = ap is_some (finds.is_some file is)
 module _ (member : Member) (m : Store) (f : Files) (a b : MemoryState) (rests : Rests member m f a b) where
   pub file_a : is_some f.a ≡ not (is_closed (seen_of a.life))
   file_a =
-      let p = place_of member (seen_of a.life) (seen_of b.life) rests.opens.stood rests.opens.opens in
+      let p = place_of member (seen_of a.life) (seen_of b.life) rests.opens.store_view rests.opens.opens in
       ap (λ (g : Files). is_some g.a) (sym rests.files) ∙ has_a (owner_of member) (seen_of a.life) (seen_of b.life) p.0 p.1 ∙ some_by (seen_of a.life) (is_closed (seen_of a.life)) refl
 
   pub file_b : is_some f.b ≡ not (is_closed (seen_of b.life))
   file_b =
-      let p = place_of member (seen_of a.life) (seen_of b.life) rests.opens.stood rests.opens.opens in
+      let p = place_of member (seen_of a.life) (seen_of b.life) rests.opens.store_view rests.opens.opens in
       ap (λ (g : Files). is_some g.b) (sym rests.files) ∙ has_b (owner_of member) (seen_of a.life) (seen_of b.life) p.0 p.1 ∙ some_by (seen_of b.life) (is_closed (seen_of b.life)) refl

@@ -7,7 +7,7 @@ use Rattle.mon_types.specs.declared.names.Side.TheVariants.{A, B}
 use Rattle.mon_types.specs.declared.names.Stop.TheVariants as disk
 use Rattle.mon_disk.specs.Calls.{Makes}
 use Rattle.mon_disk.specs.Memory.{seen_of, settled}
-use Rattle.mon_disk.specs.MemoryDisk.{MemoryState, tells}
+use Rattle.mon_disk.specs.MemoryDisk.{MemoryState, observed_of}
 use Rattle.mon_disk.specs.Images.{images}
 use Rattle.mon_disk.specs.Laws.{settles}
 use Rattle.mon_tx.specs.Map.{Store}
@@ -22,12 +22,12 @@ use Rattle.mon_store.specs.Sound.{of_a, of_b, of_live, next_journal, Sound, Stan
 use Rattle.mon_store.specs.Sound as stored
 use Rattle.mon_store.proofs.Applying.{stands_now}
 use Rattle.mon_store.proofs.OnPairs.{other_is}
-use Rattle.quorum_model.specs.Cuts.{file_left, checkpoint_begun, checkpoint_cut}
+use Rattle.quorum_model.specs.Cuts.{file_remaining, checkpoint_begun, checkpoint_cut}
 use Rattle.quorum_model.specs.Files.{File, Files, live_side, file_on, with_file, checkpoint}
 use Rattle.quorum_model.specs.Files as model
-use Rattle.quorum_model.specs.Upsets.{opens_gate, closes_gate}
+use Rattle.quorum_model.specs.InjectedFaults.{opens_gate, closes_gate}
 use Rattle.mon_site.specs.Disks.{file_of, file_in, files_in, content}
-use Rattle.mon_site.specs.Upset.{IsUpset, Leaves, files_on}
+use Rattle.mon_site.specs.InjectedFault.{IsInjected, Leaves, files_on}
 use Rattle.mon_site.proofs.Guarded.{cut_short}
 use Rattle.mon_site.proofs.Gates.{is_opened, create_writes, create_gate, create_left}
 use Rattle.mon_site.proofs.Keeping.{CutShort, cut_of}
@@ -113,21 +113,21 @@ module _ (side : Side) (live : File) (other : Option File) (m : Store) (is_live 
       by A = refl
       by B = refl
 
-  begun_is : (call image : ℕ) → checkpoint_begun call image m f ≡ (if model.is_due live m then with_file (other_side side) (file_left call image other (checkpoint live m)) f else f)
+  begun_is : (call image : ℕ) → checkpoint_begun call image m f ≡ (if model.is_due live m then with_file (other_side side) (file_remaining call image other (checkpoint live m)) f else f)
   begun_is call image =
       ap (λ (s : Side). checkpoint_cut call image m (other_side s) (file_on s f) f) is_live
       ∙ ap (λ (file : Option File). checkpoint_cut call image m (other_side side) file f) live_there
-      ∙ ap (λ (file : Option File). if model.is_due live m then with_file (other_side side) (file_left call image file (checkpoint live m)) f else f) other_there
+      ∙ ap (λ (file : Option File). if model.is_due live m then with_file (other_side side) (file_remaining call image file (checkpoint live m)) f else f) other_there
 
   pub not_due : (call image : ℕ) → model.is_due live m ≡ false → checkpoint_begun call image m f ≡ f
-  not_due call image idle = begun_is call image ∙ ap (λ (b : Bool). if b then with_file (other_side side) (file_left call image other (checkpoint live m)) f else f) idle
+  not_due call image idle = begun_is call image ∙ ap (λ (b : Bool). if b then with_file (other_side side) (file_remaining call image other (checkpoint live m)) f else f) idle
 
   pub when_due : (call image : ℕ) → model.is_due live m ≡ true
-      → checkpoint_begun call image m f ≡ record { a = of_a side (Some live) (file_left call image other (checkpoint live m)); b = of_b side (Some live) (file_left call image other (checkpoint live m)) }
+      → checkpoint_begun call image m f ≡ record { a = of_a side (Some live) (file_remaining call image other (checkpoint live m)); b = of_b side (Some live) (file_remaining call image other (checkpoint live m)) }
   when_due call image due =
       begun_is call image
-      ∙ ap (λ (b : Bool). if b then with_file (other_side side) (file_left call image other (checkpoint live m)) f else f) due
-      ∙ replaced side live other (file_left call image other (checkpoint live m))
+      ∙ ap (λ (b : Bool). if b then with_file (other_side side) (file_remaining call image other (checkpoint live m)) f else f) due
+      ∙ replaced side live other (file_remaining call image other (checkpoint live m))
 
 -- ---- none is due
 
@@ -197,15 +197,15 @@ pub record Ends (j : Journal) (m : Store) (f : Files) (a b : MemoryState) : Type
   pub form : journal.form ≡ Second
   pub leaves : Leaves side journal m f a b
 
-module _ (side : Side) (live other new : MemoryState) (j : Journal) (m : Store) (known : ℕ) (sound : Sound j m known (content live) (content other)) (call image : ℕ) (up : IsUpset call image other)
+module _ (side : Side) (live other new : MemoryState) (j : Journal) (m : Store) (known : ℕ) (sound : Sound j m known (content live) (content other)) (call image : ℕ) (up : IsInjected call image other)
     (second : j.form ≡ Second) (due : stored.is_due j m ≡ true)
-    (made : Makes (create_calls (owner_of j.member) (j.generation + 1) (Some (checkpoint_text m))) (Some disk.Failed) (Some (tells other.life)) (Some (tells new.life)))
-    (either : Restarted side j m (content other) (made_more 4 (tells other.life) (tells new.life)) (of_a side (settled live.life) (settled new.life)) (of_b side (settled live.life) (settled new.life))) where
+    (made : Makes (create_calls (owner_of j.member) (j.generation + 1) (Some (checkpoint_text m))) (Some disk.Failed) (Some (observed_of other.life)) (Some (observed_of new.life)))
+    (either : Restarted side j m (content other) (made_more 4 (observed_of other.life) (observed_of new.life)) (of_a side (settled live.life) (settled new.life)) (of_b side (settled live.life) (settled new.life))) where
   abbrev writes : List (ℕ × List ℕ)
   writes = create_writes (owner_of j.member) (j.generation + 1) (Some (checkpoint_text m))
 
-  c : CutShort call image other up sound.only_other writes (tells new.life)
-  c = cut_of call image other up sound.only_other writes (tells new.life) made
+  c : CutShort call image other up sound.only_other writes (observed_of new.life)
+  c = cut_of call image other up sound.only_other writes (observed_of new.life) made
 
   abbrev x : List ℕ
   x = of_a side (settled live.life) (settled new.life)
@@ -219,9 +219,9 @@ module _ (side : Side) (live other new : MemoryState) (j : Journal) (m : Store) 
   other_xy : of_live (other_side side) x y ≡ settled new.life
   other_xy = other_is side (settled live.life) (settled new.life)
 
-  test : (slice_index_or (of_live (other_side side) x y) 0 0 == 1 && made_more 4 (tells other.life) (tells new.life)) ≡ is_whole
+  test : (slice_index_or (of_live (other_side side) x y) 0 0 == 1 && made_more 4 (observed_of other.life) (observed_of new.life)) ≡ is_whole
   test =
-      ap (λ (l : List ℕ). is_opened l 0 && made_more 4 (tells other.life) (tells new.life)) (other_xy ∙ c.leaves)
+      ap (λ (l : List ℕ). is_opened l 0 && made_more 4 (observed_of other.life) (observed_of new.life)) (other_xy ∙ c.leaves)
       ∙ ap (λ (b : Bool). is_opened (cut_short image c.done writes (seen_of other.life)) 0 && b) (more_is (length other.life.calls) c.done (length new.life.calls) (c.made ∙ ap (λ n. length other.life.calls + n) c.number))
       ∙ create_gate image c.done (owner_of j.member) (j.generation + 1) (Some (checkpoint_text m)) (seen_of other.life) c.within
 
@@ -229,7 +229,7 @@ module _ (side : Side) (live other new : MemoryState) (j : Journal) (m : Store) 
   before = files_on (of_a side live other) (of_b side live other)
 
   abbrev cut : Option File
-  cut = file_left call image (file_in (seen_of other.life)) (checkpoint (file_by j) m)
+  cut = file_remaining call image (file_in (seen_of other.life)) (checkpoint (file_by j) m)
 
   after : checkpoint_begun call image m before ≡ record { a = of_a side (Some (file_by j)) cut; b = of_b side (Some (file_by j)) cut }
   after =

@@ -9,7 +9,7 @@ use Rattle.mon_types.specs.declared.names.Stop.TheVariants as disk
 use Rattle.mon_disk.specs.declared.disk.DiskCall.{DiskCall}
 use Rattle.mon_disk.specs.Calls.{Makes}
 use Rattle.mon_disk.specs.Memory.{from_of, seen_of, settled}
-use Rattle.mon_disk.specs.MemoryDisk.{MemoryState, tells}
+use Rattle.mon_disk.specs.MemoryDisk.{MemoryState, observed_of}
 use Rattle.mon_tx.specs.declared.op.Op.{Op}
 use Rattle.mon_tx.specs.Map.{Store, apply}
 use Rattle.mon_tx.specs.Text.{text}
@@ -24,12 +24,12 @@ use Rattle.mon_store.specs.Checkpoint.{checkpoint_text}
 use Rattle.mon_types.specs.Sides.{other as other_side}
 use Rattle.mon_store.specs.Sound.{of_a, of_b, of_live, next_journal, Sound, BeforeOrAfter, Restarted}
 use Rattle.mon_store.specs.Sound as stored
-use Rattle.mon_store.proofs.OnPairs.{stood_opens}
+use Rattle.mon_store.proofs.OnPairs.{store_view_opens}
 use Rattle.quorum_model.specs.Cuts.{checkpoint_begun}
 use Rattle.quorum_model.specs.Files.{Files, live_side, after_append}
-use Rattle.quorum_model.specs.Upsets.{same_side, opens_gate}
+use Rattle.quorum_model.specs.InjectedFaults.{same_side, opens_gate}
 use Rattle.mon_site.specs.Disks.{file_in, content}
-use Rattle.mon_site.specs.Upset.{IsUpset, Leaves, files_on}
+use Rattle.mon_site.specs.InjectedFault.{IsInjected, Leaves, files_on}
 use Rattle.mon_site.specs.Faults.{Settles}
 use Rattle.mon_site.proofs.Checkpointing.{Ends, files_seen, stands_seen, seen_other, nothing_begun, whole_begun, cut_checkpoint}
 use Rattle.mon_site.proofs.Gates.{append_writes, create_writes}
@@ -40,16 +40,16 @@ use Rattle.mon_site.proofs.Standing as standing
 
 pub settles_so : (member : Member) (side : Side) (j : Journal) (m : Store) (f : Files) (a b : MemoryState) → Leaves side j m f a b → owner_of j.member ≡ owner_of member → j.form ≡ Second → Settles member m f a b
 settles_so member side j m f a b l own second = record {
-  opens = record { stood = record { side = side; journal = j; kv = m }; opens = stood_opens j m member side (settled a.life) (settled b.life) l.stands own; form = second; map = refl };
+  opens = record { store_view = record { side = side; journal = j; kv = m }; opens = store_view_opens j m member side (settled a.life) (settled b.life) l.stands own; form = second; map = refl };
   files = l.files;
 }
 
 -- the live disk is the failing one, or the other one is
 pub data Either (call image : ℕ) (disk side : Side) (live other : MemoryState) : Type 0 where
-  OnLive : (same_side disk side ≡ true) → IsUpset call image live → (other.life.upset ≡ None) → Either call image disk side live other
-  OnOther : (same_side disk side ≡ false) → IsUpset call image other → (live.life.upset ≡ None) → Either call image disk side live other
+  OnLive : (same_side disk side ≡ true) → IsInjected call image live → (other.life.upset ≡ None) → Either call image disk side live other
+  OnOther : (same_side disk side ≡ false) → IsInjected call image other → (live.life.upset ≡ None) → Either call image disk side live other
 
-pub either : (call image : ℕ) (disk side : Side) (live other : MemoryState) → IsUpset call image (of_live disk (of_a side live other) (of_b side live other))
+pub either : (call image : ℕ) (disk side : Side) (live other : MemoryState) → IsInjected call image (of_live disk (of_a side live other) (of_b side live other))
     → (of_live (other_side disk) (of_a side live other) (of_b side live other)).life.upset ≡ None → Either call image disk side live other
 either call image A A live other up calm = OnLive refl up calm
 either call image A B live other up calm = OnOther refl up calm
@@ -75,14 +75,14 @@ module _ (side : Side) (live other : MemoryState) (j : Journal) (m : Store) (kno
       ∙ ap (λ (l : List ℕ). standing.files_with side (file_by (journal_after j ops)) (file_in l)) (sym (seen_other side live other j m known sound))
       ∙ sym (append_is side j m ops (seen_of a.life) (seen_of b.life) (stands_seen side live other j m known sound))
 
-  pub uncut_by : (ops : List Op) (call image : ℕ) (new : MemoryState) → IsUpset call image live → Makes (apply_calls j.next_gate ops) None (Some (tells live.life)) (Some (tells new.life)) → (nat_lt 4 call || is_empty ops) ≡ true
+  pub uncut_by : (ops : List Op) (call image : ℕ) (new : MemoryState) → IsInjected call image live → Makes (apply_calls j.next_gate ops) None (Some (observed_of live.life)) (Some (observed_of new.life)) → (nat_lt 4 call || is_empty ops) ≡ true
   uncut_by [] call image new up made = by (nat_lt 4 call)
     where
       by : (t : Bool) → (t || true) ≡ true
       by true = refl
       by false = refl
   uncut_by (op ∷ ops) call image new up made =
-      let more : 4 < call = goes_of call image live up sound.stands_live.only (append_writes j.next_gate (text (op ∷ ops))) (tells new.life) made in
+      let more : 4 < call = goes_of call image live up sound.stands_live.only (append_writes j.next_gate (text (op ∷ ops))) (observed_of new.life) made in
       let test : nat_lt 4 call ≡ true = later call more in rw test refl
     where
       later : (n : ℕ) → 4 < n → nat_lt 4 n ≡ true
@@ -90,13 +90,13 @@ module _ (side : Side) (live other : MemoryState) (j : Journal) (m : Store) (kno
 
   -- a call of the live disk fails
   pub live_cut : (member : Member) (ops : List Op) (call image : ℕ) (disk_ : Side) (new : MemoryState) → Either call image disk_ side live other
-      → Makes (apply_calls j.next_gate ops) (Some disk.Failed) (Some (tells live.life)) (Some (tells new.life))
+      → Makes (apply_calls j.next_gate ops) (Some disk.Failed) (Some (observed_of live.life)) (Some (observed_of new.life))
       → BeforeOrAfter side j m ops (settled (of_a side new other).life) (settled (of_b side new other).life)
       → owner_of j.member ≡ owner_of member → j.form ≡ Second
       → (same_side disk_ side ≡ true) × (is_empty ops ≡ false) × (call ≤ 4) × ((nat_le 3 call && image == 1) ≡ opens_gate 3 call image)
       × Settles member (if nat_le 3 call && image == 1 then apply ops m else m) (if nat_le 3 call && image == 1 then after_append ops (files_on a b) else files_on a b) (of_a side new other) (of_b side new other)
   live_cut member ops call image disk_ new (OnOther apart up calm) made before own second =
-      let r = unfailing (Some disk.Failed) (apply_calls j.next_gate ops) (tells live.life) (tells new.life) (ap from_of calm) made in absurd (r.0 refl)
+      let r = unfailing (Some disk.Failed) (apply_calls j.next_gate ops) (observed_of live.life) (observed_of new.life) (ap from_of calm) made in absurd (r.0 refl)
   live_cut member [] call image disk_ new (OnLive same up calm) made before own second = absurd (made.1 refl)
   live_cut member (op ∷ ops) call image disk_ new (OnLive same up calm) made before own second =
       let l = left side live other new j m known (op ∷ ops) call image sound up refl made before in
@@ -119,22 +119,22 @@ module _ (side : Side) (live other : MemoryState) (j : Journal) (m : Store) (kno
       formed false second = second
 
   -- the checkpoint that is due is cut short, or whole
-  pub due_cut : (member : Member) (call image : ℕ) (new : MemoryState) → IsUpset call image other → j.form ≡ Second → stored.is_due j m ≡ true
-      → Makes (restart_calls j m) (Some disk.Failed) (Some (tells other.life)) (Some (tells new.life))
-      → Restarted side j m (content other) (made_more 4 (tells other.life) (tells new.life)) (of_a side (settled live.life) (settled new.life)) (of_b side (settled live.life) (settled new.life))
+  pub due_cut : (member : Member) (call image : ℕ) (new : MemoryState) → IsInjected call image other → j.form ≡ Second → stored.is_due j m ≡ true
+      → Makes (restart_calls j m) (Some disk.Failed) (Some (observed_of other.life)) (Some (observed_of new.life))
+      → Restarted side j m (content other) (made_more 4 (observed_of other.life) (observed_of new.life)) (of_a side (settled live.life) (settled new.life)) (of_b side (settled live.life) (settled new.life))
       → owner_of j.member ≡ owner_of member
       → Settles member m (checkpoint_begun call image m (files_on a b)) (of_a side live new) (of_b side live new)
   due_cut member call image new up second due made begun own =
       let e : Ends j m (checkpoint_begun call image m (files_on a b)) (of_a side live new) (of_b side live new) =
       cut_checkpoint side live other new j m known sound call image up second due
-      (subst (λ (cs : List DiskCall). Makes cs (Some disk.Failed) (Some (tells other.life)) (Some (tells new.life))) (ap (λ (b : Bool). if b then create_calls (owner_of j.member) (j.generation + 1) (Some (checkpoint_text m)) else []) due) made) begun in
+      (subst (λ (cs : List DiskCall). Makes cs (Some disk.Failed) (Some (observed_of other.life)) (Some (observed_of new.life))) (ap (λ (b : Bool). if b then create_calls (owner_of j.member) (j.generation + 1) (Some (checkpoint_text m)) else []) due) made) begun in
       settles_so member e.side e.journal m (checkpoint_begun call image m (files_on a b)) (of_a side live new) (of_b side live new) e.leaves (e.owner ∙ own) e.form
 
   -- how many calls a whole checkpoint makes
-  pub due_beyond : (call image : ℕ) (new : MemoryState) → IsUpset call image other → stored.is_due j m ≡ true → Makes (restart_calls j m) None (Some (tells other.life)) (Some (tells new.life)) → 6 < call
+  pub due_beyond : (call image : ℕ) (new : MemoryState) → IsInjected call image other → stored.is_due j m ≡ true → Makes (restart_calls j m) None (Some (observed_of other.life)) (Some (observed_of new.life)) → 6 < call
   due_beyond call image new up due made =
-      goes_of call image other up sound.only_other (create_writes (owner_of j.member) (j.generation + 1) (Some (checkpoint_text m))) (tells new.life)
-      (subst (λ (cs : List DiskCall). Makes cs None (Some (tells other.life)) (Some (tells new.life))) (ap (λ (b : Bool). if b then create_calls (owner_of j.member) (j.generation + 1) (Some (checkpoint_text m)) else []) due) made)
+      goes_of call image other up sound.only_other (create_writes (owner_of j.member) (j.generation + 1) (Some (checkpoint_text m))) (observed_of new.life)
+      (subst (λ (cs : List DiskCall). Makes cs None (Some (observed_of other.life)) (Some (observed_of new.life))) (ap (λ (b : Bool). if b then create_calls (owner_of j.member) (j.generation + 1) (Some (checkpoint_text m)) else []) due) made)
 
   pub due_whole : (member : Member) (call image later : ℕ) (new : MemoryState) → Sound (next_journal j m) m later (content new) (content live) → 6 < call → j.form ≡ Second → stored.is_due j m ≡ true → owner_of j.member ≡ owner_of member
       → Settles member m (checkpoint_begun call image m (files_on a b)) (of_a (other_side side) new live) (of_b (other_side side) new live)

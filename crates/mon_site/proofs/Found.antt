@@ -16,7 +16,7 @@ use Rattle.mon_store.specs.Pair.{◌>>=◌, Refusal, Found, Create, Live, held_o
 use Rattle.mon_store.specs.Pair as pair
 use Rattle.mon_tx.specs.Map.{Store}
 use Rattle.quorum_model.specs.Files.{Files, is_created}
-use Rattle.quorum_model.specs.Upsets.{opening_count}
+use Rattle.quorum_model.specs.InjectedFaults.{opening_count}
 use Rattle.mon_site.specs.Disks.{file_of, file_in}
 use Rattle.mon_site.proofs.Guarded.{guarded}
 use Rattle.mon_site.proofs.Gates.{create_writes}

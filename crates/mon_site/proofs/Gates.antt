@@ -9,7 +9,7 @@ use Rattle.mon_disk.specs.Memory.{part, placed}
 use Rattle.mon_journal.specs.Content as journal
 use Rattle.mon_journal.specs.Fields.{Owner}
 use Rattle.mon_journal.specs.Written.{payload_bytes, head_bytes}
-use Rattle.quorum_model.specs.Upsets.{closes_gate}
+use Rattle.quorum_model.specs.InjectedFaults.{closes_gate}
 use Rattle.mon_site.specs.Disks.{file_in}
 use Rattle.mon_site.proofs.Guarded.{cut_short}
 

@@ -9,11 +9,11 @@ use Rattle.mon_types.specs.declared.names.Stop.TheVariants.{Failed, OutOfMemory}
 use Rattle.mon_disk.specs.declared.disk.DiskCall.{DiskCall}
 use Rattle.mon_disk.specs.declared.disk.DiskCall.TheVariants.{Write, Sync}
 use Rattle.mon_disk.specs.Images.{overwritten}
-use Rattle.mon_disk.specs.Calls.{Told, Makes}
-use Rattle.mon_disk.specs.Memory.{Upset, Lived, first_write, begun, seen_after, part, placed, imaged, settled}
-use Rattle.mon_disk.specs.MemoryDisk.{tells}
+use Rattle.mon_disk.specs.Calls.{Observed, Makes}
+use Rattle.mon_disk.specs.Memory.{InjectedFault, Lived, first_write, begun, seen_after, part, placed, imaged, settled}
+use Rattle.mon_disk.specs.MemoryDisk.{observed_of}
 use Rattle.mon_disk.proofs.Lives.{length_more}
-use Rattle.mon_disk.proofs.Upsets.{upset_after}
+use Rattle.mon_disk.proofs.InjectedFaults.{injected_after}
 
 -- writes, each with a sync after it
 abbrev pub guarded : List (ℕ × List ℕ) → List DiskCall
@@ -28,15 +28,15 @@ cut_short image zero ((at, bytes) ∷ writes) file = placed at (part image bytes
 cut_short image (suc zero) ((at, bytes) ∷ writes) file = placed at (part image bytes) file
 cut_short image (suc (suc done)) ((at, bytes) ∷ writes) file = cut_short image done writes (overwritten at bytes file)
 
-same_told : (s t : Told) → Some t ≡ Some s → t ≡ s
-same_told s t e = cc
+same_observed : (s t : Observed) → Some t ≡ Some s → t ≡ s
+same_observed s t e = cc
 
 newest : (calls : List DiskCall) (call : DiskCall) → reverse (calls ++ call ∷ []) ≡ call ∷ reverse calls
 newest calls call = reverse-append calls (call ∷ [])
 
-module _ (first : List ℕ) (u : Upset) where
+module _ (first : List ℕ) (u : InjectedFault) where
   abbrev life : List DiskCall → Lived
-  life calls = upset_after first u calls
+  life calls = injected_after first u calls
 
   abbrev seen_by : List DiskCall → List ℕ
   seen_by calls = seen_after first (reverse calls)
@@ -65,7 +65,7 @@ module _ (first : List ℕ) (u : Upset) where
       ∙ ap (λ (file : List ℕ). placed at (part u.image bytes) file) clean
 
   -- one of the calls fails: this many were done before it
-  pub record Fails (calls : List DiskCall) (writes : List (ℕ × List ℕ)) (t : Told) : Type 0 where
+  pub record Fails (calls : List DiskCall) (writes : List (ℕ × List ℕ)) (t : Observed) : Type 0 where
     pub done : ℕ
     pub within : done < length (guarded writes)
     pub number : u.from ≡ suc (length calls + done)
@@ -73,12 +73,12 @@ module _ (first : List ℕ) (u : Upset) where
     pub settles : t.settles t.made ≡ cut_short u.image done writes (seen_by calls)
 
   -- none of them fails
-  pub record Goes (calls : List DiskCall) (writes : List (ℕ × List ℕ)) (t : Told) : Type 0 where
+  pub record Goes (calls : List DiskCall) (writes : List (ℕ × List ℕ)) (t : Observed) : Type 0 where
     pub before : length calls + length (guarded writes) < u.from
     pub clean : IsClean (calls ++ guarded writes)
-    pub told : t ≡ tells (life (calls ++ guarded writes))
+    pub observed : t ≡ observed_of (life (calls ++ guarded writes))
 
-  abbrev pub Walked : List DiskCall → List (ℕ × List ℕ) → Told → Option Stop → Type 0
+  abbrev pub Walked : List DiskCall → List (ℕ × List ℕ) → Observed → Option Stop → Type 0
   Walked calls writes t None = Goes calls writes t
   Walked calls writes t (Some Failed) = Fails calls writes t
   Walked calls writes t (Some OutOfMemory) = Unit {0}
@@ -102,7 +102,7 @@ module _ (first : List ℕ) (u : Upset) where
   pair_length : (calls : List DiskCall) (at : ℕ) (bytes : List ℕ) → length ((calls ++ Write at bytes ∷ []) ++ Sync ∷ []) ≡ suc (suc (length calls))
   pair_length calls at bytes = length_more (calls ++ Write at bytes ∷ []) Sync ∙ ap suc (length_more calls (Write at bytes))
 
-  onwards : (calls : List DiskCall) (at : ℕ) (bytes : List ℕ) (writes : List (ℕ × List ℕ)) (t : Told) (stop : Option Stop)
+  onwards : (calls : List DiskCall) (at : ℕ) (bytes : List ℕ) (writes : List (ℕ × List ℕ)) (t : Observed) (stop : Option Stop)
       → Walked ((calls ++ Write at bytes ∷ []) ++ Sync ∷ []) writes t stop → Walked calls ((at, bytes) ∷ writes) t stop
   onwards calls at bytes writes t None w =
       let longer = pair_length calls at bytes in
@@ -111,7 +111,7 @@ module _ (first : List ℕ) (u : Upset) where
       record {
         before = omega (arith, longer, w.before);
         clean = subst IsClean same w.clean;
-        told = w.told ∙ ap (λ (cs : List DiskCall). tells (life cs)) same;
+        observed = w.observed ∙ ap (λ (cs : List DiskCall). observed_of (life cs)) same;
       }
   onwards calls at bytes writes t (Some Failed) w =
       let longer = pair_length calls at bytes in
@@ -124,40 +124,40 @@ module _ (first : List ℕ) (u : Upset) where
       }
   onwards calls at bytes writes t (Some OutOfMemory) w = tt
 
-  pub walk : (writes : List (ℕ × List ℕ)) (calls : List DiskCall) (t : Told) (stop : Option Stop) → length calls < u.from → IsClean calls
-      → Makes (guarded writes) stop (Some (tells (life calls))) (Some t) → Walked calls writes t stop
+  pub walk : (writes : List (ℕ × List ℕ)) (calls : List DiskCall) (t : Observed) (stop : Option Stop) → length calls < u.from → IsClean calls
+      → Makes (guarded writes) stop (Some (observed_of (life calls))) (Some t) → Walked calls writes t stop
   walk [] calls t None before clean m =
       let nothing : calls ++ [] ≡ calls = append-nil calls in
       record {
         before = omega (arith, before);
         clean = subst IsClean (sym nothing) clean;
-        told = same_told (tells (life calls)) t m.0 ∙ ap (λ (cs : List DiskCall). tells (life cs)) (sym nothing);
+        observed = same_observed (observed_of (life calls)) t m.0 ∙ ap (λ (cs : List DiskCall). observed_of (life cs)) (sym nothing);
       }
   walk [] calls t (Some Failed) before clean m = absurd (m.1 refl)
   walk [] calls t (Some OutOfMemory) before clean m = tt
   walk ((at, bytes) ∷ writes) calls t stop before clean (inl m) = subst (Walked calls ((at, bytes) ∷ writes) t) (sym m.0) tt
   walk ((at, bytes) ∷ writes) calls t stop before clean (inr (inl m)) =
       let number : u.from ≡ suc (length calls) = reached (length calls) m.2 before in
-      let is : t ≡ tells (life (calls ++ Write at bytes ∷ [])) = same_told (tells (life (calls ++ Write at bytes ∷ []))) t m.1 in
+      let is : t ≡ observed_of (life (calls ++ Write at bytes ∷ [])) = same_observed (observed_of (life (calls ++ Write at bytes ∷ []))) t m.1 in
       subst (Walked calls ((at, bytes) ∷ writes) t) (sym m.0) (record {
         done = 0;
         within = omega arith;
         number = omega (arith, number);
-        made = ap (λ (s : Told). length s.made) is ∙ length_more calls (Write at bytes) ∙ sym number;
-        settles = ap (λ (s : Told). s.settles s.made) is ∙ at_write calls at bytes number clean;
+        made = ap (λ (s : Observed). length s.made) is ∙ length_more calls (Write at bytes) ∙ sym number;
+        settles = ap (λ (s : Observed). s.settles s.made) is ∙ at_write calls at bytes number clean;
       })
   walk ((at, bytes) ∷ writes) calls t stop before clean (inr (inr (sound, inl m))) = subst (Walked calls ((at, bytes) ∷ writes) t) (sym m.0) tt
   walk ((at, bytes) ∷ writes) calls t stop before clean (inr (inr (sound, inr (inl m)))) =
       let longer = length_more calls (Write at bytes) in
       let further : suc (length calls) < u.from = beyond (length calls) sound in
       let number : u.from ≡ suc (length (calls ++ Write at bytes ∷ [])) = reached (length (calls ++ Write at bytes ∷ [])) m.2 (omega (arith, longer, further)) in
-      let is : t ≡ tells (life ((calls ++ Write at bytes ∷ []) ++ Sync ∷ [])) = same_told (tells (life ((calls ++ Write at bytes ∷ []) ++ Sync ∷ []))) t m.1 in
+      let is : t ≡ observed_of (life ((calls ++ Write at bytes ∷ []) ++ Sync ∷ [])) = same_observed (observed_of (life ((calls ++ Write at bytes ∷ []) ++ Sync ∷ []))) t m.1 in
       subst (Walked calls ((at, bytes) ∷ writes) t) (sym m.0) (record {
         done = 1;
         within = omega arith;
         number = omega (arith, longer, number);
-        made = ap (λ (s : Told). length s.made) is ∙ length_more (calls ++ Write at bytes ∷ []) Sync ∙ sym number;
-        settles = ap (λ (s : Told). s.settles s.made) is ∙ at_sync calls at bytes number clean;
+        made = ap (λ (s : Observed). length s.made) is ∙ length_more (calls ++ Write at bytes ∷ []) Sync ∙ sym number;
+        settles = ap (λ (s : Observed). s.settles s.made) is ∙ at_sync calls at bytes number clean;
       })
   walk ((at, bytes) ∷ writes) calls t stop before clean (inr (inr (sound, inr (inr (more, m))))) =
       let longer = length_more calls (Write at bytes) in

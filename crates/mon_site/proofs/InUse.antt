@@ -6,9 +6,9 @@ use Rattle.mon_types.specs.declared.names.Side.{Side}
 use Rattle.mon_types.specs.declared.names.Side.TheVariants.{A, B}
 use Rattle.mon_types.specs.declared.names.Stop.TheVariants as disk
 use Rattle.mon_disk.specs.declared.disk.DiskCall.{DiskCall}
-use Rattle.mon_disk.specs.Calls.{Told, Makes, Called}
-use Rattle.mon_disk.specs.Memory.{Upset, from_of, seen_of, settled, settled_as}
-use Rattle.mon_disk.specs.MemoryDisk.{MemoryState, tells, state_of}
+use Rattle.mon_disk.specs.Calls.{Observed, Makes, Called}
+use Rattle.mon_disk.specs.Memory.{InjectedFault, from_of, seen_of, settled, settled_as}
+use Rattle.mon_disk.specs.MemoryDisk.{MemoryState, observed_of, state_of}
 use Rattle.mon_tx.specs.declared.op.Op.{Op}
 use Rattle.mon_tx.specs.Map.{Store, apply}
 use Rattle.mon_kv.specs.Readers.{size_of, most_size}
@@ -21,7 +21,7 @@ use Rattle.mon_store.specs.declared.stop.StoreStop.{StoreStop}
 use Rattle.mon_store.specs.declared.stop.StoreStop.TheVariants as stop
 use Rattle.mon_store.specs.declared.store.Store as kept
 use Rattle.mon_store.specs.Calls.{apply_calls, restart_calls, journal_after, stop_in, unless_early}
-use Rattle.mon_store.specs.Moments.{WhileOpening}
+use Rattle.mon_store.specs.Times.{WhileOpening}
 use Rattle.mon_store.specs.Opening as opened
 use Rattle.mon_store.specs.Opening.{Alike}
 use Rattle.mon_store.specs.OpeningCalls.{MakesBoth, opening_calls}
@@ -29,16 +29,16 @@ use Rattle.mon_store.specs.Pair.{NotAStore, Stranger}
 use Rattle.mon_store.specs.Refusals.{Answers, Restarts, breaks}
 use Rattle.mon_types.specs.Sides.{other as other_side}
 use Rattle.mon_store.specs.Sound.{of_a, of_b, of_live, is_due, next_journal, Sound}
-use Rattle.mon_store.specs.Stood.{Stood, opens_as}
+use Rattle.mon_store.specs.StoreView.{StoreView, opens_as}
 use Rattle.mon_store.specs.Whole.{IsSound, disk_a, disk_b, disk_of}
-use Rattle.mon_store.proofs.OnPairs.{stood_opens}
+use Rattle.mon_store.proofs.OnPairs.{store_view_opens}
 use Rattle.quorum_model.specs.Cuts.{after_checkpoint}
 use Rattle.quorum_model.specs.Files.{File, Files, is_created, after_opening, after_append}
 use Rattle.mon_site.specs.Calm.{Runs, Changes, Renews, Applies}
 use Rattle.mon_site.specs.Disks.{file_in, files_in, content}
 use Rattle.mon_site.specs.Ending.{IsKept, IsMemory}
 use Rattle.mon_site.specs.Faults.{Settles, Rests}
-use Rattle.mon_site.specs.Upset.{files_on}
+use Rattle.mon_site.specs.InjectedFault.{files_on}
 use Rattle.mon_site.proofs.Checkpointing.{files_seen, stands_seen}
 use Rattle.mon_site.proofs.Ending.{files_grow}
 use Rattle.mon_site.proofs.OnStores.{after_form, after_owner, not_due, made_whole}
@@ -50,10 +50,10 @@ use Rattle.mon_site.proofs.Written.{memory_stops}
 abbrev Held : Type 0
 Held = kept.Store MemoryState
 
--- ---- disks that aren't upset
+-- ---- disks without an injected fault
 
 pub as_seen : (d : MemoryState) → d.life.upset ≡ None → settled d.life ≡ seen_of d.life
-as_seen d calm = ap (λ (u : Option Upset). settled_as u d.life) calm
+as_seen d calm = ap (λ (u : Option InjectedFault). settled_as u d.life) calm
 
 seen_files : (member : Member) (m : Store) (f : Files) (a b : MemoryState) → a.life.upset ≡ None → b.life.upset ≡ None → Settles member m f a b → files_on a b ≡ f
 seen_files member m f a b calm_a calm_b s =
@@ -73,7 +73,7 @@ of_two B a b calm calm_other = (calm_other, calm)
 
 -- ---- opening
 
-both_calm : {T : Type 0} (result : Result T OpenStop) (calls : List (Side × DiskCall)) (s t new_s new_t : Told) → s.fails_from ≡ None → t.fails_from ≡ None → MakesBoth calls (Some s) (Some t) (Some new_s) (Some new_t) result
+both_calm : {T : Type 0} (result : Result T OpenStop) (calls : List (Side × DiskCall)) (s t new_s new_t : Observed) → s.fails_from ≡ None → t.fails_from ≡ None → MakesBoth calls (Some s) (Some t) (Some new_s) (Some new_t) result
     → (result ≡ Err opening.DiskFault → ⊥) × (new_s.fails_from ≡ None) × (new_t.fails_from ≡ None)
 both_calm {T = T} result calls s t new_s new_t calm_s calm_t made =
     let x = on_a result calls s t new_s new_t calm_t made in
@@ -82,15 +82,15 @@ both_calm {T = T} result calls s t new_s new_t calm_s calm_t made =
 
 -- none of its calls fails
 pub opens_whole : {T : Type 0} (result : Result T OpenStop) (member : Member) (m : Store) (f : Files) (a b na nb : MemoryState) → Rests member m f a b
-    → MakesBoth (opening_calls (owner_of member) (seen_of a.life) (seen_of b.life)) (Some (tells a.life)) (Some (tells b.life)) (Some (tells na.life)) (Some (tells nb.life)) result
+    → MakesBoth (opening_calls (owner_of member) (seen_of a.life) (seen_of b.life)) (Some (observed_of a.life)) (Some (observed_of b.life)) (Some (observed_of na.life)) (Some (observed_of nb.life)) result
     → (result ≡ Err opening.DiskFault → ⊥) × (na.life.upset ≡ None) × (nb.life.upset ≡ None)
 opens_whole result member m f a b na nb rests made =
-    let r = both_calm result (opening_calls (owner_of member) (seen_of a.life) (seen_of b.life)) (tells a.life) (tells b.life) (tells na.life) (tells nb.life) (ap from_of rests.calm_a.calm) (ap from_of rests.calm_b.calm) made in
+    let r = both_calm result (opening_calls (owner_of member) (seen_of a.life) (seen_of b.life)) (observed_of a.life) (observed_of b.life) (observed_of na.life) (observed_of nb.life) (ap from_of rests.calm_a.calm) (ap from_of rests.calm_b.calm) made in
     (r.0, none_stands na.life.upset r.1, none_stands nb.life.upset r.2)
 
 -- so an opening fails only if memory runs out
-pub only_memory_lacks : (member : Member) (a b : MemoryState) (s : Stood) (e : OpenStop) → opens_as member (seen_of a.life) (seen_of b.life) ≡ Ok s → opened.Answers member (seen_of a.life) (seen_of b.life) (Err e)
-    → (◌≡◌ {A = Result Stood OpenStop} (Err e) (Err opening.DiskFault) → ⊥) → e ≡ opening.OutOfMemory
+pub only_memory_lacks : (member : Member) (a b : MemoryState) (s : StoreView) (e : OpenStop) → opens_as member (seen_of a.life) (seen_of b.life) ≡ Ok s → opened.Answers member (seen_of a.life) (seen_of b.life) (Err e)
+    → (◌≡◌ {A = Result StoreView OpenStop} (Err e) (Err opening.DiskFault) → ⊥) → e ≡ opening.OutOfMemory
 only_memory_lacks member a b s opening.DiskFault opens answer calm = absurd (calm refl)
 only_memory_lacks member a b s opening.OutOfMemory opens answer calm = refl
 only_memory_lacks member a b s (opening.NotAStore side at) opens answer calm = let other : Ok s ≡ Err (NotAStore side at) = sym opens ∙ answer in absurd cc
@@ -101,14 +101,14 @@ pub begins : (member : Member) (m : Store) (f : Files) (a b : MemoryState) (s : 
     → opens_as member (seen_of a.life) (seen_of b.life) ≡ Ok (record { side = s.side; journal = s.journal; kv = s.kv })
     → WhileOpening (content a) (content b) (content (disk_a s)) (content (disk_b s)) (Alike member (content a) (content b))
     → (disk_a s).life.upset ≡ None → (disk_b s).life.upset ≡ None → Runs member m (after_opening f) s
-begins member m f a b s rests whole sound own answer moments calm_a calm_b =
+begins member m f a b s rests whole sound own answer times calm_a calm_b =
     let calm = by_place s.side s.live s.other calm_a calm_b in record {
       unbroken = whole;
       sound = sound;
-      form = form_is member m f a b s.side s.live s.other s.journal s.kv s.live.known 1 0 sound answer rests.calm_a.only rests.calm_b.only rests.opens rests.files moments;
+      form = form_is member m f a b s.side s.live s.other s.journal s.kv s.live.known 1 0 sound answer rests.calm_a.only rests.calm_b.only rests.opens rests.files times;
       owner = own;
-      map = map_is member m f a b s.side s.live s.other s.journal s.kv s.live.known 1 0 sound answer rests.calm_a.only rests.calm_b.only rests.opens rests.files moments;
-      files = files_are member m f a b s.side s.live s.other s.journal s.kv s.live.known 1 0 sound answer rests.calm_a.only rests.calm_b.only rests.opens rests.files moments;
+      map = map_is member m f a b s.side s.live s.other s.journal s.kv s.live.known 1 0 sound answer rests.calm_a.only rests.calm_b.only rests.opens rests.files times;
+      files = files_are member m f a b s.side s.live s.other s.journal s.kv s.live.known 1 0 sound answer rests.calm_a.only rests.calm_b.only rests.opens rests.files times;
       calm_live = calm.0;
       calm_other = calm.1;
     }
@@ -117,7 +117,7 @@ begins member m f a b s rests whole sound own answer moments calm_a calm_b =
 
 module _ (member : Member) (m : Store) (f : Files) (ops : List Op) (old new : Held) (runs : Runs member m f old) where
   grown : new.side ≡ old.side → new.other ≡ old.other → new.broken ≡ false → IsSound state_of new → new.journal ≡ journal_after old.journal ops → new.kv ≡ apply ops old.kv
-      → Makes (apply_calls old.journal.next_gate ops) None (Some (tells old.live.life)) (Some (tells new.live.life)) → Runs member (apply ops m) (after_append ops f) new
+      → Makes (apply_calls old.journal.next_gate ops) None (Some (observed_of old.live.life)) (Some (observed_of new.live.life)) → Runs member (apply ops m) (after_append ops f) new
   grown side other whole sound journal map made =
       let here : Sound new.journal new.kv new.live.known (content new.live) (content old.other) = subst (λ (o : MemoryState). Sound new.journal new.kv new.live.known (content new.live) (content o)) other (sound whole) in
       record {
@@ -130,7 +130,7 @@ module _ (member : Member) (m : Store) (f : Files) (ops : List Op) (old new : He
             subst (λ (o : MemoryState). files_on (of_a new.side new.live o) (of_b new.side new.live o) ≡ after_append ops f) (sym other)
             (subst (λ (s : Side). files_on (of_a s new.live old.other) (of_b s new.live old.other) ≡ after_append ops f) (sym side)
             (files_grow old.side old.live old.other old.journal old.kv old.live.known runs.sound new.live new.journal new.kv new.live.known ops here journal ∙ ap (after_append ops) runs.files));
-        calm_live = none_stands new.live.life.upset (unfailing None (apply_calls old.journal.next_gate ops) (tells old.live.life) (tells new.live.life) (ap from_of runs.calm_live) made).1;
+        calm_live = none_stands new.live.life.upset (unfailing None (apply_calls old.journal.next_gate ops) (observed_of old.live.life) (observed_of new.live.life) (ap from_of runs.calm_live) made).1;
         calm_other = ap (λ (o : MemoryState). o.life.upset) other ∙ runs.calm_other;
       }
 
@@ -144,7 +144,7 @@ module _ (member : Member) (m : Store) (f : Files) (ops : List Op) (old new : He
   changes (Err (stop.Full would_be)) side other sound broken answer journal called =
       (subst (λ (n : Store). most_size < size_of (apply ops n)) runs.map answer.1.1, answer.1.2 ∙ ap (λ (n : Store). size_of (apply ops n)) runs.map)
   changes (Err stop.DiskFault) side other sound broken answer journal called =
-      let r = unfailing (Some disk.Failed) (apply_calls old.journal.next_gate ops) (tells old.live.life) (tells new.live.life) (ap from_of runs.calm_live) called.made in absurd (r.0 refl)
+      let r = unfailing (Some disk.Failed) (apply_calls old.journal.next_gate ops) (observed_of old.live.life) (observed_of new.live.life) (ap from_of runs.calm_live) called.made in absurd (r.0 refl)
   changes (Err stop.OutOfMemory) side other sound broken answer journal called = tt
 
 -- ---- what is due
@@ -183,9 +183,9 @@ module _ (member : Member) (m : Store) (f : Files) (old new : Held) (runs : Runs
   aside = disk_of (other_side old.side) new
 
   pub renewed : is_due old.journal old.kv ≡ true → new.side ≡ other_side old.side → new.journal ≡ next_journal old.journal old.kv → new.kv ≡ old.kv → disk_of old.side new ≡ old.live → new.broken ≡ false → IsSound state_of new
-      → Makes (restart_calls old.journal old.kv) None (Some (tells old.other.life)) (Some (tells aside.life)) → Runs member m (after_checkpoint m f) new
+      → Makes (restart_calls old.journal old.kv) None (Some (observed_of old.other.life)) (Some (observed_of aside.life)) → Runs member m (after_checkpoint m f) new
   renewed due side journal map untouched whole sound made =
-      let calm_aside : aside.life.upset ≡ None = none_stands aside.life.upset (unfailing None (restart_calls old.journal old.kv) (tells old.other.life) (tells aside.life) (ap from_of runs.calm_other) made).1 in
+      let calm_aside : aside.life.upset ≡ None = none_stands aside.life.upset (unfailing None (restart_calls old.journal old.kv) (observed_of old.other.life) (observed_of aside.life) (ap from_of runs.calm_other) made).1 in
       let calm = of_two old.side (disk_a new) (disk_b new) (ap (λ (d : MemoryState). d.life.upset) untouched ∙ runs.calm_live) calm_aside in
       let placed = by_place new.side new.live new.other calm.0 calm.1 in
       record {
@@ -205,7 +205,7 @@ module _ (member : Member) (m : Store) (f : Files) (old new : Held) (runs : Runs
   only_memory (stop.TooLong len) answer called = answer
   only_memory (stop.Full would_be) answer called = answer
   only_memory stop.DiskFault answer called =
-      let r = unfailing (Some disk.Failed) (restart_calls old.journal old.kv) (tells old.other.life) (tells aside.life) (ap from_of runs.calm_other) called.made in r.0 refl
+      let r = unfailing (Some disk.Failed) (restart_calls old.journal old.kv) (observed_of old.other.life) (observed_of aside.life) (ap from_of runs.calm_other) called.made in r.0 refl
   only_memory stop.OutOfMemory answer called = tt
 
 -- ---- both
@@ -224,8 +224,8 @@ module _ (member : Member) (m : Store) (f : Files) (s : Held) (runs : Runs membe
         calm_a = record { calm = calm.0; only = only_of_a s.side s.live s.other s.journal s.kv s.live.known runs.sound };
         calm_b = record { calm = calm.1; only = only_of_b s.side s.live s.other s.journal s.kv s.live.known runs.sound };
         opens = record {
-          stood = record { side = s.side; journal = s.journal; kv = s.kv };
-          opens = stood_opens s.journal s.kv member s.side (seen_of (disk_a s).life) (seen_of (disk_b s).life) (stands_seen s.side s.live s.other s.journal s.kv s.live.known runs.sound) runs.owner;
+          store_view = record { side = s.side; journal = s.journal; kv = s.kv };
+          opens = store_view_opens s.journal s.kv member s.side (seen_of (disk_a s).life) (seen_of (disk_b s).life) (stands_seen s.side s.live s.other s.journal s.kv s.live.known runs.sound) runs.owner;
           form = runs.form;
           map = runs.map;
         };

@@ -4,14 +4,14 @@ use Rattle.std.specs.Prelude.{◌==◌, ◌&&◌, if◌then◌else◌, slice_ind
 use Rattle.std.proofs.lemmas.Bool.Decides.{nat_tests}
 use Rattle.mon_types.specs.declared.names.Side.{Side}
 use Rattle.mon_types.specs.declared.names.Stop.TheVariants as disk
-use Rattle.mon_disk.specs.Calls.{Told, Makes}
+use Rattle.mon_disk.specs.Calls.{Observed, Makes}
 use Rattle.mon_disk.specs.declared.disk.DiskCall.{DiskCall}
 use Rattle.mon_types.specs.declared.names.Stop.{Stop}
-use Rattle.mon_disk.specs.Memory.{Upset, Lived, seen_after, imaged, seen_of, settled}
-use Rattle.mon_disk.specs.MemoryDisk.{MemoryState, tells}
+use Rattle.mon_disk.specs.Memory.{InjectedFault, Lived, seen_after, imaged, seen_of, settled}
+use Rattle.mon_disk.specs.MemoryDisk.{MemoryState, observed_of}
 use Rattle.mon_disk.specs.Images.{Only}
 use Rattle.mon_disk.specs.Laws.{settles}
-use Rattle.mon_disk.proofs.Upsets.{upset_after, all_done, all_begun}
+use Rattle.mon_disk.proofs.InjectedFaults.{injected_after, all_done, all_begun}
 use Rattle.mon_tx.specs.declared.op.Op.{Op}
 use Rattle.mon_tx.specs.Map.{Store, apply}
 use Rattle.mon_tx.specs.Text.{text}
@@ -25,21 +25,21 @@ use Rattle.mon_types.specs.Sides.{other as other_side}
 use Rattle.mon_store.specs.Sound.{of_a, of_b, of_live, Sound, StandsOn, BeforeOrAfter}
 use Rattle.mon_store.proofs.OnPairs.{live_is, other_is}
 use Rattle.quorum_model.specs.Files.{Files, after_append}
-use Rattle.quorum_model.specs.Upsets.{opens_gate}
+use Rattle.quorum_model.specs.InjectedFaults.{opens_gate}
 use Rattle.mon_site.specs.Disks.{file_in, content}
-use Rattle.mon_site.specs.Upset.{IsUpset, Leaves, files_on}
+use Rattle.mon_site.specs.InjectedFault.{IsInjected, Leaves, files_on}
 use Rattle.mon_site.proofs.Guarded.{guarded, cut_short, IsClean, Walked, walk}
 use Rattle.mon_site.proofs.Gates.{is_opened, append_writes, append_gate}
 use Rattle.mon_site.proofs.Standing.{files_with, file_by, files_are, append_is, as_it_reads, other_seen, by_name_a, by_name_b}
 
--- ---- a disk that is upset, and of which no call failed yet
+-- ---- a disk with an injected fault, of which no call failed yet
 
-module _ (call image : ℕ) (d : MemoryState) (up : IsUpset call image d) (only : Only (content d)) where
-  abbrev pub u : Upset
+module _ (call image : ℕ) (d : MemoryState) (up : IsInjected call image d) (only : Only (content d)) where
+  abbrev pub u : InjectedFault
   u = record { from = length up.like.calls + call; image = image }
 
   abbrev pub like_life : Lived
-  like_life = upset_after up.like.first u up.like.calls
+  like_life = injected_after up.like.first u up.like.calls
 
   pub not_yet : length up.like.calls < u.from
   not_yet = omega (arith, up.first)
@@ -53,25 +53,25 @@ module _ (call image : ℕ) (d : MemoryState) (up : IsUpset call image d) (only 
   pub clean : IsClean up.like.first u up.like.calls
   clean =
       sym (ap (λ (cs : List DiskCall). imaged image up.like.first cs) (all_begun up.like.first u up.like.calls not_yet))
-      ∙ sym (ap (λ (t : Told). t.settles t.made) up.told)
+      ∙ sym (ap (λ (t : Observed). t.settles t.made) up.observed)
       ∙ as_seen
       ∙ sym seen_is
 
   pub count_is : length d.life.calls ≡ length up.like.calls
-  count_is = ap (λ (t : Told). length t.made) up.told
+  count_is = ap (λ (t : Observed). length t.made) up.observed
 
-  walked : (writes : List (ℕ × List ℕ)) (t : Told) (stop : Option Stop) → Makes (guarded writes) stop (Some (tells d.life)) (Some t) → Walked up.like.first u up.like.calls writes t stop
-  walked writes t stop m = walk up.like.first u writes up.like.calls t stop not_yet clean (subst (λ (s : Told). Makes (guarded writes) stop (Some s) (Some t)) up.told m)
+  walked : (writes : List (ℕ × List ℕ)) (t : Observed) (stop : Option Stop) → Makes (guarded writes) stop (Some (observed_of d.life)) (Some t) → Walked up.like.first u up.like.calls writes t stop
+  walked writes t stop m = walk up.like.first u writes up.like.calls t stop not_yet clean (subst (λ (s : Observed). Makes (guarded writes) stop (Some s) (Some t)) up.observed m)
 
   -- one of these writes or syncs fails
-  pub record CutShort (writes : List (ℕ × List ℕ)) (t : Told) : Type 0 where
+  pub record CutShort (writes : List (ℕ × List ℕ)) (t : Observed) : Type 0 where
     pub done : ℕ
     pub number : call ≡ suc done
     pub within : done < length (guarded writes)
     pub made : length t.made ≡ length d.life.calls + call
     pub leaves : t.settles t.made ≡ cut_short image done writes (seen_of d.life)
 
-  pub cut_of : (writes : List (ℕ × List ℕ)) (t : Told) → Makes (guarded writes) (Some disk.Failed) (Some (tells d.life)) (Some t) → CutShort writes t
+  pub cut_of : (writes : List (ℕ × List ℕ)) (t : Observed) → Makes (guarded writes) (Some disk.Failed) (Some (observed_of d.life)) (Some t) → CutShort writes t
   cut_of writes t m =
       let w = walked writes t (Some disk.Failed) m in
       record {
@@ -83,7 +83,7 @@ module _ (call image : ℕ) (d : MemoryState) (up : IsUpset call image d) (only 
       }
 
   -- none fails
-  pub goes_of : (writes : List (ℕ × List ℕ)) (t : Told) → Makes (guarded writes) None (Some (tells d.life)) (Some t) → length (guarded writes) < call
+  pub goes_of : (writes : List (ℕ × List ℕ)) (t : Observed) → Makes (guarded writes) None (Some (observed_of d.life)) (Some t) → length (guarded writes) < call
   goes_of writes t m = let w = walked writes t None m in omega (arith, w.before)
 
 -- ---- an append on the live disk
@@ -115,8 +115,8 @@ some_op j [] some = absurd cc
 some_op j (op ∷ ops) some = refl
 
 module _ (side : Side) (live other new : MemoryState) (j : Journal) (m : Store) (known : ℕ) (ops : List Op) (call image : ℕ)
-    (sound : Sound j m known (content live) (content other)) (up : IsUpset call image live) (some : is_empty ops ≡ false)
-    (made : Makes (append_calls j.next_gate (text ops)) (Some disk.Failed) (Some (tells live.life)) (Some (tells new.life)))
+    (sound : Sound j m known (content live) (content other)) (up : IsInjected call image live) (some : is_empty ops ≡ false)
+    (made : Makes (append_calls j.next_gate (text ops)) (Some disk.Failed) (Some (observed_of live.life)) (Some (observed_of new.life)))
     (either : BeforeOrAfter side j m ops (settled (of_a side new other).life) (settled (of_b side new other).life)) where
   abbrev writes : List (ℕ × List ℕ)
   writes = append_writes j.next_gate (text ops)
@@ -127,8 +127,8 @@ module _ (side : Side) (live other new : MemoryState) (j : Journal) (m : Store) 
   abbrev b : List ℕ
   b = settled (of_b side new other).life
 
-  c : CutShort call image live up sound.stands_live.only writes (tells new.life)
-  c = cut_of call image live up sound.stands_live.only writes (tells new.life) made
+  c : CutShort call image live up sound.stands_live.only writes (observed_of new.life)
+  c = cut_of call image live up sound.stands_live.only writes (observed_of new.life) made
 
   pub late : call ≤ 4
   late = omega (arith, c.number, c.within)

@@ -14,4 +14,4 @@ pub mod Written
 pub mod Readying
 pub mod InUse
 pub mod AtRest
-pub mod Moments
+pub mod Times

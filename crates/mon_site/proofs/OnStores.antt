@@ -8,7 +8,7 @@ use Rattle.mon_types.specs.declared.names.Side.TheVariants.{A, B}
 use Rattle.mon_types.specs.declared.names.Stop.TheVariants as disk
 use Rattle.mon_disk.specs.Calls.{Makes}
 use Rattle.mon_disk.specs.Memory.{from_of, settled}
-use Rattle.mon_disk.specs.MemoryDisk.{MemoryState, tells}
+use Rattle.mon_disk.specs.MemoryDisk.{MemoryState, observed_of}
 use Rattle.mon_tx.specs.declared.op.Op.{Op}
 use Rattle.mon_tx.specs.Map.{Store, apply}
 use Rattle.mon_kv.specs.Readers.{size_of, most_size}
@@ -24,13 +24,13 @@ use Rattle.mon_store.specs.Sound as stored
 use Rattle.mon_store.specs.Whole.{disk_a, disk_b, disk_of}
 use Rattle.quorum_model.specs.Cuts.{after_checkpoint, checkpoint_begun}
 use Rattle.quorum_model.specs.Files.{Files, live_side, after_append}
-use Rattle.quorum_model.specs.Upsets.{same_side}
+use Rattle.quorum_model.specs.InjectedFaults.{same_side}
 use Rattle.mon_site.specs.declared.finishing.Kept.TheVariants.{Whole, Cut}
-use Rattle.mon_site.specs.declared.upset.Upset.{Upset}
+use Rattle.mon_site.specs.declared.injected.InjectedFault.{InjectedFault}
 use Rattle.mon_site.specs.Disks.{content}
 use Rattle.mon_site.specs.Ending.{IsKept, Keeps, on_live, is_beyond}
 use Rattle.mon_site.specs.Faults.{HasFault, Settles}
-use Rattle.mon_site.specs.Upset.{IsUpset, files_on}
+use Rattle.mon_site.specs.InjectedFault.{IsInjected, files_on}
 use Rattle.mon_site.proofs.Ending.{Either, OnLive, OnOther, either, live_now, files_grow, uncut_by, live_cut, due_cut, due_beyond, due_whole, none_due}
 use Rattle.mon_site.proofs.Openings.{unfailing}
 
@@ -54,7 +54,7 @@ not_late n h = grind (arith, nat_tests)
 
 -- ---- a transaction
 
-module _ (u : Upset) (member : Member) (m : Store) (f : Files) (ops : List Op) (old new : Held) (faulty : HasFault u.disk u.call u.image member m f old) (side : new.side ≡ old.side) (other : new.other ≡ old.other) where
+module _ (u : InjectedFault) (member : Member) (m : Store) (f : Files) (ops : List Op) (old new : Held) (faulty : HasFault u.disk u.call u.image member m f old) (side : new.side ≡ old.side) (other : new.other ≡ old.other) where
   which : Either u.call u.image u.disk old.side old.live old.other
   which = either u.call u.image u.disk old.side old.live old.other faulty.upset faulty.calm
 
@@ -70,7 +70,7 @@ module _ (u : Upset) (member : Member) (m : Store) (f : Files) (ops : List Op) (
       (subst (λ (s : Side). P (of_a s new.live old.other) (of_b s new.live old.other)) (sym side) h)
 
   pub whole : new.broken ≡ false → Sound new.journal new.kv new.live.known (content new.live) (content new.other) → new.journal ≡ journal_after old.journal ops → size_of (apply ops old.kv) ≤ most_size → new.kv ≡ apply ops old.kv
-      → Makes (apply_calls old.journal.next_gate ops) None (Some (tells old.live.life)) (Some (tells new.live.life)) → Keeps u member m f ops new (Ok Whole)
+      → Makes (apply_calls old.journal.next_gate ops) None (Some (observed_of old.live.life)) (Some (observed_of new.live.life)) → Keeps u member m f ops new (Ok Whole)
   whole unbroken sound journal small map made =
       let here : Sound new.journal new.kv new.live.known (content new.live) (content old.other) = subst (λ (o : MemoryState). Sound new.journal new.kv new.live.known (content new.live) (content o)) other sound in (
         uncut which,
@@ -93,11 +93,11 @@ module _ (u : Upset) (member : Member) (m : Store) (f : Files) (ops : List Op) (
           ap (λ (b : Bool). on_live u f && not b) beyond ∙ neither (on_live u f)
       uncut (OnOther apart up calm) = ap (λ (b : Bool). b && not (is_beyond u ops)) (on_it ∙ apart)
 
-      others : Either u.call u.image u.disk old.side old.live old.other → ((on_live u f ≡ true) × (new.other.life.upset ≡ None)) ⊎ ((on_live u f ≡ false) × IsUpset u.call u.image new.other)
+      others : Either u.call u.image u.disk old.side old.live old.other → ((on_live u f ≡ true) × (new.other.life.upset ≡ None)) ⊎ ((on_live u f ≡ false) × IsInjected u.call u.image new.other)
       others (OnLive same up calm) = inl (on_it ∙ same, ap (λ (o : MemoryState). o.life.upset) other ∙ calm)
-      others (OnOther apart up calm) = inr (on_it ∙ apart, subst (λ (o : MemoryState). IsUpset u.call u.image o) (sym other) up)
+      others (OnOther apart up calm) = inr (on_it ∙ apart, subst (λ (o : MemoryState). IsInjected u.call u.image o) (sym other) up)
 
-  pub cut : size_of (apply ops old.kv) ≤ most_size → Makes (apply_calls old.journal.next_gate ops) (Some disk.Failed) (Some (tells old.live.life)) (Some (tells new.live.life))
+  pub cut : size_of (apply ops old.kv) ≤ most_size → Makes (apply_calls old.journal.next_gate ops) (Some disk.Failed) (Some (observed_of old.live.life)) (Some (observed_of new.live.life))
       → BeforeOrAfter old.side old.journal old.kv ops (settled (disk_a new).life) (settled (disk_b new).life) → Keeps u member m f ops new (Ok (Cut (nat_le 3 u.call && u.image == 1)))
   cut small made before =
       let test : Bool = nat_le 3 u.call && u.image == 1 in
@@ -161,7 +161,7 @@ module _ (live : Bool) (call image : ℕ) (member : Member) (m : Store) (f : Fil
           subst (λ (s : Held). Settles member old.kv (checkpoint_begun n i old.kv (files_on (disk_a old) (disk_b old))) (disk_a s) (disk_b s)) (sym same)
           (none_due old.side old.live old.other old.journal old.kv old.live.known is.sound member n i is.form idle is.owner)
 
-      by : ((live ≡ true) × (old.other.life.upset ≡ None)) ⊎ ((live ≡ false) × IsUpset call image old.other) → Wants
+      by : ((live ≡ true) × (old.other.life.upset ≡ None)) ⊎ ((live ≡ false) × IsInjected call image old.other) → Wants
       by (inl (e, calm)) = by_call 7 0 (with_call 7 0) (on_live_is e)
       by (inr (e, up)) = by_call call image (with_call call image) (on_other_is e)
 
@@ -169,7 +169,7 @@ module _ (live : Bool) (call image : ℕ) (member : Member) (m : Store) (f : Fil
   aside = disk_of (other_side old.side) new
 
   pub made_whole : stored.is_due old.journal old.kv ≡ true → new.side ≡ other_side old.side → new.journal ≡ next_journal old.journal old.kv → new.kv ≡ old.kv → disk_of old.side new ≡ old.live
-      → Sound new.journal new.kv new.live.known (content new.live) (content new.other) → Makes (restart_calls old.journal old.kv) None (Some (tells old.other.life)) (Some (tells aside.life)) → Wants
+      → Sound new.journal new.kv new.live.known (content new.live) (content new.other) → Makes (restart_calls old.journal old.kv) None (Some (observed_of old.other.life)) (Some (observed_of aside.life)) → Wants
   made_whole due side journal map untouched sound made = by is.other
     where
       other_is : new.other ≡ old.live
@@ -194,17 +194,17 @@ module _ (live : Bool) (call image : ℕ) (member : Member) (m : Store) (f : Fil
           on_names (λ a b. Settles member old.kv (checkpoint_begun n i old.kv (files_on (disk_a old) (disk_b old))) a b)
           (due_whole old.side old.live old.other old.journal old.kv old.live.known is.sound member n i new.live.known new.live after beyond is.form due is.owner)
 
-      by : ((live ≡ true) × (old.other.life.upset ≡ None)) ⊎ ((live ≡ false) × IsUpset call image old.other) → Wants
+      by : ((live ≡ true) × (old.other.life.upset ≡ None)) ⊎ ((live ≡ false) × IsInjected call image old.other) → Wants
       by (inl (e, calm)) = by_call 7 0 (with_call 7 0 (omega arith)) (on_live_is e)
       by (inr (e, up)) =
           by_call call image (with_call call image (due_beyond old.side old.live old.other old.journal old.kv old.live.known is.sound call image aside up due made)) (on_other_is e)
 
-  pub made_short : stored.is_due old.journal old.kv ≡ true → disk_of old.side new ≡ old.live → Makes (restart_calls old.journal old.kv) (Some disk.Failed) (Some (tells old.other.life)) (Some (tells aside.life))
-      → Restarted old.side old.journal old.kv (content old.other) (made_more 4 (tells old.other.life) (tells aside.life)) (of_a old.side (settled (disk_of old.side new).life) (settled aside.life)) (of_b old.side (settled (disk_of old.side new).life) (settled aside.life)) → Wants
+  pub made_short : stored.is_due old.journal old.kv ≡ true → disk_of old.side new ≡ old.live → Makes (restart_calls old.journal old.kv) (Some disk.Failed) (Some (observed_of old.other.life)) (Some (observed_of aside.life))
+      → Restarted old.side old.journal old.kv (content old.other) (made_more 4 (observed_of old.other.life) (observed_of aside.life)) (of_a old.side (settled (disk_of old.side new).life) (settled aside.life)) (of_b old.side (settled (disk_of old.side new).life) (settled aside.life)) → Wants
   made_short due untouched made begun = by is.other
     where
-      here : Restarted old.side old.journal old.kv (content old.other) (made_more 4 (tells old.other.life) (tells aside.life)) (of_a old.side (settled old.live.life) (settled aside.life)) (of_b old.side (settled old.live.life) (settled aside.life))
-      here = subst (λ (l : MemoryState). Restarted old.side old.journal old.kv (content old.other) (made_more 4 (tells old.other.life) (tells aside.life)) (of_a old.side (settled l.life) (settled aside.life)) (of_b old.side (settled l.life) (settled aside.life))) untouched begun
+      here : Restarted old.side old.journal old.kv (content old.other) (made_more 4 (observed_of old.other.life) (observed_of aside.life)) (of_a old.side (settled old.live.life) (settled aside.life)) (of_b old.side (settled old.live.life) (settled aside.life))
+      here = subst (λ (l : MemoryState). Restarted old.side old.journal old.kv (content old.other) (made_more 4 (observed_of old.other.life) (observed_of aside.life)) (of_a old.side (settled l.life) (settled aside.life)) (of_b old.side (settled l.life) (settled aside.life))) untouched begun
 
       is_a : of_a old.side old.live aside ≡ disk_a new
       is_a = ap (λ (l : MemoryState). of_a old.side l aside) (sym untouched) ∙ named old.side (disk_a new) (disk_b new)
@@ -212,8 +212,8 @@ module _ (live : Bool) (call image : ℕ) (member : Member) (m : Store) (f : Fil
       is_b : of_b old.side old.live aside ≡ disk_b new
       is_b = ap (λ (l : MemoryState). of_b old.side l aside) (sym untouched) ∙ named_b old.side (disk_a new) (disk_b new)
 
-      by : ((live ≡ true) × (old.other.life.upset ≡ None)) ⊎ ((live ≡ false) × IsUpset call image old.other) → Wants
-      by (inl (e, calm)) = let r = unfailing (Some disk.Failed) (restart_calls old.journal old.kv) (tells old.other.life) (tells aside.life) (ap from_of calm) made in absurd (r.0 refl)
+      by : ((live ≡ true) × (old.other.life.upset ≡ None)) ⊎ ((live ≡ false) × IsInjected call image old.other) → Wants
+      by (inl (e, calm)) = let r = unfailing (Some disk.Failed) (restart_calls old.journal old.kv) (observed_of old.other.life) (observed_of aside.life) (ap from_of calm) made in absurd (r.0 refl)
       by (inr (e, up)) =
           by_call call image
           (subst (λ (x : MemoryState). Settles member old.kv (checkpoint_begun call image old.kv (files_on (disk_a old) (disk_b old))) x (disk_b new)) is_a

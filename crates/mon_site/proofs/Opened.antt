@@ -9,10 +9,10 @@ use Rattle.mon_types.specs.declared.names.Side.TheVariants.{A, B}
 use Rattle.mon_types.specs.declared.names.Stop.TheVariants as disk
 use Rattle.mon_disk.specs.declared.disk.DiskCall.{DiskCall}
 use Rattle.mon_disk.specs.declared.disk.DiskCall.TheVariants.{Sync}
-use Rattle.mon_disk.specs.Calls.{Told, Makes, is_past, fails_next}
+use Rattle.mon_disk.specs.Calls.{Observed, Makes, is_past, fails_next}
 use Rattle.mon_disk.specs.Images.{Only}
 use Rattle.mon_disk.specs.Memory.{from_of, seen_of, settled}
-use Rattle.mon_disk.specs.MemoryDisk.{MemoryState, tells}
+use Rattle.mon_disk.specs.MemoryDisk.{MemoryState, observed_of}
 use Rattle.mon_disk.proofs.Lives.{length_more}
 use Rattle.mon_tx.specs.Map.{Store}
 use Rattle.mon_journal.specs.Content.{Held, held_by}
@@ -26,10 +26,10 @@ use Rattle.mon_store.specs.Opening.{AlikePair, Settled, first_content}
 use Rattle.mon_store.specs.OpeningCalls.{MakesBoth, opening_calls, calls_on}
 use Rattle.mon_store.specs.Pair.{◌>>=◌, Found, Create, Live, Refusal, found, taken}
 use Rattle.mon_store.specs.Pair as pair
-use Rattle.mon_store.specs.Stood.{Stood, opens_as, standing_of}
+use Rattle.mon_store.specs.StoreView.{StoreView, opens_as, standing_of}
 use Rattle.quorum_model.specs.Cuts.{opening_cut}
 use Rattle.quorum_model.specs.Files.{File, Files, first_file, is_created}
-use Rattle.quorum_model.specs.Upsets.{opening_count, opens_gate, closes_gate}
+use Rattle.quorum_model.specs.InjectedFaults.{opening_count, opens_gate, closes_gate}
 use Rattle.mon_site.specs.Disks.{file_of, file_in, files_in, content}
 use Rattle.mon_site.specs.Faults.{OpensMap, IsReady, Settles}
 use Rattle.mon_site.proofs.Guarded.{guarded, cut_short}
@@ -40,14 +40,14 @@ use Rattle.mon_site.proofs.Checkpointing.{opens_is}
 
 -- ---- what is found
 
-opened_by : (member : Member) (a b : List ℕ) (s : Stood) → opens_as member a b ≡ Ok s → (it : Found × Store) × (pair.opened (owner_of member) a b ≡ Ok it)
+opened_by : (member : Member) (a b : List ℕ) (s : StoreView) → opens_as member a b ≡ Ok s → (it : Found × Store) × (pair.opened (owner_of member) a b ≡ Ok it)
 opened_by member a b s e = by (pair.opened (owner_of member) a b) e
   where
     by : (r : Result (Found × Store) Refusal) → (r >>= λ it. Ok (standing_of member it.0 it.1)) ≡ Ok s → (it : Found × Store) × (r ≡ Ok it)
     by (Ok it) e = (it, refl)
     by (Err f) e = absurd cc
 
-pub place_of : (member : Member) (a b : List ℕ) (s : Stood) → opens_as member a b ≡ Ok s → (place : Found) × (found a b ≡ Ok place)
+pub place_of : (member : Member) (a b : List ℕ) (s : StoreView) → opens_as member a b ≡ Ok s → (place : Found) × (found a b ≡ Ok place)
 place_of member a b s e = let o = opened_by member a b s e in found_by (owner_of member) a b o.0 o.1
 
 -- a new store is created on disk A
@@ -86,7 +86,7 @@ module _ (member : Member) (m : Store) (a b na nb : MemoryState) (only_a : Only 
   sb = seen_of b.life
 
   place : (place : Found) × (found sa sb ≡ Ok place)
-  place = place_of member sa sb opens.stood opens.opens
+  place = place_of member sa sb opens.store_view opens.opens
 
   module _ (c d : List ℕ) (test : Bool) (two : AlikePair member (content a) (content b) test c d) where
     was_a : two.on_a ≡ sa
@@ -103,7 +103,7 @@ module _ (member : Member) (m : Store) (a b na nb : MemoryState) (only_a : Only 
 
     pub still_opens : OpensMap member m c d
     still_opens = record {
-      stood = opens.stood;
+      store_view = opens.store_view;
       opens = two.opens ∙ ap (λ (l : List ℕ). opens_as member l two.on_b) was_a ∙ ap (λ (l : List ℕ). opens_as member sa l) was_b ∙ opens.opens;
       form = opens.form;
       map = opens.map;
@@ -127,7 +127,7 @@ module _ (member : Member) (m : Store) (a b na nb : MemoryState) (only_a : Only 
 
 -- ---- a call fails
 
-unfailing_next : (t : Told) → t.fails_from ≡ None → fails_next t ≡ false
+unfailing_next : (t : Observed) → t.fails_from ≡ None → fails_next t ≡ false
 unfailing_next t calm = ap (λ (from : Option ℕ). is_past from (suc (length t.made))) calm
 
 new_calls : (owner : Owner) (a b : List ℕ) → journal.content a ≡ None → journal.content b ≡ None → found a b ≡ Ok Create → opening_calls owner a b ≡ (A, Sync) ∷ (B, Sync) ∷ calls_on A (create_calls owner 1 None)
@@ -144,7 +144,7 @@ none_more t n made is = let few : nat_lt (n + 5) made ≡ false = grind (arith, 
 more_five : (n done made : ℕ) → made ≡ n + (2 + done) → nat_lt (n + 5) made ≡ nat_le 4 done
 more_five n done made is = grind (arith, nat_tests)
 
-abbrev failed : Result Stood OpenStop
+abbrev failed : Result StoreView OpenStop
 failed = Err opening.DiskFault
 
 abbrev pub none_yet : Files
@@ -162,22 +162,22 @@ module _ (member : Member) (m : Store) (f : Files) (a b na nb : MemoryState) (ca
   calls = opening_calls owner (seen_of a.life) (seen_of b.life)
 
   module _ (ready : IsReady A call image member m f a b)
-      (made : MakesBoth calls (Some (tells a.life)) (Some (tells b.life)) (Some (tells na.life)) (Some (tells nb.life)) failed)
-      (left : Settled member (content a) (content b) (tells a.life) (tells na.life) (tells nb.life)) where
+      (made : MakesBoth calls (Some (observed_of a.life)) (Some (observed_of b.life)) (Some (observed_of na.life)) (Some (observed_of nb.life)) failed)
+      (left : Settled member (content a) (content b) (observed_of a.life) (observed_of na.life) (observed_of nb.life)) where
     p : (place : Found) × (found (seen_of a.life) (seen_of b.life) ≡ Ok place)
-    p = place_of member (seen_of a.life) (seen_of b.life) ready.opens.stood ready.opens.opens
+    p = place_of member (seen_of a.life) (seen_of b.life) ready.opens.store_view ready.opens.opens
 
     abbrev writes : List (ℕ × List ℕ)
     writes = writes_a owner (journal.content (seen_of a.life)) (journal.content (seen_of b.life))
 
-    broken : Broken call image a ready.upset ready.only_a writes (tells na.life)
+    broken : Broken call image a ready.upset ready.only_a writes (observed_of na.life)
     broken =
-        walks call image a ready.upset ready.only_a writes (tells na.life) (Some disk.Failed)
-        (subst (λ (cs : List DiskCall). Makes cs (Some disk.Failed) (Some (tells a.life)) (Some (tells na.life))) (on_disk_a owner (seen_of a.life) (seen_of b.life) p.0 p.1)
-        (on_a failed calls (tells a.life) (tells b.life) (tells na.life) (tells nb.life) (ap from_of ready.calm) made).0)
+        walks call image a ready.upset ready.only_a writes (observed_of na.life) (Some disk.Failed)
+        (subst (λ (cs : List DiskCall). Makes cs (Some disk.Failed) (Some (observed_of a.life)) (Some (observed_of na.life))) (on_disk_a owner (seen_of a.life) (seen_of b.life) p.0 p.1)
+        (on_a failed calls (observed_of a.life) (observed_of b.life) (observed_of na.life) (observed_of nb.life) (ap from_of ready.calm) made).0)
 
     abbrev test : Bool
-    test = slice_index_or (settled na.life) 0 0 == 1 && made_more 5 (tells a.life) (tells na.life)
+    test = slice_index_or (settled na.life) 0 0 == 1 && made_more 5 (observed_of a.life) (observed_of na.life)
 
     opens_still : OpensMap member m (settled na.life) (settled nb.life)
     opens_still = still_opens member m a b na nb ready.only_a ready.only_b ready.opens (settled na.life) (settled nb.life) test left
@@ -206,7 +206,7 @@ module _ (member : Member) (m : Store) (f : Files) (a b na nb : MemoryState) (ca
         by false true = refl
         by false false = refl
 
-    files_are : Broken call image a ready.upset ready.only_a writes (tells na.life) → Finds (journal.content (seen_of a.life)) (journal.content (seen_of b.life)) (found (seen_of a.life) (seen_of b.life))
+    files_are : Broken call image a ready.upset ready.only_a writes (observed_of na.life) → Finds (journal.content (seen_of a.life)) (journal.content (seen_of b.life)) (found (seen_of a.life) (seen_of b.life))
         → files_in (settled na.life) (settled nb.life) ≡ opening_cut f A call image
     files_are w (WasThere made_before t) = there t made_before
     files_are (AtSync number long) (IsNew none_a none_b e) =
@@ -216,12 +216,12 @@ module _ (member : Member) (m : Store) (f : Files) (a b na nb : MemoryState) (ca
         let is_writes : writes ≡ create_writes owner 1 None = ap (λ (x : Content). writes_a owner x (journal.content (seen_of b.life))) none_a ∙ ap (λ (y : Content). writes_a owner None y) none_b in
         let within_six : done < 6 = omega (arith, within, ap (λ (ws : List (ℕ × List ℕ)). length (guarded ws)) is_writes) in
         new_with (nat_le 4 done && image == 1)
-        (ap (λ (l : List ℕ). is_opened l 0 && made_more 5 (tells a.life) (tells na.life)) (leaves ∙ ap (λ (ws : List (ℕ × List ℕ)). cut_short image done ws (seen_of a.life)) is_writes)
+        (ap (λ (l : List ℕ). is_opened l 0 && made_more 5 (observed_of a.life) (observed_of na.life)) (leaves ∙ ap (λ (ws : List (ℕ × List ℕ)). cut_short image done ws (seen_of a.life)) is_writes)
         ∙ ap (λ (b : Bool). is_opened (cut_short image done (create_writes owner 1 None) (seen_of a.life)) 0 && b) (more_five (length a.life.calls) done (length na.life.calls) (long ∙ ap (λ n. length a.life.calls + n) number))
         ∙ create_gate image done owner 1 None (seen_of a.life) within_six)
         (opens_is (call - 1) done image (omega (arith, number)) within_six) e none_a none_b
 
-    early : Broken call image a ready.upset ready.only_a writes (tells na.life) → call ≤ opening_count A f
+    early : Broken call image a ready.upset ready.only_a writes (observed_of na.life) → call ≤ opening_count A f
     early (AtSync number long) = omega (arith, number, count_is)
     early (Behind done number within long leaves) = omega (arith, number, within, count_is)
 
@@ -233,7 +233,7 @@ module _ (member : Member) (m : Store) (f : Files) (a b na nb : MemoryState) (ca
 
   -- ---- the same of disk B
 
-  first_syncs : (more : List (Side × DiskCall)) (s t new_s new_t : Told) → s.fails_from ≡ None → on B more ≡ [] → MakesBoth ((A, Sync) ∷ (B, Sync) ∷ more) (Some s) (Some t) (Some new_s) (Some new_t) failed → length new_s.made ≡ length s.made + 1
+  first_syncs : (more : List (Side × DiskCall)) (s t new_s new_t : Observed) → s.fails_from ≡ None → on B more ≡ [] → MakesBoth ((A, Sync) ∷ (B, Sync) ∷ more) (Some s) (Some t) (Some new_s) (Some new_t) failed → length new_s.made ≡ length s.made + 1
   first_syncs more s t new_s new_t calm alone (inl m_) = let h : failed ≡ Err opening.OutOfMemory = m_.0 in absurd cc
   first_syncs more s t new_s new_t calm alone (inr (inl m_)) =
       let fails : fails_next s ≡ true = m_.3 in
@@ -242,29 +242,29 @@ module _ (member : Member) (m : Store) (f : Files) (a b na nb : MemoryState) (ca
   first_syncs more s t new_s new_t calm alone (inr (inr (sound, inr (inl m_)))) =
       let is : Some new_s ≡ Some (one_more Sync s) = m_.1 in
       let same : new_s ≡ one_more Sync s = cc in
-      ap (λ (x : Told). length x.made) same ∙ length_more s.made Sync ∙ omega arith
+      ap (λ (x : Observed). length x.made) same ∙ length_more s.made Sync ∙ omega arith
   first_syncs more s t new_s new_t calm alone (inr (inr (sound, inr (inr (more_sound, m_))))) =
       let r = on_b failed more (one_more Sync s) (one_more Sync t) new_s new_t calm m_ in
       let none : Makes [] (Some disk.Failed) (Some (one_more Sync t)) (Some new_t) = subst (λ (cs : List DiskCall). Makes cs (Some disk.Failed) (Some (one_more Sync t)) (Some new_t)) alone r.0 in
       absurd (none.1 refl)
 
   module _ (ready : IsReady B call image member m f a b)
-      (made : MakesBoth calls (Some (tells a.life)) (Some (tells b.life)) (Some (tells na.life)) (Some (tells nb.life)) failed)
-      (left : Settled member (content a) (content b) (tells a.life) (tells na.life) (tells nb.life)) where
+      (made : MakesBoth calls (Some (observed_of a.life)) (Some (observed_of b.life)) (Some (observed_of na.life)) (Some (observed_of nb.life)) failed)
+      (left : Settled member (content a) (content b) (observed_of a.life) (observed_of na.life) (observed_of nb.life)) where
     q : (place : Found) × (found (seen_of a.life) (seen_of b.life) ≡ Ok place)
-    q = place_of member (seen_of a.life) (seen_of b.life) ready.opens.stood ready.opens.opens
+    q = place_of member (seen_of a.life) (seen_of b.life) ready.opens.store_view ready.opens.opens
 
     abbrev writes_here : List (ℕ × List ℕ)
     writes_here = open_writes (journal.content (seen_of b.life))
 
-    broken_b : Broken call image b ready.upset ready.only_b writes_here (tells nb.life)
+    broken_b : Broken call image b ready.upset ready.only_b writes_here (observed_of nb.life)
     broken_b =
-        walks call image b ready.upset ready.only_b writes_here (tells nb.life) (Some disk.Failed)
-        (subst (λ (cs : List DiskCall). Makes cs (Some disk.Failed) (Some (tells b.life)) (Some (tells nb.life))) (on_disk_b owner (seen_of a.life) (seen_of b.life) q.0 q.1)
-        (on_b failed calls (tells a.life) (tells b.life) (tells na.life) (tells nb.life) (ap from_of ready.calm) made).0)
+        walks call image b ready.upset ready.only_b writes_here (observed_of nb.life) (Some disk.Failed)
+        (subst (λ (cs : List DiskCall). Makes cs (Some disk.Failed) (Some (observed_of b.life)) (Some (observed_of nb.life))) (on_disk_b owner (seen_of a.life) (seen_of b.life) q.0 q.1)
+        (on_b failed calls (observed_of a.life) (observed_of b.life) (observed_of na.life) (observed_of nb.life) (ap from_of ready.calm) made).0)
 
     abbrev test_a : Bool
-    test_a = slice_index_or (settled na.life) 0 0 == 1 && made_more 5 (tells a.life) (tells na.life)
+    test_a = slice_index_or (settled na.life) 0 0 == 1 && made_more 5 (observed_of a.life) (observed_of na.life)
 
     count_b : opening_count B f ≡ 1 + length (guarded writes_here)
     count_b = ap (λ (g : Files). opening_count B g) (sym ready.files) ∙ counts_b owner (seen_of a.life) (seen_of b.life) q.0 q.1
@@ -275,13 +275,13 @@ module _ (member : Member) (m : Store) (f : Files) (a b na nb : MemoryState) (ca
         let before : f ≡ none_yet = sym ready.files ∙ ap (λ (x : Content). files_with x (journal.content (seen_of b.life))) none_a ∙ ap (λ (y : Content). files_with None y) none_b in
         let calls_so : calls ≡ (A, Sync) ∷ (B, Sync) ∷ calls_on A (create_calls owner 1 None) = new_calls owner (seen_of a.life) (seen_of b.life) none_a none_b e in
         let long : length na.life.calls ≡ length a.life.calls + 1 =
-        first_syncs (calls_on A (create_calls owner 1 None)) (tells a.life) (tells b.life) (tells na.life) (tells nb.life) (ap from_of ready.calm) refl
-        (subst (λ (cs : List (Side × DiskCall)). MakesBoth cs (Some (tells a.life)) (Some (tells b.life)) (Some (tells na.life)) (Some (tells nb.life)) failed) calls_so made) in
+        first_syncs (calls_on A (create_calls owner 1 None)) (observed_of a.life) (observed_of b.life) (observed_of na.life) (observed_of nb.life) (ap from_of ready.calm) refl
+        (subst (λ (cs : List (Side × DiskCall)). MakesBoth cs (Some (observed_of a.life)) (Some (observed_of b.life)) (Some (observed_of na.life)) (Some (observed_of nb.life)) failed) calls_so made) in
         files_new member m a b na nb ready.only_a ready.only_b ready.opens (settled na.life) (settled nb.life) test_a left e none_a none_b
         ∙ ap (λ (b : Bool). record { a = if b then Some first_file else None; b = None }) (none_more (is_opened (settled na.life) 0) (length a.life.calls) (length na.life.calls) long)
         ∙ sym before
 
-    early_b : Broken call image b ready.upset ready.only_b writes_here (tells nb.life) → call ≤ opening_count B f
+    early_b : Broken call image b ready.upset ready.only_b writes_here (observed_of nb.life) → call ≤ opening_count B f
     early_b (AtSync number long) = omega (arith, number, count_b)
     early_b (Behind done number within long leaves) = omega (arith, number, within, count_b)
 
@@ -295,8 +295,8 @@ module _ (member : Member) (m : Store) (f : Files) (a b na nb : MemoryState) (ca
     }
 
   pub fails : (disk : Side) → IsReady disk call image member m f a b
-      → MakesBoth calls (Some (tells a.life)) (Some (tells b.life)) (Some (tells na.life)) (Some (tells nb.life)) failed
-      → Settled member (content a) (content b) (tells a.life) (tells na.life) (tells nb.life)
+      → MakesBoth calls (Some (observed_of a.life)) (Some (observed_of b.life)) (Some (observed_of na.life)) (Some (observed_of nb.life)) failed
+      → Settled member (content a) (content b) (observed_of a.life) (observed_of na.life) (observed_of nb.life)
       → FailsIn (opening_count disk f) call member m (opening_cut f disk call image) na nb
   fails A ready made left = fails_on_a ready made left
   fails B ready made left = fails_on_b ready made left

@@ -9,14 +9,14 @@ use Rattle.mon_kv.specs.Readers.{size_of, most_size}
 use Rattle.mon_msg.specs.Protocol.Sets.{is_empty}
 use Rattle.quorum_model.specs.Cuts.{after_checkpoint, checkpoint_begun, append_cut}
 use Rattle.quorum_model.specs.Files.{Files, after_append}
-use Rattle.quorum_model.specs.Upsets.{opens_gate}
-use Rattle.mon_site.specs.declared.upset.Upset.{Upset}
+use Rattle.quorum_model.specs.InjectedFaults.{opens_gate}
+use Rattle.mon_site.specs.declared.injected.InjectedFault.{InjectedFault}
 use Rattle.mon_store.specs.declared.stop.StoreStop.{StoreStop}
 use Rattle.mon_store.specs.declared.stop.StoreStop.TheVariants as stop
 use Rattle.mon_site.specs.Ending.{StopsAt, IsMemory, Writes, on_live, is_beyond}
 use Rattle.mon_site.specs.Faults.{Settles}
 
-module _ (u : Upset) (member : Member) (m : Store) (f : Files) (ops : List Op) (a b : MemoryState) (small : size_of (apply ops m) ≤ most_size) where
+module _ (u : InjectedFault) (member : Member) (m : Store) (f : Files) (ops : List Op) (a b : MemoryState) (small : size_of (apply ops m) ≤ most_size) where
   kept_by : (x empty late : Bool) → (x && not (late || empty)) ≡ false → (if empty then true else if x then (late || (nat_le 3 u.call && u.image == 1)) else true) ≡ true
   kept_by x true late uncut = refl
   kept_by false false late uncut = refl

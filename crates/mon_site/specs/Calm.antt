@@ -18,7 +18,7 @@ use Rattle.quorum_model.specs.Files.{Files, after_opening, after_append}
 use Rattle.mon_site.specs.Disks.{IsCalm, content}
 use Rattle.mon_site.specs.Ending.{StopsAt, IsMemory}
 use Rattle.mon_site.specs.Faults.{Rests}
-use Rattle.mon_site.specs.Upset.{files_on}
+use Rattle.mon_site.specs.InjectedFault.{files_on}
 
 -- two disks are at rest, with some map and some files
 abbrev pub Rest : Member → MemoryState → MemoryState → Type 0

@@ -17,14 +17,14 @@ use Rattle.mon_store.specs.Whole.{disk_a, disk_b}
 use Rattle.quorum_model.specs.declared.calls.TheConstants.{APPEND}
 use Rattle.quorum_model.specs.Cuts.{after_checkpoint, checkpoint_begun, append_cut}
 use Rattle.quorum_model.specs.Files.{Files, live_side, after_append}
-use Rattle.quorum_model.specs.Upsets.{same_side, last_write, opens_gate}
+use Rattle.quorum_model.specs.InjectedFaults.{same_side, last_write, opens_gate}
 use Rattle.mon_site.specs.declared.finishing.Ended.{Ended}
 use Rattle.mon_site.specs.declared.finishing.Kept.{Kept}
 use Rattle.mon_site.specs.declared.finishing.Kept.TheVariants.{Whole, Cut}
-use Rattle.mon_site.specs.declared.upset.Upset.{Upset}
+use Rattle.mon_site.specs.declared.injected.InjectedFault.{InjectedFault}
 use Rattle.mon_site.specs.Disks.{content}
 use Rattle.mon_site.specs.Faults.{Settles}
-use Rattle.mon_site.specs.Upset.{IsUpset, files_on}
+use Rattle.mon_site.specs.InjectedFault.{IsInjected, files_on}
 
 -- The live disk failed in none of its calls, or in none so far; the other one may still fail.
 pub record IsKept (on_live : Bool) (call image : ℕ) (member : Member) (m : Store) (f : Files)
@@ -36,14 +36,14 @@ pub record IsKept (on_live : Bool) (call image : ℕ) (member : Member) (m : Sto
   pub map : store.kv ≡ m
   pub files : files_on (disk_a store) (disk_b store) ≡ f
   pub other : ((on_live ≡ true) × (store.other.life.upset ≡ None)) ⊎
-      ((on_live ≡ false) × IsUpset call image store.other)
+      ((on_live ≡ false) × IsInjected call image store.other)
 
 -- whether the failing disk is the live one
-abbrev pub on_live : Upset → Files → Bool
+abbrev pub on_live : InjectedFault → Files → Bool
 on_live u f = same_side u.disk (live_side f)
 
 -- whether the fault is later than an append's calls, or the transaction is empty and has none
-abbrev pub is_beyond : Upset → List Op → Bool
+abbrev pub is_beyond : InjectedFault → List Op → Bool
 is_beyond u ops = nat_lt APPEND u.call || is_empty ops
 
 -- why a transaction is refused: its encoding or its map is too large, or memory ran out
@@ -62,7 +62,8 @@ IsMemory stop.DiskFault = ⊥
 IsMemory stop.OutOfMemory = Unit {0}
 
 -- The result of a transaction: it is kept whole, or a call of the live disk fails in it.
-abbrev pub Keeps : Upset → Member → Store → Files → List Op → kept.Store MemoryState → Result Kept StoreStop → Type 0
+abbrev pub Keeps : InjectedFault → Member → Store → Files → List Op → kept.Store MemoryState → Result Kept StoreStop
+    → Type 0
 Keeps u member m f ops store (Ok Whole) =
     ((on_live u f && not (is_beyond u ops)) ≡ false) × (size_of (apply ops m) ≤ most_size)
     × IsKept (on_live u f) u.call u.image member (apply ops m) (after_append ops f) store
@@ -84,16 +85,17 @@ Checkpoints live call image member m f store (Err e) = IsMemory e
 
 -- Whether the transaction survives: always if it is empty or the fault is on the other disk; otherwise if its gate is
 -- open.
-abbrev pub is_kept : Upset → Files → List Op → Bool
+abbrev pub is_kept : InjectedFault → Files → List Op → Bool
 is_kept u f ops = if is_empty ops then true else if on_live u f then opens_gate (last_write APPEND) u.call u.image else true
 
 -- The result of a monitor's event: whether its transaction survives, and what its disks settle to.
-abbrev pub Writes : Upset → Member → Store → Files → List Op → (a b : MemoryState) → Result Bool StoreStop → Type 0
+abbrev pub Writes : InjectedFault → Member → Store → Files → List Op → (a b : MemoryState) → Result Bool StoreStop
+    → Type 0
 Writes u member m f ops a b (Ok kept) =
     (kept ≡ is_kept u f ops) × (size_of (apply ops m) ≤ most_size)
     × Settles member (if kept then apply ops m else m) (append_cut f m u.disk u.call u.image ops) a b
 Writes u member m f ops a b (Err e) = StopsAt m ops e
 
-abbrev pub Finishes : Upset → Member → Store → Files → List Op → Result Ended StoreStop → Type 0
+abbrev pub Finishes : InjectedFault → Member → Store → Files → List Op → Result Ended StoreStop → Type 0
 Finishes u member m f ops (Ok ended) = Writes u member m f ops ended.disks.a ended.disks.b (Ok ended.kept)
 Finishes u member m f ops (Err e) = StopsAt m ops e

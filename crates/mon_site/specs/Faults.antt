@@ -12,24 +12,24 @@ use Rattle.mon_journal.specs.Written.{owner_of}
 use Rattle.mon_store.specs.declared.store.Store as kept
 use Rattle.mon_types.specs.Sides.{other as other_side}
 use Rattle.mon_store.specs.Sound.{of_live, Sound}
-use Rattle.mon_store.specs.Stood.{Stood, opens_as}
+use Rattle.mon_store.specs.StoreView.{StoreView, opens_as}
 use Rattle.mon_store.specs.Whole.{disk_a, disk_b, disk_of}
 use Rattle.quorum_model.specs.Files.{Files}
 use Rattle.mon_site.specs.Disks.{IsCalm, content, files_in}
-use Rattle.mon_site.specs.Upset.{IsUpset, files_on}
+use Rattle.mon_site.specs.InjectedFault.{IsInjected, files_on}
 
 -- A member opens a store with this map on two files. The live file has the second header.
 pub record OpensMap (member : Member) (m : Store) (a b : List ℕ) : Type 0 where
-  pub stood : Stood
-  pub opens : opens_as member a b ≡ Ok stood
-  pub form : stood.journal.form ≡ Second
-  pub map : stood.kv ≡ m
+  pub store_view : StoreView
+  pub opens : opens_as member a b ≡ Ok store_view
+  pub form : store_view.journal.form ≡ Second
+  pub map : store_view.kv ≡ m
 
 -- Two disks before the opening: `disk` has the injected fault, the other one has none, and a member opens a store with
 -- this map.
 pub record IsReady (disk : Side) (call image : ℕ) (member : Member) (m : Store) (f : Files)
     (a b : MemoryState) : Type 0 where
-  pub upset : IsUpset call image (of_live disk a b)
+  pub upset : IsInjected call image (of_live disk a b)
   pub calm : (of_live (other_side disk) a b).life.upset ≡ None
   pub only_a : Only (content a)
   pub only_b : Only (content b)
@@ -45,7 +45,7 @@ pub record HasFault (disk : Side) (call image : ℕ) (member : Member) (m : Stor
   pub owner : owner_of store.journal.member ≡ owner_of member
   pub map : store.kv ≡ m
   pub files : files_on (disk_a store) (disk_b store) ≡ f
-  pub upset : IsUpset call image (disk_of disk store)
+  pub upset : IsInjected call image (disk_of disk store)
   pub calm : (disk_of (other_side disk) store).life.upset ≡ None
 
 -- Two disks settle to these files, on which a member opens a store with this map.

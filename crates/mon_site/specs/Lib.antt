@@ -1,7 +1,7 @@
 pub mod Disks
-pub mod Upset
+pub mod InjectedFault
 pub mod Faults
-pub mod Moments
+pub mod Times
 pub mod Begins
 pub mod Ending
 pub mod Calm

@@ -6,24 +6,24 @@ ghost use Rattle.mon_types.specs.declared.member.Member.{Member};
 ghost use Rattle.quorum_model.specs.Files.{Files};
 ghost use Rattle.mon_site.specs.Faults.{IsReady, Rests, Settles};
 
-use crate::upset::Upset;
+use crate::injected::InjectedFault;
 use mon_bytes::OutOfMemory;
 use mon_disk::{MemoryDisk, NodeDisks};
 use mon_types::Side;
 
 /// Injects a fault into one of two disks.
-pub fn upset_one(disks: NodeDisks<MemoryDisk>, upset: Upset) -> NodeDisks<MemoryDisk>
+pub fn inject_one(disks: NodeDisks<MemoryDisk>, injected: InjectedFault) -> NodeDisks<MemoryDisk>
     requires calm_a { disks.a.life.upset ≡ None }
     requires calm_b { disks.b.life.upset ≡ None }
-    requires first { 1 ≤ upset.call }
-    requires most { upset.image ≤ 3 }
+    requires first { 1 ≤ injected.call }
+    requires most { injected.image ≤ 3 }
     ensures { (member : Member) (m : Map) (f : Files) → Rests member m f disks.a disks.b →
-        IsReady upset.disk upset.call upset.image member m f result.a result.b }
+        IsReady injected.disk injected.call injected.image member m f result.a result.b }
 {
     let NodeDisks { mut a, mut b } = disks;
-    match upset.disk {
-        Side::A => a.upset(upset.call, upset.image),
-        Side::B => b.upset(upset.call, upset.image),
+    match injected.disk {
+        Side::A => a.upset(injected.call, injected.image),
+        Side::B => b.upset(injected.call, injected.image),
     }
     NodeDisks { a, b }
 }

@@ -7,11 +7,11 @@ ghost use Rattle.mon_store.specs.Whole.{IsSound, disk_a, disk_b};
 ghost use Rattle.mon_tx.specs.Map.{Store as Map};
 ghost use Rattle.quorum_model.specs.declared.calls.TheConstants.{APPEND};
 ghost use Rattle.quorum_model.specs.Files.{Files};
-ghost use Rattle.quorum_model.specs.Upsets.{last_write};
+ghost use Rattle.quorum_model.specs.InjectedFaults.{last_write};
 ghost use Rattle.mon_site.specs.Ending.{IsKept, Keeps, Checkpoints, Writes, Finishes};
 ghost use Rattle.mon_site.specs.Faults.{HasFault};
 
-use crate::upset::Upset;
+use crate::injected::InjectedFault;
 use mon_disk::{MemoryDisk, NodeDisks};
 use mon_store::{Store, StoreStop};
 use mon_tx::Transaction;
@@ -34,27 +34,31 @@ pub struct Ended {
 }
 
 /// Whether the failing disk keeps the open gate: the append's last write was begun, and image 1 keeps it.
-fn opens_gate(upset: Upset) -> bool
-    ensures { result ≡ (nat_le (last_write APPEND) upset.call && upset.image == 1) }
+fn opens_gate(injected: InjectedFault) -> bool
+    ensures { result ≡ (nat_le (last_write APPEND) injected.call && injected.image == 1) }
 {
-    upset.call >= APPEND - 1 && upset.image == 1
+    injected.call >= APPEND - 1 && injected.image == 1
 }
 
 /// Applies a transaction. If the live disk fails in it, the result says whether the record survives: an append writes
 /// the record first, and then its gate.
-fn keep(store: &mut Store<MemoryDisk>, tx: &Transaction, upset: Upset) -> Result<Kept, StoreStop>
+fn keep(
+    store: &mut Store<MemoryDisk>,
+    tx: &Transaction,
+    injected: InjectedFault,
+) -> Result<Kept, StoreStop>
     requires unbroken { store.old.broken ≡ false }
     requires sound { IsSound state_of store.old }
     ensures sound { IsSound state_of store.new }
     ensures unbroken { result ≡ Ok Kept.Whole → store.new.broken ≡ false }
     ensures keeps { (member : Member) (m : Map) (f : Files) →
-        HasFault upset.disk upset.call upset.image member m f store.old →
-        Keeps upset member m f tx.now store.new result }
+        HasFault injected.disk injected.call injected.image member m f store.old →
+        Keeps injected member m f tx.now store.new result }
 {
     match store.apply(tx) {
         Ok(()) => Ok(Kept::Whole),
         Err(StoreStop::DiskFault) => Ok(Kept::Cut {
-            kept: opens_gate(upset),
+            kept: opens_gate(injected),
         }),
         Err(stop) => Err(stop),
     }
@@ -78,15 +82,15 @@ fn checkpoint(store: &mut Store<MemoryDisk>) -> Result<(), StoreStop>
 fn apply_until_fault(
     store: &mut Store<MemoryDisk>,
     tx: &Transaction,
-    upset: Upset,
+    injected: InjectedFault,
 ) -> Result<bool, StoreStop>
     requires unbroken { store.old.broken ≡ false }
     requires sound { IsSound state_of store.old }
     ensures { (member : Member) (m : Map) (f : Files) →
-        HasFault upset.disk upset.call upset.image member m f store.old →
-        Writes upset member m f tx.now (disk_a store.new) (disk_b store.new) result }
+        HasFault injected.disk injected.call injected.image member m f store.old →
+        Writes injected member m f tx.now (disk_a store.new) (disk_b store.new) result }
 {
-    match keep(store, tx, upset) {
+    match keep(store, tx, injected) {
         Ok(Kept::Whole) => match checkpoint(store) {
             Ok(()) => Ok(true),
             Err(stop) => Err(stop),
@@ -97,19 +101,20 @@ fn apply_until_fault(
 }
 
 /// Applies a transaction, makes the checkpoint that is due, if one is, and closes the store. The injected fault cuts
-/// these short: the disk fails at its call number `upset.call`, counted after the opening. Returns Full if the map
+/// these short: the disk fails at its call number `injected.call`, counted after the opening. Returns Full if the map
 /// would be too large, TooLong if the transaction's encoding is too long, and OutOfMemory.
 pub fn finish(
     mut store: Store<MemoryDisk>,
     tx: &Transaction,
-    upset: Upset,
+    injected: InjectedFault,
 ) -> Result<Ended, StoreStop>
     requires unbroken { store.broken ≡ false }
     requires sound { IsSound state_of store }
-    ensures { (member : Member) (m : Map) (f : Files) → HasFault upset.disk upset.call upset.image member m f store →
-        Finishes upset member m f tx.now result }
+    ensures { (member : Member) (m : Map) (f : Files)
+        → HasFault injected.disk injected.call injected.image member m f store →
+        Finishes injected member m f tx.now result }
 {
-    match apply_until_fault(&mut store, tx, upset) {
+    match apply_until_fault(&mut store, tx, injected) {
         Ok(kept) => Ok(Ended {
             disks: store.close(),
             kept,

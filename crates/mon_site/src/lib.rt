@@ -3,16 +3,16 @@
 
 mod disks;
 mod finishing;
+mod injected;
 mod law;
 mod opening;
 mod resting;
 mod running;
-mod upset;
 
-pub use disks::{settle_both, upset_one};
+pub use disks::{inject_one, settle_both};
 pub use finishing::{Ended, finish};
+pub use injected::InjectedFault;
 pub use law::law_calls;
 pub use opening::{Begun, open};
 pub use resting::{empty_disks, opening_count};
 pub use running::{apply, close, start};
-pub use upset::Upset;

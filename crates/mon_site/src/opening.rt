@@ -5,7 +5,7 @@ ghost use Rattle.quorum_model.specs.Files.{Files};
 ghost use Rattle.mon_site.specs.Begins.{Opens, Begins};
 ghost use Rattle.mon_site.specs.Faults.{IsReady};
 
-use crate::upset::Upset;
+use crate::injected::InjectedFault;
 use mon_bytes::OutOfMemory;
 use mon_disk::{MemoryDisk, NodeDisks};
 use mon_store::{OpenRefused, OpenStop, Store};
@@ -22,16 +22,16 @@ pub enum Begun {
 }
 
 /// Opens the store on two disks, one of which has an injected fault. If they are empty, a store is created on disk A.
-/// `_upset` is the fault, for the contract alone.
+/// `_injected` is the fault, for the contract alone.
 pub fn open(
     alloc: Global,
     disks: NodeDisks<MemoryDisk>,
     member: Member,
-    _upset: Upset,
+    _injected: InjectedFault,
 ) -> Result<Begun, OutOfMemory>
     requires { Opens member disks.a disks.b }
-    ensures { (m : Map) (f : Files) → IsReady _upset.disk _upset.call _upset.image member m f disks.a disks.b →
-        Begins _upset member m f result }
+    ensures { (m : Map) (f : Files) → IsReady _injected.disk _injected.call _injected.image member m f disks.a disks.b →
+        Begins _injected member m f result }
 {
     match Store::open(alloc, disks, member) {
         Ok(store) => Ok(Begun::Open(store)),

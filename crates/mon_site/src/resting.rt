@@ -7,7 +7,7 @@ ghost use Rattle.mon_disk.specs.Memory.{seen_of};
 ghost use Rattle.mon_journal.specs.Content.{is_closed};
 ghost use Rattle.mon_tx.specs.Map.{Store as Map};
 ghost use Rattle.quorum_model.specs.Files.{Files, no_files};
-ghost use Rattle.quorum_model.specs.Upsets.{opening_count};
+ghost use Rattle.quorum_model.specs.InjectedFaults.{opening_count};
 ghost use Rattle.mon_site.specs.Calm.{IsRead};
 ghost use Rattle.mon_site.specs.Faults.{Rests};
 

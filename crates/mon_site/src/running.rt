@@ -10,7 +10,7 @@ ghost use Rattle.mon_tx.specs.Map.{Store as Map, apply};
 ghost use Rattle.quorum_model.specs.Files.{Files, is_created};
 ghost use Rattle.mon_site.specs.Calm.{Rest, Runs, Starts, Changes, Renews, Applies};
 ghost use Rattle.mon_site.specs.Faults.{OpensMap, Rests};
-ghost use Rattle.mon_site.specs.Moments.{Meanwhile, OpensEither, WhileOpening};
+ghost use Rattle.mon_site.specs.Times.{Meanwhile, OpensEither, WhileOpening};
 
 use mon_bytes::OutOfMemory;
 use mon_disk::{MemoryDisk, NodeDisks};
@@ -29,7 +29,7 @@ pub fn start(
     ensures starts { (m : Map) (f : Files) → Rests member m f disks.a disks.b → Starts member m f result }
 
     // A crash at any point leaves two images on which the member opens the map from before.
-    ensures any_moment { (m : Map) (f : Files) → Rests member m f disks.a disks.b → IfOk result
+    ensures any_time { (m : Map) (f : Files) → Rests member m f disks.a disks.b → IfOk result
         (λ store. WhileOpening disks.a disks.b (disk_a store) (disk_b store) (OpensMap member m)) }
 {
     match Store::open(alloc, disks, member) {
@@ -50,7 +50,7 @@ fn change(store: &mut Store<MemoryDisk>, tx: &Transaction) -> Result<(), StoreSt
     ensures sound { IsSound state_of store.new }
     ensures changes { (member : Member) (m : Map) (f : Files) → Runs member m f store.old →
         Changes member m f tx.now store.new result }
-    ensures any_moment { store.old.broken ≡ false →
+    ensures any_time { store.old.broken ≡ false →
         Meanwhile (disk_a store.old) (disk_b store.old) (disk_a store.new) (disk_b store.new)
         (BeforeOrAfter store.old.side store.old.journal store.old.kv tx.now) }
     ensures side { store.new.side ≡ store.old.side }
@@ -66,7 +66,7 @@ fn renew(store: &mut Store<MemoryDisk>) -> Result<(), StoreStop>
     ensures sound { IsSound state_of store.new }
     ensures renews { (member : Member) (m : Map) (f : Files) → Runs member m f store.old →
         Renews member m f store.new result }
-    ensures any_moment { store.old.broken ≡ false →
+    ensures any_time { store.old.broken ≡ false →
         Meanwhile (disk_a store.old) (disk_b store.old) (disk_a store.new) (disk_b store.new)
         (ThisOrNext store.old.side store.old.journal store.old.kv) }
     ensures untouched { disk_of store.old.side store.new ≡ store.old.live }
@@ -87,7 +87,7 @@ pub fn apply(store: &mut Store<MemoryDisk>, tx: &Transaction) -> Result<(), Stor
 
     // A crash at any point leaves two images on which the member opens the map from before the transaction or from
     // after it.
-    ensures any_moment { (member : Member) (m : Map) (f : Files) → Runs member m f store.old →
+    ensures any_time { (member : Member) (m : Map) (f : Files) → Runs member m f store.old →
         Meanwhile (disk_a store.old) (disk_b store.old) (disk_a store.new) (disk_b store.new)
         (OpensEither member m (apply tx.now m)) }
 {

@@ -8,7 +8,7 @@ use Rattle.mon_types.specs.declared.member.Member.{Member}
 use Rattle.mon_disk.specs.declared.disk.DiskCall.{DiskCall}
 use Rattle.mon_disk.specs.declared.disk.DiskCall.TheVariants.{Sync}
 use Rattle.mon_types.specs.declared.names.Stop.{Stop}
-use Rattle.mon_disk.specs.Calls.{Told, DiskState, Makes}
+use Rattle.mon_disk.specs.Calls.{Observed, DiskState, Makes}
 use Rattle.mon_disk.specs.Images.{Content, images, LeavesOnly}
 use Rattle.mon_journal.specs.declared.stop.JournalStop.{JournalStop}
 use Rattle.mon_journal.specs.declared.stop.JournalStop.TheVariants as journal
@@ -18,10 +18,10 @@ use Rattle.mon_journal.specs.Steps.{OnDisk, AlikeFrom, Opens, OpensBy, open_call
 use Rattle.mon_journal.proofs.Counts.{count, at_most, all_made}
 use Rattle.mon_store.specs.declared.stop.OpenStop.TheVariants.{DiskFault, OutOfMemory}
 use Rattle.mon_store.specs.Pair.{NotAStore, held_on, found, stands, opened}
-use Rattle.mon_store.specs.Moments.{EachPair, Meanwhile}
-use Rattle.mon_store.specs.Opening.{held_in, named, Tells, AlikePair, Alike, Settled}
-use Rattle.mon_store.specs.Stood.{opens_as}
-use Rattle.mon_store.proofs.Moments.{first_goes, both_go}
+use Rattle.mon_store.specs.Times.{EachPair, Meanwhile}
+use Rattle.mon_store.specs.Opening.{held_in, named, IsStopOf, AlikePair, Alike, Settled}
+use Rattle.mon_store.specs.StoreView.{opens_as}
+use Rattle.mon_store.proofs.Times.{first_goes, both_go}
 
 -- what is found depends only on the files' contents and lengths
 pub alike_found : (c d e f : List ℕ) → content c ≡ content e → length c ≡ length e → content d ≡ content f → length d ≡ length f → found c d ≡ found e f
@@ -63,8 +63,8 @@ opened_b a a1 b b1 l k member = both_go a a1 b b1 (AlikeFrom a) (AlikeFrom b) (A
 pub is_alike : (member : Member) (a b : Content) (c d : List ℕ) → AlikePair member a b false c d → Alike member a b c d
 is_alike member a b c d h = (false, h)
 
-pub both_settle : (member : Member) (a b x y : Content) (told now_a now_b : Option Told) → EachPair x y (AlikePair member a b false) → IfSome told (λ s. IfSome now_a (λ t. made_more 5 s t ≡ false))
-    → IfSome now_a (λ t. images x (t.settles t.made)) → IfSome now_b (λ t. images y (t.settles t.made)) → IfSome told (λ s. IfSome now_a (λ t. IfSome now_b (λ u. Settled member a b s t u)))
+pub both_settle : (member : Member) (a b x y : Content) (observed now_a now_b : Option Observed) → EachPair x y (AlikePair member a b false) → IfSome observed (λ s. IfSome now_a (λ t. made_more 5 s t ≡ false))
+    → IfSome now_a (λ t. images x (t.settles t.made)) → IfSome now_b (λ t. images y (t.settles t.made)) → IfSome observed (λ s. IfSome now_a (λ t. IfSome now_b (λ u. Settled member a b s t u)))
 both_settle member a b x y None now_a now_b each few left there = tt
 both_settle member a b x y (Some s) None now_b each few left there = tt
 both_settle member a b x y (Some s) (Some t) None each few left there = tt
@@ -75,12 +75,12 @@ both_settle member a b x y (Some s) (Some t) (Some u) each few left there = rw f
     by false = each (t.settles t.made) (u.settles u.made) left there
 
 -- the calls of opening a disk whose contents can be seen
-pub made_by : (stop : Option Stop) (old new : DiskState) → OpensBy stop old new → IfSome old.content.seen (λ file. Makes (open_calls (content file)) stop old.told new.told)
+pub made_by : (stop : Option Stop) (old new : DiskState) → OpensBy stop old new → IfSome old.content.seen (λ file. Makes (open_calls (content file)) stop old.observed new.observed)
 made_by stop old new (calls, called, are) = by old.content.seen are
   where
-    by : (s : Option (List ℕ)) → IfSome s (λ file. calls ≡ open_calls (content file)) → IfSome s (λ file. Makes (open_calls (content file)) stop old.told new.told)
+    by : (s : Option (List ℕ)) → IfSome s (λ file. calls ≡ open_calls (content file)) → IfSome s (λ file. Makes (open_calls (content file)) stop old.observed new.observed)
     by None h = tt
-    by (Some file) h = subst (λ (cs : List DiskCall). Makes cs stop old.told new.told) h called.made
+    by (Some file) h = subst (λ (cs : List DiskCall). Makes cs stop old.observed new.observed) h called.made
 
 -- opening a disk makes three calls at most
 three : (k : Option (Result Held JournalStop)) → length (open_calls k) ≤ 3
@@ -88,8 +88,8 @@ three None = omega arith
 three (Some (Ok held)) = omega arith
 three (Some (Err e)) = omega arith
 
-pub few_calls : (seen : Option (List ℕ)) (told now : Option Told) (stop : Option Stop) → IfSome seen (λ file. Makes (open_calls (content file)) stop told now) → IfSome seen (λ file. IfSome told (λ s. IfSome now (λ t. made_more 5 s t ≡ false)))
-few_calls None told now stop made = tt
+pub few_calls : (seen : Option (List ℕ)) (observed now : Option Observed) (stop : Option Stop) → IfSome seen (λ file. Makes (open_calls (content file)) stop observed now) → IfSome seen (λ file. IfSome observed (λ s. IfSome now (λ t. made_more 5 s t ≡ false)))
+few_calls None observed now stop made = tt
 few_calls (Some file) None now stop made = tt
 few_calls (Some file) (Some s) None stop made = tt
 few_calls (Some file) (Some s) (Some t) stop made = le-ltb _ _ (omega (arith, at_most (open_calls (content file)) (Some s) (Some t) stop made, three (content file)))
@@ -99,15 +99,15 @@ when_some None P some h = absurd cc
 when_some (Some x) P some h = h
 
 -- opening a closed disk makes one call
-pub one_call : (most : ℕ) (seen : Option (List ℕ)) (told now : Option Told) → is_some seen ≡ true → IfSome seen (λ file. (content file ≡ None) × (length file ≤ most)) → IfSome seen (λ file. Makes (open_calls (content file)) None told now)
-    → is_some told ≡ true → (count now ≡ count told + 1) × (is_some now ≡ true)
-one_call most None told now some closed made there = absurd cc
-one_call most (Some file) told now some closed made there = all_made (Sync ∷ []) told now there (subst (λ (k : Option (Result Held JournalStop)). Makes (open_calls k) None told now) closed.0 made)
+pub one_call : (most : ℕ) (seen : Option (List ℕ)) (observed now : Option Observed) → is_some seen ≡ true → IfSome seen (λ file. (content file ≡ None) × (length file ≤ most)) → IfSome seen (λ file. Makes (open_calls (content file)) None observed now)
+    → is_some observed ≡ true → (count now ≡ count observed + 1) × (is_some now ≡ true)
+one_call most None observed now some closed made there = absurd cc
+one_call most (Some file) observed now some closed made there = all_made (Sync ∷ []) observed now there (subst (λ (k : Option (Result Held JournalStop)). Makes (open_calls k) None observed now) closed.0 made)
 
-pub each_told : (s t : Option (List ℕ)) (P : List ℕ → List ℕ → Type 0) → ((x y : List ℕ) → s ≡ Some x → t ≡ Some y → P x y) → IfSome s (λ x. IfSome t (λ y. P x y))
-each_told None t P h = tt
-each_told (Some x) None P h = tt
-each_told (Some x) (Some y) P h = h x y refl refl
+pub each_observed : (s t : Option (List ℕ)) (P : List ℕ → List ℕ → Type 0) → ((x y : List ℕ) → s ≡ Some x → t ≡ Some y → P x y) → IfSome s (λ x. IfSome t (λ y. P x y))
+each_observed None t P h = tt
+each_observed (Some x) None P h = tt
+each_observed (Some x) (Some y) P h = h x y refl refl
 
 pub at_some : {X : Type 0} (s : Option X) (x : X) (P : X → Type 0) → s ≡ Some x → IfSome s P → P x
 at_some s x P is h = subst (λ t. IfSome t P) is h
@@ -118,16 +118,16 @@ holds (disk.Closed len) s known new x is h side = ap (held_on side) (at_some s x
 holds (disk.Live journal payloads) s known new x is h side = ap (held_on side) (at_some s x (λ file. content file ≡ Some (Ok (held_by journal payloads))) is h.1)
 
 -- a refusal of disk A refuses the two disks
-pub refused_a : (e : JournalStop) (s t : Option (List ℕ)) (known : ℕ) (new : Content) → Opens s known new (Err e) → IfSome s (λ x. IfSome t (λ y. Tells (named A e) (found x y)))
+pub refused_a : (e : JournalStop) (s t : Option (List ℕ)) (known : ℕ) (new : Content) → Opens s known new (Err e) → IfSome s (λ x. IfSome t (λ y. IsStopOf (named A e) (found x y)))
 unfolding found
-refused_a journal.DiskFault s t known new h = each_told s t (λ x y. Tells DiskFault (found x y)) (λ x y p q. tt)
-refused_a journal.OutOfMemory s t known new h = each_told s t (λ x y. Tells OutOfMemory (found x y)) (λ x y p q. tt)
-refused_a (journal.NotAStore at) s t known new h = each_told s t (λ x y. found x y ≡ Err (NotAStore A at)) (λ x y p q. rw (at_some s x (λ file. content file ≡ Some (Err (journal.NotAStore at))) p h.2) refl)
+refused_a journal.DiskFault s t known new h = each_observed s t (λ x y. IsStopOf DiskFault (found x y)) (λ x y p q. tt)
+refused_a journal.OutOfMemory s t known new h = each_observed s t (λ x y. IsStopOf OutOfMemory (found x y)) (λ x y p q. tt)
+refused_a (journal.NotAStore at) s t known new h = each_observed s t (λ x y. found x y ≡ Err (NotAStore A at)) (λ x y p q. rw (at_some s x (λ file. content file ≡ Some (Err (journal.NotAStore at))) p h.2) refl)
 
 -- a refusal of disk B refuses the two disks, if disk A isn't refused
-pub refused_b : (e : JournalStop) (on : OnDisk) (s t : Option (List ℕ)) (known_a known : ℕ) (new_a new : Content) → Opens s known_a new_a (Ok on) → Opens t known new (Err e) → IfSome s (λ x. IfSome t (λ y. Tells (named B e) (found x y)))
+pub refused_b : (e : JournalStop) (on : OnDisk) (s t : Option (List ℕ)) (known_a known : ℕ) (new_a new : Content) → Opens s known_a new_a (Ok on) → Opens t known new (Err e) → IfSome s (λ x. IfSome t (λ y. IsStopOf (named B e) (found x y)))
 unfolding found
-refused_b journal.DiskFault on s t known_a known new_a new h k = each_told s t (λ x y. Tells DiskFault (found x y)) (λ x y p q. tt)
-refused_b journal.OutOfMemory on s t known_a known new_a new h k = each_told s t (λ x y. Tells OutOfMemory (found x y)) (λ x y p q. tt)
+refused_b journal.DiskFault on s t known_a known new_a new h k = each_observed s t (λ x y. IsStopOf DiskFault (found x y)) (λ x y p q. tt)
+refused_b journal.OutOfMemory on s t known_a known new_a new h k = each_observed s t (λ x y. IsStopOf OutOfMemory (found x y)) (λ x y p q. tt)
 refused_b (journal.NotAStore at) on s t known_a known new_a new h k =
-    each_told s t (λ x y. found x y ≡ Err (NotAStore B at)) (λ x y p q. rw (holds on s known_a new_a x p h A, at_some t y (λ file. content file ≡ Some (Err (journal.NotAStore at))) q k.2) refl)
+    each_observed s t (λ x y. found x y ≡ Err (NotAStore B at)) (λ x y p q. rw (holds on s known_a new_a x p h A, at_some t y (λ file. content file ≡ Some (Err (journal.NotAStore at))) q k.2) refl)

@@ -16,43 +16,43 @@ use Rattle.mon_journal.specs.Steps.{OnDisk, Opens}
 use Rattle.mon_store.specs.declared.stop.OpenStop.{OpenStop}
 use Rattle.mon_store.specs.declared.stop.OpenStop.TheVariants.{DiskFault, OutOfMemory}
 use Rattle.mon_store.specs.declared.stop.OpenStop.TheVariants as stop
-use Rattle.mon_store.specs.declared.opening.Standing.{Standing}
+use Rattle.mon_store.specs.declared.opening.LiveStore.{LiveStore}
 use Rattle.mon_store.specs.Pair.{◌>>=◌, Refusal, Found, Create, Live, chosen, found, taken, opened}
-use Rattle.mon_store.specs.Opening.{held_in, len_of, Tells, Gives, Answers, IsOutside}
-use Rattle.mon_store.specs.Stood.{journal_of, standing_of, opens_as}
-use Rattle.mon_store.proofs.Alike.{each_told, holds, at_some}
+use Rattle.mon_store.specs.Opening.{held_in, len_of, IsStopOf, Gives, Answers, IsOutside}
+use Rattle.mon_store.specs.StoreView.{journal_of, standing_of, opens_as}
+use Rattle.mon_store.proofs.Alike.{each_observed, holds, at_some}
 use Rattle.mon_store.proofs.Pairs.{journal_is}
 
 -- a refusal of a part is one of the whole
-pub tells_on : {X Y : Type 0} (e : OpenStop) (part : Result X Refusal) (whole : Result Y Refusal) → Tells e part → ((r : Refusal) → part ≡ Err r → whole ≡ Err r) → Tells e whole
-tells_on DiskFault part whole h step = tt
-tells_on OutOfMemory part whole h step = tt
-tells_on (stop.NotAStore side at) part whole h step = step _ h
-tells_on (stop.Stranger kept asked) part whole h step = step _ h
+pub stop_of_part : {X Y : Type 0} (e : OpenStop) (part : Result X Refusal) (whole : Result Y Refusal) → IsStopOf e part → ((r : Refusal) → part ≡ Err r → whole ≡ Err r) → IsStopOf e whole
+stop_of_part DiskFault part whole h step = tt
+stop_of_part OutOfMemory part whole h step = tt
+stop_of_part (stop.NotAStore side at) part whole h step = step _ h
+stop_of_part (stop.Stranger kept asked) part whole h step = step _ h
 
 -- if reading the disks is refused, so is opening them
-unopened : (member : Member) (e : OpenStop) (x y : List ℕ) → Tells e (opened (owner_of member) x y) → Tells e (opens_as member x y)
-unopened member e x y h = tells_on e (opened (owner_of member) x y) (opens_as member x y) h (λ r is. ap (λ (o : Result (Found × Store) Refusal). o >>= (λ it. Ok (standing_of member it.0 it.1))) is)
+unopened : (member : Member) (e : OpenStop) (x y : List ℕ) → IsStopOf e (opened (owner_of member) x y) → IsStopOf e (opens_as member x y)
+unopened member e x y h = stop_of_part e (opened (owner_of member) x y) (opens_as member x y) h (λ r is. ap (λ (o : Result (Found × Store) Refusal). o >>= (λ it. Ok (standing_of member it.0 it.1))) is)
 
 opened_err : (owner : Owner) (x y : List ℕ) (r : Refusal) → found x y ≡ Err r → opened owner x y ≡ Err r
 unfolding opened
 opened_err owner x y r is = rw is refl
 
-pub refused : (owner : Owner) (e : OpenStop) (s t : Option (List ℕ)) → IfSome s (λ x. IfSome t (λ y. Tells e (found x y))) → IfSome s (λ x. IfSome t (λ y. Tells e (opened owner x y)))
+pub refused : (owner : Owner) (e : OpenStop) (s t : Option (List ℕ)) → IfSome s (λ x. IfSome t (λ y. IsStopOf e (found x y))) → IfSome s (λ x. IfSome t (λ y. IsStopOf e (opened owner x y)))
 refused owner e None t h = tt
 refused owner e (Some x) None h = tt
-refused owner e (Some x) (Some y) h = tells_on e (found x y) (opened owner x y) h (opened_err owner x y)
+refused owner e (Some x) (Some y) h = stop_of_part e (found x y) (opened owner x y) h (opened_err owner x y)
 
-pub answers_err : (member : Member) (e : OpenStop) (s t : Option (List ℕ)) (result : Result Standing OpenStop) → result ≡ Err e → IfSome s (λ x. IfSome t (λ y. Tells e (opened (owner_of member) x y))) → IfSome s (λ x. IfSome t (λ y. Answers member x y result))
-answers_err member e s t result is h = subst (λ (r : Result Standing OpenStop). IfSome s (λ x. IfSome t (λ y. Answers member x y r))) (sym is) (by s t h)
+pub answers_err : (member : Member) (e : OpenStop) (s t : Option (List ℕ)) (result : Result LiveStore OpenStop) → result ≡ Err e → IfSome s (λ x. IfSome t (λ y. IsStopOf e (opened (owner_of member) x y))) → IfSome s (λ x. IfSome t (λ y. Answers member x y result))
+answers_err member e s t result is h = subst (λ (r : Result LiveStore OpenStop). IfSome s (λ x. IfSome t (λ y. Answers member x y r))) (sym is) (by s t h)
   where
-    by : (s t : Option (List ℕ)) → IfSome s (λ x. IfSome t (λ y. Tells e (opened (owner_of member) x y))) → IfSome s (λ x. IfSome t (λ y. Tells e (opens_as member x y)))
+    by : (s t : Option (List ℕ)) → IfSome s (λ x. IfSome t (λ y. IsStopOf e (opened (owner_of member) x y))) → IfSome s (λ x. IfSome t (λ y. IsStopOf e (opens_as member x y)))
     by None t h = tt
     by (Some x) None h = tt
     by (Some x) (Some y) h = unopened member e x y h
 
--- a `Standing` is determined by its fields
-made : (r : Standing) (side : Side) (journal : Journal) (m : Store) → r.side ≡ side → r.journal ≡ journal → r.kv ≡ m → record { side = side; journal = journal; kv = m } ≡ r
+-- a `LiveStore` is determined by its fields
+made : (r : LiveStore) (side : Side) (journal : Journal) (m : Store) → r.side ≡ side → r.journal ≡ journal → r.kv ≡ m → record { side = side; journal = journal; kv = m } ≡ r
 made r side journal m is_side is_journal is_map =
     ap (λ (x : Side). record { side = x; journal = journal; kv = m }) (sym is_side)
     ∙ (ap (λ (x : Journal). record { side = r.side; journal = x; kv = m }) (sym is_journal) ∙ ap (λ (x : Store). record { side = r.side; journal = r.journal; kv = x }) (sym is_map))
@@ -75,37 +75,37 @@ found_is a b s t known_a known_b new_a new_b x y p q h k =
     rw (holds a s known_a new_a x p h A, holds b t known_b new_b y q k B) (lengths a b (length x) (length y) (long a s known_a new_a x p h) (long b t known_b new_b y q k))
 
 module _ (a b : OnDisk) (s t : Option (List ℕ)) (known_a known_b : ℕ) (new_a new_b : Content) (h : Opens s known_a new_a (Ok a)) (k : Opens t known_b new_b (Ok b)) (member : Member) where
-  pub not_chosen : (e : OpenStop) → Tells e (chosen (held_in a) (held_in b) (len_of a) (len_of b)) → IfSome s (λ x. IfSome t (λ y. Tells e (opened (owner_of member) x y)))
-  not_chosen e tells = each_told s t (λ x y. Tells e (opened (owner_of member) x y)) (λ x y p q.
-      tells_on e (chosen (held_in a) (held_in b) (len_of a) (len_of b)) (opened (owner_of member) x y) tells (λ r is. opened_err (owner_of member) x y r (found_is a b s t known_a known_b new_a new_b x y p q h k ∙ is)))
+  pub not_chosen : (e : OpenStop) → IsStopOf e (chosen (held_in a) (held_in b) (len_of a) (len_of b)) → IfSome s (λ x. IfSome t (λ y. IsStopOf e (opened (owner_of member) x y)))
+  not_chosen e visible = each_observed s t (λ x y. IsStopOf e (opened (owner_of member) x y)) (λ x y p q.
+      stop_of_part e (chosen (held_in a) (held_in b) (len_of a) (len_of b)) (opened (owner_of member) x y) visible (λ r is. opened_err (owner_of member) x y r (found_is a b s t known_a known_b new_a new_b x y p q h k ∙ is)))
 
   opened_is : (place : Found) → chosen (held_in a) (held_in b) (len_of a) (len_of b) ≡ Ok place → (x y : List ℕ) → s ≡ Some x → t ≡ Some y → opened (owner_of member) x y ≡ taken (owner_of member) place
   unfolding opened
   opened_is place is x y p q = ap (λ f. f >>= taken (owner_of member)) (found_is a b s t known_a known_b new_a new_b x y p q h k ∙ is)
 
   -- and what the member opens
-  opens_is : (place : Found) (m : Store) (r : Standing) → chosen (held_in a) (held_in b) (len_of a) (len_of b) ≡ Ok place → standing_of member place m ≡ r → taken (owner_of member) place ≡ Ok (place, m) → (x y : List ℕ) → s ≡ Some x → t ≡ Some y
+  opens_is : (place : Found) (m : Store) (r : LiveStore) → chosen (held_in a) (held_in b) (len_of a) (len_of b) ≡ Ok place → standing_of member place m ≡ r → taken (owner_of member) place ≡ Ok (place, m) → (x y : List ℕ) → s ≡ Some x → t ≡ Some y
       → opens_as member x y ≡ Ok r
-  opens_is place m r is same takes x y p q = ap (λ (o : Result (Found × Store) Refusal). o >>= (λ it. Ok (standing_of member it.0 it.1))) (opened_is place is x y p q ∙ takes) ∙ ap (λ (r : Standing). Ok r) same
+  opens_is place m r is same takes x y p q = ap (λ (o : Result (Found × Store) Refusal). o >>= (λ it. Ok (standing_of member it.0 it.1))) (opened_is place is x y p q ∙ takes) ∙ ap (λ (r : LiveStore). Ok r) same
 
   -- a store that was created
-  pub answers_new : (result : Result Standing OpenStop) → chosen (held_in a) (held_in b) (len_of a) (len_of b) ≡ Ok Create → IfOk result (λ r. r.side ≡ A) → IfOk result (λ r. r.journal ≡ created member 1 None) → IfOk result (λ r. r.kv ≡ empty) → IfErr result IsOutside
+  pub answers_new : (result : Result LiveStore OpenStop) → chosen (held_in a) (held_in b) (len_of a) (len_of b) ≡ Ok Create → IfOk result (λ r. r.side ≡ A) → IfOk result (λ r. r.journal ≡ created member 1 None) → IfOk result (λ r. r.kv ≡ empty) → IfErr result IsOutside
       → IfSome s (λ x. IfSome t (λ y. Answers member x y result))
   answers_new (Ok r) is side journal map outside =
-      each_told s t (λ x y. Answers member x y (Ok r)) (λ x y p q. opens_is Create empty r is (made r A (created member 1 None) empty side journal map) refl x y p q)
-  answers_new (Err DiskFault) is side journal map outside = each_told s t (λ x y. Answers member x y (Err DiskFault)) (λ x y p q. tt)
-  answers_new (Err OutOfMemory) is side journal map outside = each_told s t (λ x y. Answers member x y (Err OutOfMemory)) (λ x y p q. tt)
+      each_observed s t (λ x y. Answers member x y (Ok r)) (λ x y p q. opens_is Create empty r is (made r A (created member 1 None) empty side journal map) refl x y p q)
+  answers_new (Err DiskFault) is side journal map outside = each_observed s t (λ x y. Answers member x y (Err DiskFault)) (λ x y p q. tt)
+  answers_new (Err OutOfMemory) is side journal map outside = each_observed s t (λ x y. Answers member x y (Err OutOfMemory)) (λ x y p q. tt)
   answers_new (Err (stop.NotAStore disk at)) is side journal map outside = absurd outside
   answers_new (Err (stop.Stranger kept asked)) is side journal map outside = absurd outside
 
   -- a live file
-  pub answers_live : (result : Result Standing OpenStop) (live : Side) (j : Journal) (payloads : List (List ℕ)) → chosen (held_in a) (held_in b) (len_of a) (len_of b) ≡ Ok (Live live (held_by j payloads))
+  pub answers_live : (result : Result LiveStore OpenStop) (live : Side) (j : Journal) (payloads : List (List ℕ)) → chosen (held_in a) (held_in b) (len_of a) (len_of b) ≡ Ok (Live live (held_by j payloads))
       → ((x y : List ℕ) → s ≡ Some x → t ≡ Some y → Gives (λ r. (Live live (held_by j payloads), r.kv)) result (taken (owner_of member) (Live live (held_by j payloads)))) → IfOk result (λ r. r.side ≡ live) → IfOk result (λ r. r.journal ≡ j) → IfOk result (λ r. owner_of r.journal.member ≡ owner_of member)
       → IfSome s (λ x. IfSome t (λ y. Answers member x y result))
   answers_live (Ok r) live j payloads is gives side journal own =
       let same : journal_of member (held_by j payloads) ≡ j = journal_is member j payloads (ap (λ (k : Journal). owner_of k.member) (sym journal) ∙ own) in
       let standing : standing_of member (Live live (held_by j payloads)) r.kv ≡ r = made r live (journal_of member (held_by j payloads)) r.kv side (journal ∙ sym same) refl in
-      each_told s t (λ x y. Answers member x y (Ok r)) (λ x y p q. opens_is (Live live (held_by j payloads)) r.kv r is standing (gives x y p q) x y p q)
+      each_observed s t (λ x y. Answers member x y (Ok r)) (λ x y p q. opens_is (Live live (held_by j payloads)) r.kv r is standing (gives x y p q) x y p q)
   answers_live (Err e) live j payloads is gives side journal own =
-      each_told s t (λ x y. Tells e (opens_as member x y)) (λ x y p q. unopened member e x y
-      (tells_on e (taken (owner_of member) (Live live (held_by j payloads))) (opened (owner_of member) x y) (gives x y p q) (λ r e_is. opened_is (Live live (held_by j payloads)) is x y p q ∙ e_is)))
+      each_observed s t (λ x y. IsStopOf e (opens_as member x y)) (λ x y p q. unopened member e x y
+      (stop_of_part e (taken (owner_of member) (Live live (held_by j payloads))) (opened (owner_of member) x y) (gives x y p q) (λ r e_is. opened_is (Live live (held_by j payloads)) is x y p q ∙ e_is)))

@@ -6,7 +6,7 @@ use Rattle.std.specs.Ordering.{is_lt}
 use Rattle.std.specs.FinMap.{entries, len, from_sorted, is_sorted, entries-from_sorted, len-entries}
 use Rattle.std.proofs.lemmas.Bool.{eqb-true}
 use Rattle.mon_bytes.specs.declared.command.MapRefused.TheVariants.{Form}
-use Rattle.mon_bytes.specs.Reading.{IsBytes, Reading, number, front}
+use Rattle.mon_bytes.specs.Reading.{IsBytes, Reading, number, next_bytes}
 use Rattle.mon_bytes.specs.Texts.{is_word}
 use Rattle.mon_bytes.specs.Forms.{◌>>=◌, fitted, u32_bytes, ended}
 use Rattle.mon_bytes.proofs.Fields.{guard_ok, chosen_ok, ok_is, Takes, Takes-then, Takes-whole, front_takes, byte_takes}
@@ -25,23 +25,23 @@ TakesWord most c x = Takes c (word x.0) x.1 × IsTrue (is_word most x.0)
 word_takes : (most : ℕ) (c : Reading) (x : List ℕ × Reading) → IsBytes c.rest → word_at most c ≡ Ok x → TakesWord most c x
 unfolding word_at
 word_takes most c x fits e =
-    let a = bind_ok (fitted (number 1 c)) (λ n. cond (eqb n.0 0 || ltb most n.0) (Err (Form c.at)) (fitted (front n.0 n.1) >>= λ bytes. cond (is_word most bytes.0) (Ok bytes) (Err (Form n.1.at)))) x e in
+    let a = bind_ok (fitted (number 1 c)) (λ n. cond (eqb n.0 0 || ltb most n.0) (Err (Form c.at)) (fitted (next_bytes n.0 n.1) >>= λ bytes. cond (is_word most bytes.0) (Ok bytes) (Err (Form n.1.at)))) x e in
     let n = a.0 in
-    let some = guard_ok (eqb n.0 0 || ltb most n.0) (Form c.at) (fitted (front n.0 n.1) >>= λ bytes. cond (is_word most bytes.0) (Ok bytes) (Err (Form n.1.at))) x a.2 in
-    let b = bind_ok (fitted (front n.0 n.1)) (λ bytes. cond (is_word most bytes.0) (Ok bytes) (Err (Form n.1.at))) x some.1 in
+    let some = guard_ok (eqb n.0 0 || ltb most n.0) (Form c.at) (fitted (next_bytes n.0 n.1) >>= λ bytes. cond (is_word most bytes.0) (Ok bytes) (Err (Form n.1.at))) x a.2 in
+    let b = bind_ok (fitted (next_bytes n.0 n.1)) (λ bytes. cond (is_word most bytes.0) (Ok bytes) (Err (Form n.1.at))) x some.1 in
     let g = chosen_ok (is_word most b.0.0) (Form n.1.at) (Ok b.0) x b.2 in
     let t0 = byte_takes c n fits (fitted_ok (number 1 c) n a.1) in
-    let t1 = front_takes n.0 n.1 b.0 t0.0.bytes (fitted_ok (front n.0 n.1) b.0 b.1) in
+    let t1 = front_takes n.0 n.1 b.0 t0.0.bytes (fitted_ok (next_bytes n.0 n.1) b.0 b.1) in
     let all = Takes-then c n.1 b.0.1 (n.0 ∷ []) b.0.0 t0.0 t1.0 in
     subst (TakesWord most c) (ok_is b.0 x g.1) (subst (λ (k : ℕ). Takes c (k ∷ b.0.0) b.0.1) (sym t1.1) all, g.0)
 
 value_takes : (c : Reading) (x : List ℕ × Reading) → IsBytes c.rest → value_at c ≡ Ok x → Takes c (value_text x.0) x.1 × (length x.0 < 2 ^ 32)
 unfolding value_at
 value_takes c x fits e =
-    let a = bind_ok (fitted (number 4 c)) (λ n. fitted (front n.0 n.1)) x e in
+    let a = bind_ok (fitted (number 4 c)) (λ n. fitted (next_bytes n.0 n.1)) x e in
     let n = a.0 in
     let t0 = u32_takes c n fits (fitted_ok (number 4 c) n a.1) in
-    let t1 = front_takes n.0 n.1 x t0.0.bytes (fitted_ok (front n.0 n.1) x a.2) in
+    let t1 = front_takes n.0 n.1 x t0.0.bytes (fitted_ok (next_bytes n.0 n.1) x a.2) in
     let all = Takes-then c n.1 x.1 (u32_bytes n.0) x.0 t0.0 t1.0 in
     (subst (λ (k : ℕ). Takes c (u32_bytes k ++ x.0) x.1) (sym t1.1) all, omega (arith, t0.1, t1.1))
 

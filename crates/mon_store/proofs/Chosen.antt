@@ -12,7 +12,7 @@ use Rattle.mon_journal.specs.declared.journal.Journal.{Journal}
 use Rattle.mon_journal.specs.Steps as disk
 use Rattle.mon_journal.specs.Content.{Held, content, payloads_of, held_by, Holds}
 use Rattle.mon_journal.specs.Steps.{OnDisk, Opens, Stands}
-use Rattle.mon_store.specs.declared.opening.Standing.{Standing}
+use Rattle.mon_store.specs.declared.opening.LiveStore.{LiveStore}
 use Rattle.mon_store.specs.declared.stop.OpenStop.{OpenStop}
 use Rattle.mon_store.specs.Checkpoint.{most_size}
 use Rattle.mon_store.specs.Payloads.{map_of}
@@ -150,7 +150,7 @@ module _ {D : Type 0} (state : D → DiskState) (a b : OnDisk) (on_a on_b : D) (
   live_file A is = stands_open a j payloads s (state on_a).known (state on_a).content is.live h
   live_file B is = stands_open b j payloads t (state on_b).known (state on_b).content is.live k
 
-  module _ (side : Side) (is : chosen (held_in a) (held_in b) (len_of a) (len_of b) ≡ Ok (Live side (held_by j payloads))) (new_a new_b : D) (result : Result Standing OpenStop) (r : Rereads state side (stop_in result) on_a on_b new_a new_b) where
+  module _ (side : Side) (is : chosen (held_in a) (held_in b) (len_of a) (len_of b) ≡ Ok (Live side (held_by j payloads))) (new_a new_b : D) (result : Result LiveStore OpenStop) (r : Rereads state side (stop_in result) on_a on_b new_a new_b) where
     live_still : (m : Store) → j.next_gate < (state (of_live side new_a new_b)).known → Sound j m (state (of_live side on_a on_b)).known (state (of_live side on_a on_b)).content (state (of_live (other_side side) on_a on_b)).content
         → Sound j m (state (of_live side new_a new_b)).known (state (of_live side new_a new_b)).content (state (of_live (other_side side) new_a new_b)).content
     live_still m reach sound = subst (λ (d : D). Sound j m (state (of_live side new_a new_b)).known (state (of_live side new_a new_b)).content (state d).content) (sym r.other)
@@ -168,7 +168,7 @@ module _ {D : Type 0} (state : D → DiskState) (a b : OnDisk) (on_a on_b : D) (
         → IfOk result (λ r. Sound r.journal r.kv (state (of_live r.side new_a new_b)).known (state (of_live r.side new_a new_b)).content (state (of_live (other_side r.side) new_a new_b)).content)
     sound_restored = by result live_still
       where
-        by : (result : Result Standing OpenStop)
+        by : (result : Result LiveStore OpenStop)
             → ((m : Store) → j.next_gate < (state (of_live side new_a new_b)).known → Sound j m (state (of_live side on_a on_b)).known (state (of_live side on_a on_b)).content (state (of_live (other_side side) on_a on_b)).content
             → Sound j m (state (of_live side new_a new_b)).known (state (of_live side new_a new_b)).content (state (of_live (other_side side) new_a new_b)).content)
             → IfOk result (λ r. r.side ≡ side) → IfOk result (λ r. r.journal ≡ j) → IfOk result (λ r. IfSome (state (of_live side on_a on_b)).content.seen (λ file. map_of (payloads_of file) ≡ Ok r.kv)) → IfOk result (λ r. size_of r.kv ≤ most_size)
@@ -184,9 +184,9 @@ module _ {D : Type 0} (state : D → DiskState) (a b : OnDisk) (on_a on_b : D) (
   -- and what it returns is what the bytes give
   pub gives_restored : (P : List (List ℕ) → Type 0) (side : Side) → chosen (held_in a) (held_in b) (len_of a) (len_of b) ≡ Ok (Live side (held_by j payloads)) → is_some (state on_a).content.seen ≡ is_some s → is_some (state on_b).content.seen ≡ is_some t
       → IfSome (state (of_live side on_a on_b)).content.seen (λ file. P (payloads_of file)) → (x y : List ℕ) → s ≡ Some x → t ≡ Some y → P payloads
-  gives_restored P side is tells_a tells_b gives x y p q =
-      let some_a : is_some (state on_a).content.seen ≡ true = tells_a ∙ ap is_some p in
-      let some_b : is_some (state on_b).content.seen ≡ true = tells_b ∙ ap is_some q in
+  gives_restored P side is visible_a visible_b gives x y p q =
+      let some_a : is_some (state on_a).content.seen ≡ true = visible_a ∙ ap is_some p in
+      let some_b : is_some (state on_b).content.seen ≡ true = visible_b ∙ ap is_some q in
       by (state (of_live side on_a on_b)).content.seen (each side some_a some_b) (live_file side (chosen_live a b side (held_by j payloads) is)).1 gives
     where
       each : (side : Side) → is_some (state on_a).content.seen ≡ true → is_some (state on_b).content.seen ≡ true → is_some (state (of_live side on_a on_b)).content.seen ≡ true

@@ -3,14 +3,14 @@ use Rattle.std.proofs.Common.{◌≡◌, List, ℕ, inl, inr, Option, None, Resu
 use Rattle.std.specs.Prelude.{IfErr}
 use Rattle.mon_types.specs.declared.names.Stop.{Stop}
 use Rattle.mon_disk.specs.declared.disk.DiskCall.{DiskCall}
-use Rattle.mon_disk.specs.Calls.{DiskState, faults_after, MayWant, Called}
+use Rattle.mon_disk.specs.Calls.{DiskState, faults_after, MayCountRefusal, Called}
 use Rattle.mon_store.specs.declared.stop.OpenStop.{OpenStop}
 use Rattle.mon_store.specs.declared.stop.OpenStop.TheVariants.{DiskFault, OutOfMemory}
 use Rattle.mon_store.specs.declared.stop.OpenStop.TheVariants as stop
 use Rattle.mon_store.specs.Opening.{stop_in, Counts, BothCount, IsNoFault}
 
 pub of_calls : {calls : List DiskCall} {P : List ℕ → Type 0} {stop : Option Stop} {old new : DiskState} → Called calls P stop old new → Counts stop old new
-of_calls c = (c.faults, c.wants)
+of_calls c = (c.faults, c.refusals)
 
 pub none_counts : (d : DiskState) → Counts None d d
 none_counts d = (refl, refl)
@@ -20,7 +20,7 @@ pub then_a : (stop : Option Stop) (a b mid_a new_a new_b : DiskState) → BothCo
 then_a stop a b mid_a new_a new_b both next = by both
   where
     joined : Counts None a mid_a → Counts stop a new_a
-    joined first = (next.0 ∙ ap (faults_after stop) first.0, subst (λ (n : ℕ). MayWant stop n new_a.wants) first.1 next.1)
+    joined first = (next.0 ∙ ap (faults_after stop) first.0, subst (λ (n : ℕ). MayCountRefusal stop n new_a.refusals) first.1 next.1)
 
     by : BothCount None a b mid_a new_b → BothCount stop a b new_a new_b
     by (inl c) = inl (joined c.0, c.1)

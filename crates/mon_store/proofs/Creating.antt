@@ -6,7 +6,7 @@ use Rattle.std.proofs.lemmas.Bool.{le-ltb}
 use Rattle.mon_types.specs.declared.names.Side.{Side}
 use Rattle.mon_types.specs.declared.names.Side.TheVariants.{A}
 use Rattle.mon_types.specs.declared.member.Member.{Member}
-use Rattle.mon_disk.specs.Calls.{Told, DiskState}
+use Rattle.mon_disk.specs.Calls.{Observed, DiskState}
 use Rattle.mon_disk.specs.Images.{Content, images, Only, LeavesOnly}
 use Rattle.mon_journal.specs.Content.{content, payloads_of, held_by, Holds}
 use Rattle.mon_journal.specs.Written.{owner_of, created}
@@ -15,17 +15,17 @@ use Rattle.mon_journal.specs.Steps.{OnDisk, AlikeFrom, ByTest, ClosedFrom, Creat
 use Rattle.mon_journal.proofs.Counts.{count}
 use Rattle.mon_store.specs.Payloads.{map_of}
 use Rattle.mon_store.specs.Pair.{◌>>=◌, Create, found, map_found, stands, taken, opened}
-use Rattle.mon_store.specs.Moments.{WhileOpening}
+use Rattle.mon_store.specs.Times.{WhileOpening}
 use Rattle.mon_store.specs.Opening.{held_in, len_of, first_content, AlikePair, Alike, Settled}
-use Rattle.mon_store.specs.Stood.{standing_of, opens_as}
-use Rattle.mon_store.specs.declared.opening.Standing.{Standing}
+use Rattle.mon_store.specs.StoreView.{standing_of, opens_as}
+use Rattle.mon_store.specs.declared.opening.LiveStore.{LiveStore}
 use Rattle.mon_store.specs.declared.stop.OpenStop.{OpenStop}
 use Rattle.mon_types.specs.Sides.{other as other_side}
 use Rattle.mon_store.specs.Sound.{of_live, IsBelow, Sound}
 use Rattle.mon_store.proofs.Folds.{map_nothing}
 use Rattle.mon_store.proofs.Pairs.{stands_for, opens_live}
 use Rattle.mon_store.proofs.Sizes.{size_empty}
-use Rattle.mon_store.proofs.Moments.{weaker, then_first}
+use Rattle.mon_store.proofs.Times.{weaker, then_first}
 use Rattle.mon_store.proofs.Alike.{alike_found, alike_pair, is_alike, opened_b}
 
 -- nothing is found on two closed disks on which a store may be created
@@ -42,7 +42,7 @@ unfolding stands
 empty_pair c d nothing = ap (λ f. f >>= map_found) nothing
 
 -- the store that a member creates
-abbrev new_store : Member → Standing
+abbrev new_store : Member → LiveStore
 new_store member = record { side = A; journal = created member 1 None; kv = empty }
 
 -- and opens on two disks on which nothing is found
@@ -69,10 +69,10 @@ closed_now before now most k c left = subst (λ (s : Option (List ℕ)). IfSome 
 
 module _ (member : Member) (a a1 a2 b b1 : Content) (la : LeavesOnly a a1 (AlikeFrom a)) (lb : LeavesOnly b b1 (AlikeFrom b)) (ka : Closed a a1 26) (kb : Closed b b1 0) where
   alike_a : (c : List ℕ) → images a1 c → AlikeFrom a c
-  alike_a c left = la.each a1.moment c la.later (omega arith) left
+  alike_a c left = la.each a1.time c la.later (omega arith) left
 
   alike_b : (d : List ℕ) → images b1 d → AlikeFrom b d
-  alike_b d left = lb.each b1.moment d lb.later (omega arith) left
+  alike_b d left = lb.each b1.time d lb.later (omega arith) left
 
   nothing_there : (x : List ℕ) → images a1 x → (d : List ℕ) → images b1 d → found x d ≡ Ok Create
   nothing_there x left d there =
@@ -125,7 +125,7 @@ module _ (member : Member) (a a1 a2 b b1 : Content) (la : LeavesOnly a a1 (Alike
 
   -- an image that is read
   read_of : is_some a.seen ≡ true → IfSome a1.seen (images a1) → (x : List ℕ) × images a1 x
-  read_of told read = there a1.seen (ap is_some ka.same ∙ told) read
+  read_of observed read = there a1.seen (ap is_some ka.same ∙ observed) read
     where
       there : (s : Option (List ℕ)) → is_some s ≡ true → IfSome s (images a1) → (x : List ℕ) × images a1 x
       there None some h = absurd cc
@@ -133,14 +133,14 @@ module _ (member : Member) (a a1 a2 b b1 : Content) (la : LeavesOnly a a1 (Alike
 
   -- the creation
   pub opened_c : LeavesOnly a1 a2 (CreatedFrom a1 (created member 1 None) []) → is_some a.seen ≡ true → IfSome a1.seen (images a1) → WhileOpening a b a2 b1 (Alike member a b)
-  opened_c lc told read =
-      let x = read_of told read in
+  opened_c lc observed read =
+      let x = read_of observed read in
       then_first a b a1 b1 a2 (CreatedFrom a1 (created member 1 None) []) (Alike member a b) (weaker a b a1 b1 (AlikePair member a b false) (Alike member a b) (opened_b a a1 b b1 la lb member) (is_alike member a b)) lc (at_each x.0 x.1)
 
   -- and what the disks settle to
-  pub settled_c : (told mid last other : Option Told) → is_some a.seen ≡ true → IfSome a1.seen (images a1) → (is_some told ≡ true → (count mid ≡ count told + 1) × (is_some mid ≡ true))
+  pub settled_c : (observed mid last other : Option Observed) → is_some a.seen ≡ true → IfSome a1.seen (images a1) → (is_some observed ≡ true → (count mid ≡ count observed + 1) × (is_some mid ≡ true))
       → IfSome mid (λ s. IfSome last (λ t. Made a1 (created member 1 None) [] (made_more 4 s t) (t.settles t.made))) → IfSome other (λ u. images b1 (u.settles u.made))
-      → IfSome told (λ s. IfSome last (λ t. IfSome other (λ u. Settled member a b s t u)))
+      → IfSome observed (λ s. IfSome last (λ t. IfSome other (λ u. Settled member a b s t u)))
   settled_c None mid last other some read one made there = tt
   settled_c (Some s) None last other some read one made there = let bad : false ≡ true = (one refl).1 in absurd cc
   settled_c (Some s) (Some m) None other some read one made there = tt
@@ -172,7 +172,7 @@ module _ (member : Member) (a a1 a2 b b1 : Content) (la : LeavesOnly a a1 (Alike
 
 -- the same for every result of the creation
 pub sound_new : {D : Type 0} (state : D → DiskState) (member : Member) (before_a before_b : Content) (on_a mid_a on_b : D) → LeavesOnly before_a (state mid_a).content (AlikeFrom before_a) → LeavesOnly before_b (state on_b).content (AlikeFrom before_b)
-    → Closed before_a (state mid_a).content 26 → Closed before_b (state on_b).content 0 → (result : Result Standing OpenStop) → IfOk result (λ s. s.side ≡ A) → IfOk result (λ s. s.journal ≡ created member 1 None) → IfOk result (λ s. s.kv ≡ empty)
+    → Closed before_a (state mid_a).content 26 → Closed before_b (state on_b).content 0 → (result : Result LiveStore OpenStop) → IfOk result (λ s. s.side ≡ A) → IfOk result (λ s. s.journal ≡ created member 1 None) → IfOk result (λ s. s.kv ≡ empty)
     → IfOk result (λ s. Keeps s.journal [] (state on_a).known (state on_a).content)
     → IfOk result (λ s. Sound s.journal s.kv (state (of_live s.side on_a on_b)).known (state (of_live s.side on_a on_b)).content (state (of_live (other_side s.side) on_a on_b)).content)
 sound_new state member before_a before_b on_a mid_a on_b la lb ka kb (Err e) side journal map kept = tt

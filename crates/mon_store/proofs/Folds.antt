@@ -6,14 +6,14 @@ use Rattle.mon_bytes.specs.Reading.{Reading}
 use Rattle.mon_tx.specs.Map.{Store}
 use Rattle.mon_journal.specs.declared.stop.JournalStop.{JournalStop}
 use Rattle.mon_journal.specs.declared.stop.JournalStop.TheVariants.{DiskFault, NotAStore, OutOfMemory}
-use Rattle.mon_journal.specs.Content.{payloads_of, Fails, IsLeft, IsNext, NextIs}
+use Rattle.mon_journal.specs.Content.{payloads_of, Fails, IsUnread, IsNext, NextIs}
 use Rattle.mon_journal.specs.Pieces.{left_at}
 use Rattle.mon_journal.specs.Steps.{IsOutside}
 use Rattle.mon_store.specs.Payloads.{after, begun, at_fault, folded, map_of}
 
 -- the payloads that are left take a map to the whole
 abbrev pub IsFolded : Reading → ℕ → Store → Result Store JournalStop → Type 0
-IsFolded c at m total = (left : List (List ℕ)) × IsLeft left c × (folded left at m ≡ total)
+IsFolded c at m total = (left : List (List ℕ)) × IsUnread left c × (folded left at m ≡ total)
 
 -- a fault of a part is one of the whole
 fails_on : {X Y : Type 0} (e : JournalStop) (part : Result X JournalStop) (whole : Result Y JournalStop) → Fails e part → (part ≡ Err e → whole ≡ Err e) → Fails e whole
@@ -58,10 +58,10 @@ IsFoldedOn seen gate at m = IfSome seen (λ file. IsFolded (left_at gate file) a
 
 -- what a reader returns at one gate, and after it
 abbrev pub Next : {V : Type 0} → (V → List ℕ) → Option (List ℕ) → ℕ → ℕ → Result (Option V) JournalStop → Type 0
-Next view seen gate behind result = IfSome seen (λ file. (payloads : List (List ℕ)) → IsLeft payloads (left_at gate file) → NextIs view payloads (left_at behind file) result)
+Next view seen gate behind result = IfSome seen (λ file. (payloads : List (List ℕ)) → IsUnread payloads (left_at gate file) → NextIs view payloads (left_at behind file) result)
 
 abbrev pub AllLeft : Option (List ℕ) → ℕ → Type 0
-AllLeft seen gate = IfSome seen (λ file. IsLeft (payloads_of file) (left_at gate file))
+AllLeft seen gate = IfSome seen (λ file. IsUnread (payloads_of file) (left_at gate file))
 
 module _ {V : Type 0} (view : V → List ℕ) (gate behind : ℕ) where
   pub read_fails : (e : JournalStop) (seen : Option (List ℕ)) → AllLeft seen gate → Next view seen gate behind (Err e) → IfSome seen (λ file. Fails e (map_of (payloads_of file)))

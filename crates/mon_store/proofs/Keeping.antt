@@ -8,7 +8,7 @@ use Rattle.mon_tx.specs.Map.{Store}
 use Rattle.mon_tx.specs.Text.{text}
 use Rattle.mon_journal.specs.declared.journal.Journal.{Journal}
 use Rattle.mon_journal.specs.Content.{held_by, appended, Holds}
-use Rattle.mon_journal.specs.Steps.{payloads_told, payloads_seen, Stands}
+use Rattle.mon_journal.specs.Steps.{payloads_observed, payloads_seen, Stands}
 use Rattle.mon_journal.proofs.Keeping.{seen_holds}
 use Rattle.mon_store.specs.Sound.{WithChange}
 
@@ -17,8 +17,8 @@ module _ (journal : Journal) (known : ℕ) (x : Content) (stands : Stands journa
   pub holds_now : (c : List ℕ) → images x c → Holds journal (payloads_seen x) c
   holds_now c left = by x.seen (seen_holds journal known x stands) (stands.only c left)
     where
-      by : (s : Option (List ℕ)) → IfSome s (Holds journal (payloads_told s)) → s ≡ Some c → Holds journal (payloads_told s) c
-      by s holds e = subst (λ (t : Option (List ℕ)). Holds journal (payloads_told t) c) (sym e) (subst (λ (t : Option (List ℕ)). IfSome t (Holds journal (payloads_told t))) e holds)
+      by : (s : Option (List ℕ)) → IfSome s (Holds journal (payloads_observed s)) → s ≡ Some c → Holds journal (payloads_observed s) c
+      by s holds e = subst (λ (t : Option (List ℕ)). Holds journal (payloads_observed t) c) (sym e) (subst (λ (t : Option (List ℕ)). IfSome t (Holds journal (payloads_observed t))) e holds)
 
   -- and its first closed gate is closed
   pub shut : (c : List ℕ) → images x c → eqb (slice_index_or c journal.next_gate 0) 1 ≡ false

@@ -8,7 +8,7 @@ pub mod Walks
 pub mod Folds
 pub mod Payloads
 pub mod Pairs
-pub mod Moments
+pub mod Times
 pub mod Keeping
 pub mod Applying
 pub mod Rereading

@@ -12,7 +12,7 @@ use Rattle.mon_store.specs.Payloads.{map_of}
 use Rattle.mon_store.specs.Pair.{stands}
 use Rattle.mon_types.specs.Sides.{other as other_side}
 use Rattle.mon_store.specs.Sound.{of_a, of_b, of_live, IsBelow, StandsOn}
-use Rattle.mon_store.specs.Stood.{opens_as}
+use Rattle.mon_store.specs.StoreView.{opens_as}
 use Rattle.mon_store.proofs.Pairs.{stands_for, opens_live, journal_is}
 
 these : (j : Journal) (payloads : List (List ℕ)) (file : List ℕ) → Holds j payloads file → payloads_of file ≡ payloads
@@ -31,7 +31,7 @@ on_held side live other j payloads m holds below map = by side
     by A = record { holds = held; map = makes; below = below }
     by B = record { holds = held; map = makes; below = below }
 
--- the same with the disks' names turned round
+-- the same with the disks' names exchanged
 pub turned : (side : Side) (j : Journal) (m : Store) (c d : List ℕ) → StandsOn (other_side side) j m (of_a (other_side side) d c) (of_b (other_side side) d c) → StandsOn (other_side side) j m (of_a side c d) (of_b side c d)
 turned A j m c d h = h
 turned B j m c d h = h
@@ -46,11 +46,11 @@ other_is B live other = refl
 
 module _ (journal : Journal) (m : Store) where
   -- it represents its map
-  pub stood_map : (side : Side) (a b : List ℕ) → StandsOn side journal m a b → stands a b ≡ Ok m
-  stood_map A a b s = stands_for A a b (held_by journal (payloads_of a)) m s.holds s.below s.map
-  stood_map B a b s = stands_for B b a (held_by journal (payloads_of b)) m s.holds s.below s.map
+  pub store_view_map : (side : Side) (a b : List ℕ) → StandsOn side journal m a b → stands a b ≡ Ok m
+  store_view_map A a b s = stands_for A a b (held_by journal (payloads_of a)) m s.holds s.below s.map
+  store_view_map B a b s = stands_for B b a (held_by journal (payloads_of b)) m s.holds s.below s.map
 
   -- and its member opens it
-  pub stood_opens : (member : Member) (side : Side) (a b : List ℕ) → StandsOn side journal m a b → owner_of journal.member ≡ owner_of member → opens_as member a b ≡ Ok (record { side = side; journal = journal; kv = m })
-  stood_opens member A a b s own = opens_live member A a b (held_by journal (payloads_of a)) m s.holds s.below s.map own ∙ ap (λ (j : Journal). Ok (record { side = A; journal = j; kv = m })) (journal_is member journal (payloads_of a) own)
-  stood_opens member B a b s own = opens_live member B b a (held_by journal (payloads_of b)) m s.holds s.below s.map own ∙ ap (λ (j : Journal). Ok (record { side = B; journal = j; kv = m })) (journal_is member journal (payloads_of b) own)
+  pub store_view_opens : (member : Member) (side : Side) (a b : List ℕ) → StandsOn side journal m a b → owner_of journal.member ≡ owner_of member → opens_as member a b ≡ Ok (record { side = side; journal = journal; kv = m })
+  store_view_opens member A a b s own = opens_live member A a b (held_by journal (payloads_of a)) m s.holds s.below s.map own ∙ ap (λ (j : Journal). Ok (record { side = A; journal = j; kv = m })) (journal_is member journal (payloads_of a) own)
+  store_view_opens member B a b s own = opens_live member B b a (held_by journal (payloads_of b)) m s.holds s.below s.map own ∙ ap (λ (j : Journal). Ok (record { side = B; journal = j; kv = m })) (journal_is member journal (payloads_of b) own)

@@ -14,7 +14,7 @@ use Rattle.mon_journal.specs.Written.{owner_of}
 use Rattle.mon_store.specs.Payloads.{map_of}
 use Rattle.mon_store.specs.Pair.{◌>>=◌, Live, held_on, chosen, found, map_found, on, stands, owned, taken, opened}
 use Rattle.mon_store.specs.Sound.{of_a, of_b, IsBelow}
-use Rattle.mon_store.specs.Stood.{journal_of, standing_of, opens_as}
+use Rattle.mon_store.specs.StoreView.{journal_of, standing_of, opens_as}
 
 -- the older of two files isn't live
 older_b : (x y : Held) (a b : ℕ) → y.header.generation < x.header.generation → chosen (Some x) (Some y) a b ≡ Ok (Live A x)

@@ -4,7 +4,7 @@ use Rattle.std.specs.Prelude.{IfSome, slice_index_or}
 use Rattle.mon_types.specs.declared.names.Side.{Side}
 use Rattle.mon_types.specs.declared.names.Side.TheVariants.{A, B}
 use Rattle.mon_disk.specs.Images.{Content, images, LeavesOnly}
-use Rattle.mon_disk.specs.Calls.{Told, DiskState}
+use Rattle.mon_disk.specs.Calls.{Observed, DiskState}
 use Rattle.mon_tx.specs.Map.{Store}
 use Rattle.mon_journal.specs.declared.journal.Journal.{Journal}
 use Rattle.mon_journal.specs.Content.{content, payloads_of, Holds}
@@ -12,14 +12,14 @@ use Rattle.mon_journal.specs.Steps.{ByTest, ClosedFrom, CreatedFrom, made_more, 
 use Rattle.mon_journal.proofs.Counts.{few}
 use Rattle.mon_store.specs.Checkpoint.{checkpoint_text, HasCheckpoint}
 use Rattle.mon_store.specs.Payloads.{map_of}
-use Rattle.mon_store.specs.Moments.{Meanwhile}
+use Rattle.mon_store.specs.Times.{Meanwhile}
 use Rattle.mon_types.specs.Sides.{other as other_side}
 use Rattle.mon_store.specs.Sound.{of_a, of_b, of_live, IsBelow, Sound, StandsOn, Begins, BegunAs, next_journal, ThisOrNext, Restarted}
 use Rattle.mon_store.proofs.Payloads.{map_checkpoint}
 use Rattle.mon_store.proofs.OnPairs.{on_held, turned, other_is}
-use Rattle.mon_store.proofs.Moments.{first_goes, second_goes}
+use Rattle.mon_store.proofs.Times.{first_goes, second_goes}
 use Rattle.mon_store.proofs.Keeping.{holds_now}
-use Rattle.mon_store.proofs.Applying.{told_map, is_told, stands_now}
+use Rattle.mon_store.proofs.Applying.{observed_map, is_observed, stands_now}
 
 -- what a crash may leave of a file while a checkpoint is written
 pub as_begins : (x : Content) (journal : Journal) (m : Store) → HasCheckpoint m → (c : List ℕ) → CreatedFrom x journal (checkpoint_text m ∷ []) c → Begins x journal m c
@@ -28,15 +28,15 @@ as_begins x journal m form c (inr (inl closed)) = inr (inl closed)
 as_begins x journal m form c (inr (inr holds)) = inr (inr (holds, form))
 
 -- no call on the other disk
-pub not_begun : (x : Content) (journal : Journal) (m : Store) (told : Option Told) → IfSome told (λ t. images x (t.settles t.made)) → IfSome told (λ s. IfSome told (λ t. BegunAs x journal m (made_more 4 s t) (t.settles t.made)))
-not_begun x journal m told left = few 4 told told x (BegunAs x journal m) (omega arith) (λ c there. by (eqb (slice_index_or c 0 0) 1) c there) left
+pub not_begun : (x : Content) (journal : Journal) (m : Store) (observed : Option Observed) → IfSome observed (λ t. images x (t.settles t.made)) → IfSome observed (λ s. IfSome observed (λ t. BegunAs x journal m (made_more 4 s t) (t.settles t.made)))
+not_begun x journal m observed left = few 4 observed observed x (BegunAs x journal m) (omega arith) (λ c there. by (eqb (slice_index_or c 0 0) 1) c there) left
   where
     by : (b : Bool) (c : List ℕ) → images x c → ByTest (b && false) (Holds journal (checkpoint_text m ∷ []) c × HasCheckpoint m) (images x c ⊎ ClosedFrom x (journal.next_gate + 1) c)
     by true c there = inl there
     by false c there = inl there
 
 -- the calls that began a journal on the other disk
-pub has_begun : (x : Content) (journal : Journal) (m : Store) (old new : Option Told) → HasCheckpoint m → IfSome old (λ s. IfSome new (λ t. Made x journal (checkpoint_text m ∷ []) (made_more 4 s t) (t.settles t.made)))
+pub has_begun : (x : Content) (journal : Journal) (m : Store) (old new : Option Observed) → HasCheckpoint m → IfSome old (λ s. IfSome new (λ t. Made x journal (checkpoint_text m ∷ []) (made_more 4 s t) (t.settles t.made)))
     → IfSome old (λ s. IfSome new (λ t. BegunAs x journal m (made_more 4 s t) (t.settles t.made)))
 has_begun x journal m None new form made = tt
 has_begun x journal m (Some s) None form made = tt
@@ -57,7 +57,7 @@ module _ (j : Journal) (m : Store) (known : ℕ) (live other : Content) (sound :
   shut_aside : (c d : List ℕ) → images live c → content d ≡ None → StandsOn side j m (of_a side c d) (of_b side c d)
   shut_aside c d left closed =
       let holds = holds_now j known live sound.stands_live c left in
-      on_held side c d j (payloads_seen live) m holds (subst (IsBelow j.generation) (sym closed) tt) (told_map m live.seen (is_told live.seen c (sound.stands_live.only c left)) sound.map)
+      on_held side c d j (payloads_seen live) m holds (subst (IsBelow j.generation) (sym closed) tt) (observed_map m live.seen (is_observed live.seen c (sound.stands_live.only c left)) sound.map)
 
   next_stands : (c d : List ℕ) → images live c → Holds next (checkpoint_text m ∷ []) d → HasCheckpoint m → StandsOn (other_side side) next m (of_a side c d) (of_b side c d)
   next_stands c d left holds form =
@@ -83,7 +83,7 @@ module _ (j : Journal) (m : Store) (known : ℕ) (live other : Content) (sound :
       by false (inr closed) = (shut_aside c d left closed.0, inr closed.0)
 
   -- if both can be seen
-  pub settled : (l s t : Option Told) → IfSome l (λ u. images live (u.settles u.made)) → IfSome s (λ u. IfSome t (λ v. BegunAs other next m (made_more 4 u v) (v.settles v.made)))
+  pub settled : (l s t : Option Observed) → IfSome l (λ u. images live (u.settles u.made)) → IfSome s (λ u. IfSome t (λ v. BegunAs other next m (made_more 4 u v) (v.settles v.made)))
       → IfSome l (λ u. IfSome s (λ v. IfSome t (λ w. Restarted side j m other (made_more 4 v w) (of_a side (u.settles u.made) (w.settles w.made)) (of_b side (u.settles u.made) (w.settles w.made)))))
   settled None s t left begun = tt
   settled (Some u) None t left begun = tt

@@ -51,9 +51,9 @@ journal_after journal [] = journal
 journal_after journal (op ∷ ops) = appended journal (text (op ∷ ops))
 
 -- the store's stop for a transaction that has no encoding
-abbrev pub unspelled : Rattle.mon_tx.specs.declared.encode.EncodeRefused.EncodeRefused → StoreStop
-unspelled (Rattle.mon_tx.specs.declared.encode.EncodeRefused.TheVariants.TooLong len) = TooLong len
-unspelled Rattle.mon_tx.specs.declared.encode.EncodeRefused.TheVariants.OutOfMemory = OutOfMemory
+abbrev pub encoding_stop : Rattle.mon_tx.specs.declared.encode.EncodeRefused.EncodeRefused → StoreStop
+encoding_stop (Rattle.mon_tx.specs.declared.encode.EncodeRefused.TheVariants.TooLong len) = TooLong len
+encoding_stop Rattle.mon_tx.specs.declared.encode.EncodeRefused.TheVariants.OutOfMemory = OutOfMemory
 
 -- a checkpoint on the other disk, if one is due
 abbrev pub restart_calls : Journal → Store → List DiskCall

@@ -5,7 +5,7 @@ use Rattle.std.specs.Ordering.{nat_cmp, is_lt}
 use Rattle.std.specs.FinMap.{from_sorted}
 use Rattle.mon_bytes.specs.declared.command.MapRefused.{MapRefused}
 use Rattle.mon_bytes.specs.declared.command.MapRefused.TheVariants.{Form}
-use Rattle.mon_bytes.specs.Reading.{Reading, number, front}
+use Rattle.mon_bytes.specs.Reading.{Reading, number, next_bytes}
 use Rattle.mon_bytes.specs.Texts.{is_word}
 use Rattle.mon_bytes.specs.declared.limits.TheConstants.{MOST_NAME, MOST_PREFIX}
 use Rattle.mon_bytes.specs.Forms.{◌>>=◌, fitted, ended}
@@ -18,14 +18,14 @@ unfoldable pub word_at : ℕ → Reading → Result (List ℕ × Reading) MapRef
 word_at most c = do
   n ← fitted (number 1 c)
   if n.0 == 0 || nat_lt most n.0 then Err (Form c.at) else (do
-    bytes ← fitted (front n.0 n.1)
+    bytes ← fitted (next_bytes n.0 n.1)
     if is_word most bytes.0 then Ok bytes else Err (Form n.1.at))
 
 -- a length, and this many bytes
 unfoldable pub value_at : Reading → Result (List ℕ × Reading) MapRefused
 value_at c = do
   n ← fitted (number 4 c)
-  fitted (front n.0 n.1)
+  fitted (next_bytes n.0 n.1)
 
 -- a prefix that isn't below the one before it; if it is, the fault is where its bytes begin
 unfoldable pub prefix_at : List ℕ → Reading → Result (List ℕ × Reading) MapRefused

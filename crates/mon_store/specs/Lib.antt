@@ -2,11 +2,11 @@ pub mod Checkpoint
 pub mod Decode
 pub mod Payloads
 pub mod Pair
-pub mod Moments
+pub mod Times
 pub mod Sound
 pub mod Calls
 pub mod Refusals
 pub mod Whole
 pub mod OpeningCalls
-pub mod Stood
+pub mod StoreView
 pub mod Opening

@@ -4,7 +4,7 @@ use Rattle.mon_types.specs.declared.names.Stop.{Stop}
 use Rattle.mon_types.specs.declared.names.Stop.TheVariants as disk_stop
 use Rattle.mon_types.specs.declared.member.Member.{Member}
 use Rattle.mon_disk.specs.Images.{Content, images}
-use Rattle.mon_disk.specs.Calls.{Told, DiskState, faults_after, MayWant}
+use Rattle.mon_disk.specs.Calls.{Observed, DiskState, faults_after, MayCountRefusal}
 use Rattle.mon_journal.specs.declared.stop.JournalStop.{JournalStop}
 use Rattle.mon_journal.specs.declared.stop.JournalStop.TheVariants as journal
 use Rattle.mon_journal.specs.Written.{owner_of, created}
@@ -14,13 +14,13 @@ use Rattle.mon_journal.specs.Steps as disk
 use Rattle.mon_journal.specs.Pieces.{OnlyReads}
 use Rattle.mon_types.specs.declared.names.Side.{Side}
 use Rattle.mon_types.specs.Sides.{other as other_side}
-use Rattle.mon_store.specs.declared.opening.Standing.{Standing}
+use Rattle.mon_store.specs.declared.opening.LiveStore.{LiveStore}
 use Rattle.mon_store.specs.declared.stop.OpenStop.{OpenStop}
 use Rattle.mon_store.specs.declared.stop.OpenStop.TheVariants.{DiskFault, OutOfMemory}
 use Rattle.mon_store.specs.declared.stop.OpenStop.TheVariants as stop
 use Rattle.mon_store.specs.declared.choice.Choice.{Choice}
 use Rattle.mon_store.specs.declared.choice.Choice.TheVariants as choice
-use Rattle.mon_store.specs.Stood.{opens_as}
+use Rattle.mon_store.specs.StoreView.{opens_as}
 use Rattle.mon_store.specs.Sound.{of_live}
 use Rattle.mon_store.specs.Pair.{Refusal, NotAStore, Stranger, Found, Create, Live, found, stands}
 
@@ -45,15 +45,15 @@ named side (journal.NotAStore at) = stop.NotAStore side at
 named side journal.OutOfMemory = OutOfMemory
 
 -- NotAStore and Stranger are what reading the bytes gives. DiskFault and OutOfMemory say nothing of the bytes.
-abbrev pub Tells : {X : Type 0} → OpenStop → Result X Refusal → Type 0
-Tells DiskFault read = Unit {0}
-Tells OutOfMemory read = Unit {0}
-Tells (stop.NotAStore disk at) read = read ≡ Err (NotAStore disk at)
-Tells (stop.Stranger kept asked) read = read ≡ Err (Stranger (owner_of kept) (owner_of asked))
+abbrev pub IsStopOf : {X : Type 0} → OpenStop → Result X Refusal → Type 0
+IsStopOf DiskFault read = Unit {0}
+IsStopOf OutOfMemory read = Unit {0}
+IsStopOf (stop.NotAStore disk at) read = read ≡ Err (NotAStore disk at)
+IsStopOf (stop.Stranger kept asked) read = read ≡ Err (Stranger (owner_of kept) (owner_of asked))
 
 abbrev pub Gives : {X Y : Type 0} → (X → Y) → Result X OpenStop → Result Y Refusal → Type 0
 Gives view (Ok x) read = read ≡ Ok (view x)
-Gives view (Err e) read = Tells e read
+Gives view (Err e) read = IsStopOf e read
 
 -- the disks' stop that ended an opening: none if it succeeded, or if it refused the bytes
 abbrev pub stop_in : {T : Type 0} → Result T OpenStop → Option Stop
@@ -65,14 +65,14 @@ stop_in (Err (stop.Stranger kept asked)) = None
 
 -- what a disk counted: a fault if that was the stop, perhaps a failed allocation if that was, and otherwise nothing
 abbrev pub Counts : Option Stop → DiskState → DiskState → Type 0
-Counts stop old new = (new.faults ≡ faults_after stop old.faults) × MayWant stop old.wants new.wants
+Counts stop old new = (new.faults ≡ faults_after stop old.faults) × MayCountRefusal stop old.refusals new.refusals
 
 -- what two disks counted, of which one was called last
 abbrev pub BothCount : Option Stop → DiskState → DiskState → DiskState → DiskState → Type 0
 BothCount stop a b new_a new_b = (Counts stop a new_a × Counts None b new_b) ⊎ (Counts None a new_a × Counts stop b new_b)
 
 -- Opening returns what the member opens on these bytes, unless a disk failed or memory ran out.
-abbrev pub Answers : Member → List ℕ → List ℕ → Result Standing OpenStop → Type 0
+abbrev pub Answers : Member → List ℕ → List ℕ → Result LiveStore OpenStop → Type 0
 Answers member a b result = Gives (λ s. s) result (opens_as member a b)
 
 -- what disk A holds after an opening, given its file before: a new store's first file if one is created and its gate is
@@ -98,7 +98,7 @@ Alike member a b c d = (opening : Bool) × AlikePair member a b opening c d
 
 -- What two disks settle to after an opening. A new store's first file is there if its gate is open and more than five
 -- calls were made on disk A: the sync with which opening begins, and more than four calls of the creation.
-abbrev pub Settled : Member → Content → Content → Told → Told → Told → Type 0
+abbrev pub Settled : Member → Content → Content → Observed → Observed → Observed → Type 0
 Settled member a b before now_a now_b =
     AlikePair member a b (slice_index_or (now_a.settles now_a.made) 0 0 == 1 && made_more 5 before now_a) (now_a.settles now_a.made) (now_b.settles now_b.made)
 

@@ -3,7 +3,7 @@ use Rattle.std.specs.Prelude.{◌≡◌, ℕ, true, false, ◌⊎◌, List, [], 
 use Rattle.mon_types.specs.declared.names.Side.{Side}
 use Rattle.mon_types.specs.declared.names.Side.TheVariants.{A, B}
 use Rattle.mon_disk.specs.declared.disk.DiskCall.{DiskCall}
-use Rattle.mon_disk.specs.Calls.{Told, and_made, fails_next}
+use Rattle.mon_disk.specs.Calls.{Observed, and_made, fails_next}
 use Rattle.mon_journal.specs.Content.{content}
 use Rattle.mon_journal.specs.Fields.{Owner}
 use Rattle.mon_journal.specs.Steps.{open_calls, create_calls}
@@ -35,17 +35,17 @@ unfoldable pub opening_calls : Owner → List ℕ → List ℕ → List (Side ×
 opening_calls owner a b = both_calls a b ++ creation owner (found a b)
 
 -- what can be seen of the disks once one of them was called
-abbrev pub called_a : Side → DiskCall → Option Told → Option Told
+abbrev pub called_a : Side → DiskCall → Option Observed → Option Observed
 called_a A call a = and_made call a
 called_a B call a = a
 
-abbrev pub called_b : Side → DiskCall → Option Told → Option Told
+abbrev pub called_b : Side → DiskCall → Option Observed → Option Observed
 called_b A call b = b
 called_b B call b = and_made call b
 
 -- Which of these calls were made, in this order, on two disks whose calls can be seen: each of them, if none failed; or those
 -- up to the first that failed, after which DiskFault is returned; or those before memory ran out.
-abbrev pub MakesBoth : {T : Type 0} → List (Side × DiskCall) → Option Told → Option Told → Option Told → Option Told → Result T OpenStop → Type 0
+abbrev pub MakesBoth : {T : Type 0} → List (Side × DiskCall) → Option Observed → Option Observed → Option Observed → Option Observed → Result T OpenStop → Type 0
 MakesBoth [] a b new_a new_b result = (new_a ≡ a) × (new_b ≡ b) × (result ≡ Err DiskFault → ⊥)
 MakesBoth ((side, call) ∷ calls) a b new_a new_b result =
     ((result ≡ Err OutOfMemory) × (new_a ≡ a) × (new_b ≡ b))
@@ -53,6 +53,6 @@ MakesBoth ((side, call) ∷ calls) a b new_a new_b result =
     ⊎ (IfSome (of_live side a b) (λ t. fails_next t ≡ false) × MakesBoth calls (called_a side call a) (called_b side call b) new_a new_b result)
 
 -- the same, if calls and contents of both disks can be seen
-abbrev pub OpensWith : {T : Type 0} → (List ℕ → List ℕ → List (Side × DiskCall)) → Option (List ℕ) → Option (List ℕ) → Option Told → Option Told → Option Told → Option Told → Result T OpenStop → Type 0
-OpensWith calls a b told_a told_b new_a new_b result =
-    IfSome a (λ x. IfSome b (λ y. IfSome told_a (λ s. IfSome told_b (λ t. MakesBoth (calls x y) told_a told_b new_a new_b result))))
+abbrev pub OpensWith : {T : Type 0} → (List ℕ → List ℕ → List (Side × DiskCall)) → Option (List ℕ) → Option (List ℕ) → Option Observed → Option Observed → Option Observed → Option Observed → Result T OpenStop → Type 0
+OpensWith calls a b observed_a observed_b new_a new_b result =
+    IfSome a (λ x. IfSome b (λ y. IfSome observed_a (λ s. IfSome observed_b (λ t. MakesBoth (calls x y) observed_a observed_b new_a new_b result))))

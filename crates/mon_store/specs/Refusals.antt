@@ -9,18 +9,18 @@ use Rattle.mon_store.specs.declared.stop.StoreStop.TheVariants.{Broken, TooLong,
 use Rattle.mon_store.specs.Checkpoint.{most_size}
 
 -- What holds after each refusal of a transaction, in the order of the tests. After TooLong the map is unchanged.
-abbrev pub Refuses : List Op → Store → Store → StoreStop → Type 0
-Refuses ops old new Broken = ⊥
-Refuses ops old new (TooLong len) = (most < length (text ops)) × (len ≡ min (length (text ops)) (2 ^ 64 - 1)) × (new ≡ old)
-Refuses ops old new OutOfMemory = length (text ops) ≤ most
-Refuses ops old new (Full would_be) = (length (text ops) ≤ most) × (most_size < size_of (apply ops old)) × (would_be ≡ size_of (apply ops old))
-Refuses ops old new DiskFault = (length (text ops) ≤ most) × (size_of (apply ops old) ≤ most_size)
+abbrev pub AfterRefusal : List Op → Store → Store → StoreStop → Type 0
+AfterRefusal ops old new Broken = ⊥
+AfterRefusal ops old new (TooLong len) = (most < length (text ops)) × (len ≡ min (length (text ops)) (2 ^ 64 - 1)) × (new ≡ old)
+AfterRefusal ops old new OutOfMemory = length (text ops) ≤ most
+AfterRefusal ops old new (Full would_be) = (length (text ops) ≤ most) × (most_size < size_of (apply ops old)) × (would_be ≡ size_of (apply ops old))
+AfterRefusal ops old new DiskFault = (length (text ops) ≤ most) × (size_of (apply ops old) ≤ most_size)
 
 -- What a store returns for a transaction. It is Broken if and only if the store was broken before.
 abbrev pub Answers : {T : Type 0} → List Op → Store → Store → Bool → Result T StoreStop → Type 0
 Answers ops old new broken (Ok x) = (broken ≡ false) × (length (text ops) ≤ most) × (size_of (apply ops old) ≤ most_size) × (new ≡ apply ops old)
 Answers ops old new broken (Err Broken) = broken ≡ true
-Answers ops old new broken (Err e) = (broken ≡ false) × Refuses ops old new e
+Answers ops old new broken (Err e) = (broken ≡ false) × AfterRefusal ops old new e
 
 -- an answer that breaks a store
 abbrev pub breaks : {T : Type 0} → Result T StoreStop → Bool

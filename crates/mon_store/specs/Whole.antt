@@ -2,7 +2,7 @@
 use Rattle.std.specs.Prelude.{◌≡◌, false, List, [], ◌∷◌, Result, Ok, Err}
 use Rattle.mon_disk.specs.Calls.{DiskState}
 use Rattle.mon_store.specs.declared.store.Store.{Store}
-use Rattle.mon_store.specs.declared.opening.Standing.{Standing}
+use Rattle.mon_store.specs.declared.opening.LiveStore.{LiveStore}
 use Rattle.mon_tx.specs.declared.op.Op.{Op}
 use Rattle.mon_store.specs.declared.stop.StoreStop.{StoreStop}
 use Rattle.mon_store.specs.declared.stop.StoreStop.TheVariants.{Broken, TooLong, Full, DiskFault, OutOfMemory}
@@ -48,6 +48,6 @@ b_after (Ok store) = disk_b store
 b_after (Err refused) = refused.disks.b
 
 -- the opened store's live disk, journal and map, or why none was opened
-abbrev pub answered : {D : Type 0} → Result (Store D) (OpenRefused D) → Result Standing OpenStop
+abbrev pub answered : {D : Type 0} → Result (Store D) (OpenRefused D) → Result LiveStore OpenStop
 answered (Ok store) = Ok (record { side = store.side; journal = store.journal; kv = store.kv })
 answered (Err refused) = Err refused.why

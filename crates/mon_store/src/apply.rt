@@ -4,12 +4,12 @@ ghost use Rattle.mon_tx.specs.Text.{text, most};
 ghost use Rattle.mon_tx.specs.Decode.{HasText};
 ghost use Rattle.mon_kv.specs.Readers.{size_of};
 ghost use Rattle.mon_disk.specs.Calls.{Called};
-ghost use Rattle.mon_journal.specs.Steps.{Stands, Keeps, Any, WantsFirst, append_calls, payloads_seen};
+ghost use Rattle.mon_journal.specs.Steps.{Stands, Keeps, Any, IsRefusedFirst, append_calls, payloads_seen};
 ghost use Rattle.mon_journal.specs.Content.{appended};
 ghost use Rattle.mon_store.specs.Checkpoint.{most_size};
 ghost use Rattle.mon_store.specs.Sound.{WithChange};
 ghost use Rattle.mon_store.specs.Calls.{stop_in, unless_early, apply_calls, journal_after};
-ghost use Rattle.mon_store.specs.Refusals.{Refuses, IsEarly, LeavesDisk, Answers, breaks};
+ghost use Rattle.mon_store.specs.Refusals.{AfterRefusal, IsEarly, LeavesDisk, Answers, breaks};
 
 use crate::stop::StoreStop;
 use crate::store::Store;
@@ -25,7 +25,7 @@ fn prepare(kv: &mut Kv, tx: &Transaction) -> Result<Vec<u8>, StoreStop>
     ensures form { IfOk result (λ _. HasText tx.now) }
     ensures map { OnOk result (kv.new ≡ apply tx.now kv.old) }
     ensures size { OnOk result (size_of (apply tx.now kv.old) ≤ most_size) }
-    ensures refused { IfErr result (Refuses tx.now kv.old kv.new) }
+    ensures refused { IfErr result (AfterRefusal tx.now kv.old kv.new) }
     ensures early { IfErr result IsEarly }
 {
     let text = tx.encode()?;
@@ -53,7 +53,7 @@ pub(crate) fn keep<D: Disk>(
     ensures form { OnOk result (HasText tx.now) }
     ensures map { OnOk result (kv.new ≡ apply tx.now kv.old) }
     ensures size { OnOk result (size_of (apply tx.now kv.old) ≤ most_size) }
-    ensures refused { IfErr result (Refuses tx.now kv.old kv.new) }
+    ensures refused { IfErr result (AfterRefusal tx.now kv.old kv.new) }
     ensures disk { IfErr result (LeavesDisk disk.old disk.new) }
     ensures large { most_size < size_of (apply tx.now kv.old) → disk.new ≡ disk.old }
 
@@ -62,7 +62,7 @@ pub(crate) fn keep<D: Disk>(
     ensures call { let old = D.state disk.old in
         Called (unless_early result (append_calls journal.old.next_gate (text tx.now)))
         (WithChange journal.old (payloads_seen old.content) kv.old tx.now) (stop_in result) old (D.state disk.new) }
-    ensures no_memory { WantsFirst D.state StoreStop.OutOfMemory result disk.old disk.new }
+    ensures no_memory { IsRefusedFirst D.state StoreStop.OutOfMemory result disk.old disk.new }
 {
     let text = prepare(kv, tx)?;
     journal.append(alloc, disk, &text)?;
@@ -81,7 +81,7 @@ pub(crate) fn breaks<T>(answer: &Result<T, StoreStop>) -> bool
 
 impl<D: Disk> Store<D> {
     ghost use Rattle.std.specs.Prelude.{is_some, IsTrue};
-    ghost use Rattle.mon_store.specs.Moments.{Meanwhile, EachPair};
+    ghost use Rattle.mon_store.specs.Times.{Meanwhile, EachPair};
     ghost use Rattle.mon_store.specs.Sound.{StandsOn, BeforeOrAfter};
     ghost use Rattle.mon_store.specs.Whole.{IsSound, disk_a, disk_b, Stays};
 
@@ -98,15 +98,15 @@ impl<D: Disk> Store<D> {
 
         // A crash at any point leaves the store as it was, or with the change if and only if the gate of its record
         // is open.
-        ensures any_moment { self.old.broken ≡ false → IsTrue (is_some (D.state self.old.live).content.seen)
+        ensures any_time { self.old.broken ≡ false → IsTrue (is_some (D.state self.old.live).content.seen)
             → Meanwhile (D.state (disk_a self.old)).content (D.state (disk_b self.old)).content
             (D.state (disk_a self.new)).content (D.state (disk_b self.new)).content
             (BeforeOrAfter self.old.side self.old.journal self.old.kv tx.now) }
 
         // The same holds of what the disks settle to, if their calls and contents can be seen.
         ensures settles { self.old.broken ≡ false → IsTrue (is_some (D.state self.old.live).content.seen)
-            → IfSome (D.state (disk_a self.new)).told
-            (λ s. IfSome (D.state (disk_b self.new)).told
+            → IfSome (D.state (disk_a self.new)).observed
+            (λ s. IfSome (D.state (disk_b self.new)).observed
             (λ t. BeforeOrAfter self.old.side self.old.journal self.old.kv tx.now (s.settles s.made)
             (t.settles t.made))) }
 
@@ -128,7 +128,7 @@ impl<D: Disk> Store<D> {
         // unchanged, or it counted the failed allocation.
         ensures call { Called (unless_early result (apply_calls self.old.journal.next_gate tx.now)) Any (stop_in result)
             (D.state self.old.live) (D.state self.new.live) }
-        ensures no_memory { WantsFirst D.state StoreStop.OutOfMemory result self.old.live self.new.live }
+        ensures no_memory { IsRefusedFirst D.state StoreStop.OutOfMemory result self.old.live self.new.live }
     {
         if self.broken {
             return Err(StoreStop::Broken);

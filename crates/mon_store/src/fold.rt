@@ -79,7 +79,7 @@ fn begun(alloc: Global, payload: &[u8], at: u64) -> Result<Kv, JournalStop>
 }
 
 /// The place of what follows a payload: after a gate and a length.
-fn behind(at: u64, payload: &[u8]) -> Result<u64, JournalStop>
+fn after_payload(at: u64, payload: &[u8]) -> Result<u64, JournalStop>
     ensures place { Gives (λ n. n) result (Ok (at + 5 + length payload.now)) }
     ensures form { IfErr result IsOfForm }
 {
@@ -103,12 +103,12 @@ pub fn fold<D: Disk>(alloc: Global, disk: &mut D, journal: &Journal) -> Result<K
     let Some(first) = reader.next_payload(disk)? else {
         return Ok(Kv::empty(alloc));
     };
-    let mut at = behind(FIRST_PAYLOAD, &first)?;
+    let mut at = after_payload(FIRST_PAYLOAD, &first)?;
     let mut kv = begun(alloc, &first, FIRST_PAYLOAD)?;
     drop(first);
     while let Some(payload) = reader.next_payload(disk)? {
         kv = after(kv, &payload, at)?;
-        at = behind(at, &payload)?;
+        at = after_payload(at, &payload)?;
     }
     Ok(kv)
 }

@@ -11,7 +11,7 @@ ghost use Rattle.mon_journal.specs.declared.journal.Journal.{Journal};
 ghost use Rattle.mon_journal.specs.Written.{owner_of};
 ghost use Rattle.mon_store.specs.Pair.{stands};
 ghost use Rattle.mon_store.specs.Sound.{StandsOn};
-ghost use Rattle.mon_store.specs.Stood.{opens_as};
+ghost use Rattle.mon_store.specs.StoreView.{opens_as};
 
 /// Decoding accepts exactly the checkpoints, and returns the maps that they encode. So each map has one checkpoint.
 pub fn law_checkpoints()

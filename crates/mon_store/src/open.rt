@@ -1,7 +1,7 @@
 ghost use Rattle.std.specs.Prelude.{◌≡◌, false};
 ghost use Rattle.mon_store.specs.Whole.{disk_a, disk_b};
 
-use crate::opening::{Standing, open_disks};
+use crate::opening::{LiveStore, open_disks};
 use crate::stop::OpenRefused;
 use crate::store::Store;
 use mon_disk::{Disk, NodeDisks};
@@ -9,7 +9,7 @@ use mon_types::{Member, Side};
 use std::alloc::Global;
 
 /// The store that two disks hold.
-fn on<D>(alloc: Global, a: D, b: D, found: Standing) -> Store<D>
+fn on<D>(alloc: Global, a: D, b: D, found: LiveStore) -> Store<D>
     ensures a { disk_a result ≡ a }
     ensures b { disk_b result ≡ b }
     ensures side { result.side ≡ found.side }
@@ -17,7 +17,7 @@ fn on<D>(alloc: Global, a: D, b: D, found: Standing) -> Store<D>
     ensures map { result.kv ≡ found.kv }
     ensures broken { result.broken ≡ false }
 {
-    let Standing { side, journal, kv } = found;
+    let LiveStore { side, journal, kv } = found;
     let (live, other) = match side {
         Side::A => (a, b),
         Side::B => (b, a),
@@ -36,7 +36,7 @@ fn on<D>(alloc: Global, a: D, b: D, found: Standing) -> Store<D>
 impl<D: Disk> Store<D> {
     ghost use Rattle.std.specs.Prelude.{is_some, IfOk, IfSome, IsTrue};
     ghost use Rattle.mon_journal.specs.Written.{owner_of};
-    ghost use Rattle.mon_store.specs.Moments.{WhileOpening, EachPair};
+    ghost use Rattle.mon_store.specs.Times.{WhileOpening, EachPair};
     ghost use Rattle.mon_store.specs.Sound.{StandsOn};
     ghost use Rattle.mon_store.specs.Opening.{Answers, Alike, Settled, stop_in, BothCount};
     ghost use Rattle.mon_store.specs.OpeningCalls.{opening_calls, OpensWith};
@@ -62,7 +62,7 @@ impl<D: Disk> Store<D> {
         // A crash at any point leaves two files that represent what they might have represented after a crash before
         // the call, and that the member opens with the same result. Each holds what it held then, except the first
         // file of a new store.
-        ensures any_moment { IsTrue (is_some (D.state disks.a).content.seen)
+        ensures any_time { IsTrue (is_some (D.state disks.a).content.seen)
             → IsTrue (is_some (D.state disks.b).content.seen)
             → WhileOpening (D.state disks.a).content (D.state disks.b).content (D.state (a_after result)).content
             (D.state (b_after result)).content (Alike member (D.state disks.a).content (D.state disks.b).content) }
@@ -71,22 +71,23 @@ impl<D: Disk> Store<D> {
         // is there if its gate is open and its last write was begun.
         ensures settles { IsTrue (is_some (D.state disks.a).content.seen)
             → IsTrue (is_some (D.state disks.b).content.seen)
-            → IfSome (D.state disks.a).told
-            (λ s. IfSome (D.state (a_after result)).told
-            (λ t. IfSome (D.state (b_after result)).told
+            → IfSome (D.state disks.a).observed
+            (λ s. IfSome (D.state (a_after result)).observed
+            (λ t. IfSome (D.state (b_after result)).observed
             (λ u. Settled member (D.state disks.a).content (D.state disks.b).content s t u))) }
 
         // After Ok a crash leaves only the store as it is now.
         ensures safe { IfOk result (λ store. EachPair (D.state (disk_a store)).content (D.state (disk_b store)).content
             (StandsOn store.side store.journal store.kv)) }
 
-        ensures a_tells { is_some (D.state (a_after result)).content.seen ≡ is_some (D.state disks.a).content.seen }
-        ensures b_tells { is_some (D.state (b_after result)).content.seen ≡ is_some (D.state disks.b).content.seen }
+        ensures a_visible { is_some (D.state (a_after result)).content.seen ≡ is_some (D.state disks.a).content.seen }
+        ensures b_visible { is_some (D.state (b_after result)).content.seen ≡ is_some (D.state disks.b).content.seen }
 
         // Which writes and syncs were made on the two disks, and what they counted.
         ensures calls { OpensWith (opening_calls (owner_of member)) (D.state disks.a).content.seen
-            (D.state disks.b).content.seen (D.state disks.a).told (D.state disks.b).told (D.state (a_after result)).told
-            (D.state (b_after result)).told (answered result) }
+            (D.state disks.b).content.seen (D.state disks.a).observed (D.state disks.b).observed
+            (D.state (a_after result)).observed
+            (D.state (b_after result)).observed (answered result) }
         ensures counts { BothCount (stop_in (answered result)) (D.state disks.a) (D.state disks.b)
             (D.state (a_after result)) (D.state (b_after result)) }
     {

@@ -11,10 +11,10 @@ ghost use Rattle.std.specs.FinMap.{empty};
 ghost use Rattle.mon_store.specs.Checkpoint.{most_size};
 ghost use Rattle.mon_store.specs.Payloads.{map_of};
 ghost use Rattle.mon_store.specs.Pair.{Live, taken, found};
-ghost use Rattle.mon_store.specs.Moments.{Meanwhile, WhileOpening};
+ghost use Rattle.mon_store.specs.Times.{Meanwhile, WhileOpening};
 ghost use Rattle.mon_types.specs.Sides.{other as other_side};
 ghost use Rattle.mon_store.specs.Sound.{of_live, Sound};
-ghost use Rattle.mon_store.specs.Opening.{named, Tells, Gives, Answers, IsOutside, Rereads, AlikePair, Alike, Settled, stop_in, BothCount};
+ghost use Rattle.mon_store.specs.Opening.{named, IsStopOf, Gives, Answers, IsOutside, Rereads, AlikePair, Alike, Settled, stop_in, BothCount};
 ghost use Rattle.mon_store.specs.OpeningCalls.{both_calls, opening_calls, OpensWith};
 
 use crate::choice::{Choice, choose};
@@ -39,7 +39,7 @@ fn named(side: Side, stop: JournalStop) -> OpenStop
 
 /// What the disks of an opened store hold.
 #[derive(Drop)]
-pub(crate) struct Standing {
+pub(crate) struct LiveStore {
     pub(crate) side: Side,
     pub(crate) journal: Journal,
     pub(crate) kv: Kv,
@@ -75,7 +75,7 @@ fn restore<D: Disk>(
     side: Side,
     journal: Journal,
     member: &Member,
-) -> Result<Standing, OpenStop>
+) -> Result<LiveStore, OpenStop>
     requires holds { IfSome (D.state (of_live side a.old b.old)).content.seen
         (λ file. Holds journal (payloads_of file) file) }
     ensures answer { IfSome (D.state (of_live side a.old b.old)).content.seen
@@ -101,7 +101,7 @@ fn restore<D: Disk>(
             asked: *member,
         });
     }
-    Ok(Standing { side, journal, kv })
+    Ok(LiveStore { side, journal, kv })
 }
 
 /// What two disks were found to hold.
@@ -118,22 +118,23 @@ fn open_both<D: Disk>(alloc: Global, a: &mut D, b: &mut D) -> Result<Both, OpenS
     ensures b { IfOk result (λ both. let seen = (D.state b.old).content.seen in
         Opens seen (D.state b.new).known (D.state b.new).content (on_disk seen (Ok both.b))) }
     ensures refused { IfErr result (λ e. IfSome (D.state a.old).content.seen
-        (λ x. IfSome (D.state b.old).content.seen (λ y. Tells e (found x y)))) }
-    ensures a_moment { OnOk result (LeavesOnly (D.state a.old).content (D.state a.new).content
+        (λ x. IfSome (D.state b.old).content.seen (λ y. IsStopOf e (found x y)))) }
+    ensures a_time { OnOk result (LeavesOnly (D.state a.old).content (D.state a.new).content
         (AlikeFrom (D.state a.old).content)) }
-    ensures b_moment { OnOk result (LeavesOnly (D.state b.old).content (D.state b.new).content
+    ensures b_time { OnOk result (LeavesOnly (D.state b.old).content (D.state b.new).content
         (AlikeFrom (D.state b.old).content)) }
-    ensures any_moment { (member : Member)
+    ensures any_time { (member : Member)
         → Meanwhile (D.state a.old).content (D.state b.old).content (D.state a.new).content (D.state b.new).content
         (AlikePair member (D.state a.old).content (D.state b.old).content false) }
-    ensures a_tells { is_some (D.state a.new).content.seen ≡ is_some (D.state a.old).content.seen }
-    ensures b_tells { is_some (D.state b.new).content.seen ≡ is_some (D.state b.old).content.seen }
+    ensures a_visible { is_some (D.state a.new).content.seen ≡ is_some (D.state a.old).content.seen }
+    ensures b_visible { is_some (D.state b.new).content.seen ≡ is_some (D.state b.old).content.seen }
     ensures few { IfSome (D.state a.old).content.seen
-        (λ _. IfSome (D.state a.old).told (λ s. IfSome (D.state a.new).told (λ t. made_more 5 s t ≡ false))) }
+        (λ _. IfSome (D.state a.old).observed (λ s. IfSome (D.state a.new).observed (λ t. made_more 5 s t ≡ false))) }
     ensures made { OnOk result (IfSome (D.state a.old).content.seen
-        (λ x. Makes (open_calls (content x)) None (D.state a.old).told (D.state a.new).told)) }
-    ensures calls { OpensWith both_calls (D.state a.old).content.seen (D.state b.old).content.seen (D.state a.old).told
-        (D.state b.old).told (D.state a.new).told (D.state b.new).told result }
+        (λ x. Makes (open_calls (content x)) None (D.state a.old).observed (D.state a.new).observed)) }
+    ensures calls { OpensWith both_calls (D.state a.old).content.seen (D.state b.old).content.seen
+        (D.state a.old).observed
+        (D.state b.old).observed (D.state a.new).observed (D.state b.new).observed result }
     ensures counts { BothCount (stop_in result) (D.state a.old) (D.state b.old) (D.state a.new) (D.state b.new) }
 {
     let on_a = match open(alloc, a) {
@@ -147,7 +148,7 @@ fn open_both<D: Disk>(alloc: Global, a: &mut D, b: &mut D) -> Result<Both, OpenS
 }
 
 /// Creates the store's first file.
-fn create_on<D: Disk>(alloc: Global, a: &mut D, member: &Member) -> Result<Standing, OpenStop>
+fn create_on<D: Disk>(alloc: Global, a: &mut D, member: &Member) -> Result<LiveStore, OpenStop>
     ensures side { IfOk result (λ s. s.side ≡ Side.A) }
     ensures journal { IfOk result (λ s. s.journal ≡ created member.now 1 None) }
     ensures map { IfOk result (λ s. s.kv ≡ empty) }
@@ -156,15 +157,15 @@ fn create_on<D: Disk>(alloc: Global, a: &mut D, member: &Member) -> Result<Stand
     ensures call { Called (create_calls (owner_of member.now) 1 None)
         (CreatedFrom (D.state a.old).content (created member.now 1 None) []) (stop_in result) (D.state a.old)
         (D.state a.new) }
-    ensures settles { IfSome (D.state a.old).told
-        (λ s. IfSome (D.state a.new).told
+    ensures settles { IfSome (D.state a.old).observed
+        (λ s. IfSome (D.state a.new).observed
         (λ t. Made (D.state a.old).content (created member.now 1 None) [] (made_more 4 s t) (t.settles t.made))) }
 {
     let journal = match create(alloc, a, *member, 1, None) {
         Ok(journal) => journal,
         Err(stop) => return Err(named(Side::A, stop)),
     };
-    Ok(Standing {
+    Ok(LiveStore {
         side: Side::A,
         journal,
         kv: Kv::empty(alloc),
@@ -177,24 +178,24 @@ pub(crate) fn open_disks<D: Disk>(
     a: &mut D,
     b: &mut D,
     member: &Member,
-) -> Result<Standing, OpenStop>
+) -> Result<LiveStore, OpenStop>
     ensures sound { IfOk result (λ s. Sound s.journal s.kv (D.state (of_live s.side a.new b.new)).known
         (D.state (of_live s.side a.new b.new)).content (D.state (of_live (other_side s.side) a.new b.new)).content) }
     ensures owner { IfOk result (λ s. owner_of s.journal.member ≡ owner_of member.now) }
     ensures answer { IfSome (D.state a.old).content.seen
         (λ x. IfSome (D.state b.old).content.seen (λ y. Answers member.now x y result)) }
-    ensures any_moment { IsTrue (is_some (D.state a.old).content.seen) → IsTrue (is_some (D.state b.old).content.seen)
+    ensures any_time { IsTrue (is_some (D.state a.old).content.seen) → IsTrue (is_some (D.state b.old).content.seen)
         → WhileOpening (D.state a.old).content (D.state b.old).content (D.state a.new).content (D.state b.new).content
         (Alike member.now (D.state a.old).content (D.state b.old).content) }
     ensures settles { IsTrue (is_some (D.state a.old).content.seen) → IsTrue (is_some (D.state b.old).content.seen)
-        → IfSome (D.state a.old).told (λ s. IfSome (D.state a.new).told
-        (λ t. IfSome (D.state b.new).told
+        → IfSome (D.state a.old).observed (λ s. IfSome (D.state a.new).observed
+        (λ t. IfSome (D.state b.new).observed
         (λ u. Settled member.now (D.state a.old).content (D.state b.old).content s t u))) }
-    ensures a_tells { is_some (D.state a.new).content.seen ≡ is_some (D.state a.old).content.seen }
-    ensures b_tells { is_some (D.state b.new).content.seen ≡ is_some (D.state b.old).content.seen }
+    ensures a_visible { is_some (D.state a.new).content.seen ≡ is_some (D.state a.old).content.seen }
+    ensures b_visible { is_some (D.state b.new).content.seen ≡ is_some (D.state b.old).content.seen }
     ensures calls { OpensWith (opening_calls (owner_of member.now)) (D.state a.old).content.seen
-        (D.state b.old).content.seen (D.state a.old).told (D.state b.old).told (D.state a.new).told
-        (D.state b.new).told result }
+        (D.state b.old).content.seen (D.state a.old).observed (D.state b.old).observed (D.state a.new).observed
+        (D.state b.new).observed result }
     ensures counts { BothCount (stop_in result) (D.state a.old) (D.state b.old) (D.state a.new) (D.state b.new) }
 {
     let both = open_both(alloc, a, b)?;

@@ -2,7 +2,7 @@ ghost use Rattle.std.specs.Prelude.{◌≡◌, ◌≤◌, ◌<◌, ◌+◌, ◌^
 ghost use Rattle.mon_kv.specs.Readers.{size_of};
 ghost use Rattle.mon_disk.specs.Calls.{Called};
 ghost use Rattle.mon_journal.specs.Written.{owner_of};
-ghost use Rattle.mon_journal.specs.Steps.{Keeps, Any, WantsFirst, create_calls, made_more};
+ghost use Rattle.mon_journal.specs.Steps.{Keeps, Any, IsRefusedFirst, create_calls, made_more};
 ghost use Rattle.mon_store.specs.Checkpoint.{checkpoint_text, most_size, HasCheckpoint};
 ghost use Rattle.mon_types.specs.Sides.{other as other_side};
 ghost use Rattle.mon_store.specs.Sound.{is_first, is_due, next_journal, Begins, BegunAs};
@@ -66,7 +66,7 @@ pub(crate) fn begin<D: Disk>(
         (D.state disk.new).content) }
     ensures form { OnOk result (HasCheckpoint kv.now) }
     ensures outside { IfErr result IsOutside }
-    ensures no_memory { WantsFirst D.state StoreStop.OutOfMemory result disk.old disk.new }
+    ensures no_memory { IsRefusedFirst D.state StoreStop.OutOfMemory result disk.old disk.new }
 
     // Which writes and syncs were made. A crash at any point leaves what it might have left before, a closed file, or
     // the new journal.
@@ -76,8 +76,8 @@ pub(crate) fn begin<D: Disk>(
 
     // If the gate of the settled file is open and more than four calls were made, the disk settles to the new journal.
     // Otherwise it settles to what a crash might have left before, or to a closed file.
-    ensures settles { IfSome (D.state disk.old).told
-        (λ s. IfSome (D.state disk.new).told
+    ensures settles { IfSome (D.state disk.old).observed
+        (λ s. IfSome (D.state disk.new).observed
         (λ t. BegunAs (D.state disk.old).content (next_journal journal.now kv.now) kv.now (made_more 4 s t)
         (t.settles t.made))) }
 {
@@ -87,7 +87,7 @@ pub(crate) fn begin<D: Disk>(
 }
 
 impl<D: Disk> Store<D> {
-    ghost use Rattle.mon_store.specs.Moments.{Meanwhile, EachPair};
+    ghost use Rattle.mon_store.specs.Times.{Meanwhile, EachPair};
     ghost use Rattle.mon_store.specs.Sound.{of_a, of_b, StandsOn, ThisOrNext, Restarted};
     ghost use Rattle.mon_store.specs.Calls.{restart_calls};
     ghost use Rattle.mon_store.specs.Whole.{IsSound, disk_a, disk_b, disk_of};
@@ -106,7 +106,7 @@ impl<D: Disk> Store<D> {
         ensures refused { result ≡ Err StoreStop.Broken → self.new ≡ self.old }
 
         // A crash at any point leaves the store as it was, or as it is after the checkpoint, on the other disk.
-        ensures any_moment { self.old.broken ≡ false
+        ensures any_time { self.old.broken ≡ false
             → Meanwhile (D.state (disk_a self.old)).content (D.state (disk_b self.old)).content
             (D.state (disk_a self.new)).content (D.state (disk_b self.new)).content
             (ThisOrNext self.old.side self.old.journal self.old.kv) }
@@ -115,9 +115,9 @@ impl<D: Disk> Store<D> {
         // journal. Otherwise they settle to this one, and the other disk to what it might have held before, or to a
         // closed file.
         ensures settles { self.old.broken ≡ false
-            → IfSome (D.state (disk_of self.old.side self.new)).told
-            (λ l. IfSome (D.state self.old.other).told
-            (λ s. IfSome (D.state (disk_of (other_side self.old.side) self.new)).told
+            → IfSome (D.state (disk_of self.old.side self.new)).observed
+            (λ l. IfSome (D.state self.old.other).observed
+            (λ s. IfSome (D.state (disk_of (other_side self.old.side) self.new)).observed
             (λ t. Restarted self.old.side self.old.journal self.old.kv (D.state self.old.other).content
             (made_more 4 s t) (of_a self.old.side (l.settles l.made) (t.settles t.made))
             (of_b self.old.side (l.settles l.made) (t.settles t.made))))) }
@@ -134,7 +134,7 @@ impl<D: Disk> Store<D> {
         // unchanged, or it counted the failed allocation. The live disk is unchanged.
         ensures call { Called (unless_early result (restart_calls self.old.journal self.old.kv)) Any (stop_in result)
             (D.state self.old.other) (D.state (disk_of (other_side self.old.side) self.new)) }
-        ensures no_memory { WantsFirst D.state StoreStop.OutOfMemory result self.old.other
+        ensures no_memory { IsRefusedFirst D.state StoreStop.OutOfMemory result self.old.other
             (disk_of (other_side self.old.side) self.new) }
         ensures untouched { disk_of self.old.side self.new ≡ self.old.live }
     {

@@ -53,9 +53,9 @@ impl From<JournalStop> for StoreStop {
 
 impl From<EncodeRefused> for StoreStop {
     ghost use Rattle.std.specs.Prelude.{◌≡◌};
-    ghost use Rattle.mon_store.specs.Calls.{unspelled};
+    ghost use Rattle.mon_store.specs.Calls.{encoding_stop};
 
-    ghost from_gives = { λ s e. e ≡ unspelled s };
+    ghost from_gives = { λ s e. e ≡ encoding_stop s };
 
     fn from(s: EncodeRefused) -> StoreStop {
         match s {

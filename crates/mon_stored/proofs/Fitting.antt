@@ -7,12 +7,12 @@ use Rattle.mon_tx.specs.Decision.{Cell}
 use Rattle.mon_tx.specs.declared.op.Op.{Op}
 use Rattle.mon_wire.specs.declared.parts.Cookie.{Cookie}
 use Rattle.mon_wire.specs.declared.parts.Place.{Place}
-use Rattle.mon_msg.specs.Protocol.Answers.{told_values}
+use Rattle.mon_msg.specs.Protocol.Answers.{sent_values}
 use Rattle.mon_msg.specs.Protocol.Collecting.{missed}
 use Rattle.mon_msg.specs.Protocol.Parts.{value_length, place_length}
 use Rattle.mon_msg.specs.Protocol.Providing.{reach, is_finished, given_values}
 use Rattle.mon_msg.specs.Protocol.Records.{run_from, longest}
-use Rattle.mon_msg.proofs.Fitting.{told_values-is, missed-is, given_values-is}
+use Rattle.mon_msg.proofs.Fitting.{sent_values-is, missed-is, given_values-is}
 use Rattle.mon_stored.specs.Runs.{besides, run_within}
 
 -- two bounds that hold together
@@ -39,10 +39,10 @@ module _ (records : ℕ → Cell) (last from : ℕ) where
   with_room plain at_end taking h = λ i. with_test (λ values. h values i)
 
 -- LAST without a pending value has 48 bytes besides
-pub told_values-run : (n promise first last : ℕ) (records : ℕ → Cell) (from : ℕ) → (nat_lt last from || nat_lt from first) ≡ false
-    → told_values n promise first last records from ≡ run_within records last from 48 48
-told_values-run n promise first last records from h =
-    told_values-is n promise first last records from h
+pub sent_values-run : (n promise first last : ℕ) (records : ℕ → Cell) (from : ℕ) → (nat_lt last from || nat_lt from first) ≡ false
+    → sent_values n promise first last records from ≡ run_within records last from 48 48
+sent_values-run n promise first last records from h =
+    sent_values-is n promise first last records from h
     ∙ with_room records last from 48 48 (λ _. 48) (λ values. same_choice (ltb last (from + length values)) 48)
 
 -- COMMIT has 22

@@ -8,9 +8,9 @@ use Rattle.mon_tx.specs.Text.{text}
 use Rattle.mon_tx.specs.declared.op.Op.{Op}
 use Rattle.mon_tx.specs.declared.refusal.TxRefused.{TxRefused}
 use Rattle.mon_tx.proofs.Takes.{takes_all}
-use Rattle.mon_msg.specs.Protocol.Records.{may_begin, where_it_may_begin, transaction_in, record_at, found_as, pending_of}
+use Rattle.mon_msg.specs.Protocol.Records.{may_begin, if_it_may_begin, transaction_in, record_at, found_as, pending_of}
 use Rattle.mon_msg.specs.declared.paxos.Found.{Found}
-use Rattle.mon_stored.specs.Runs.{where_room}
+use Rattle.mon_stored.specs.Runs.{if_room}
 
 -- ---- values
 
@@ -18,7 +18,7 @@ use Rattle.mon_stored.specs.Runs.{where_room}
 pub value-long : (bytes : List ℕ) → IsBytes bytes → 1048544 < length bytes → transaction_in (Some bytes) ≡ None
 value-long bytes all long = by (transaction_of bytes) refl
   where
-    by : (read : Result (List Op) TxRefused) → transaction_of bytes ≡ read → where_it_may_begin read ≡ None
+    by : (read : Result (List Op) TxRefused) → transaction_of bytes ≡ read → if_it_may_begin read ≡ None
     by (Ok ops) e =
         let same : bytes ≡ text ops = (takes_all bytes ops all e).1 in
         let t : leb (12 + (16 + (4 + length (text ops)))) 1048576 ≡ false = lt-leb _ _ (omega (arith, long, ap length same)) in
@@ -43,7 +43,7 @@ counts-long bytes all long v pn = by (transaction_of bytes) refl
     by_begin ops d true = rw d refl
     by_begin ops d false = refl
 
-    by : (read : Result (List Op) TxRefused) → transaction_of bytes ≡ read → false ≡ is_some (found_as v pn (where_it_may_begin read))
+    by : (read : Result (List Op) TxRefused) → transaction_of bytes ≡ read → false ≡ is_some (found_as v pn (if_it_may_begin read))
     by (Ok ops) e = by_begin ops (lt-leb _ _ (omega (arith, long, ap length (takes_all bytes ops all e).1))) (may_begin ops)
     by (Err e) h = refl
 
@@ -51,7 +51,7 @@ counts-long bytes all long v pn = by (transaction_of bytes) refl
 pub counts-short : (bytes : List ℕ) → IsBytes bytes → length bytes ≤ 524288 → (v pn : ℕ) → is_text bytes ≡ is_some (found_as v pn (transaction_in (Some bytes)))
 counts-short bytes all short v pn = by (transaction_of bytes) refl
   where
-    by : (read : Result (List Op) TxRefused) → transaction_of bytes ≡ read → is_ok read ≡ is_some (found_as v pn (where_it_may_begin read))
+    by : (read : Result (List Op) TxRefused) → transaction_of bytes ≡ read → is_ok read ≡ is_some (found_as v pn (if_it_may_begin read))
     by (Ok ops) e =
         let same : bytes ≡ text ops = (takes_all bytes ops all e).1 in
         let b : leb (12 + (16 + (4 + length (text ops)))) 1048576 ≡ true = le-leb _ _ (omega (arith, short, ap length same)) in
@@ -106,25 +106,25 @@ module _ (v pn last : ℕ) (records : ℕ → Cell) where
 
 -- ---- room
 
-pub room-none : (room : ℕ) (bytes : List ℕ) → IsBytes bytes → room < length bytes + 4 → where_room room (transaction_in (Some bytes)) ≡ None
+pub room-none : (room : ℕ) (bytes : List ℕ) → IsBytes bytes → room < length bytes + 4 → if_room room (transaction_in (Some bytes)) ≡ None
 room-none room bytes all short = by (transaction_of bytes) refl
   where
-    by_begin : (ops : List Op) → bytes ≡ text ops → (t : Bool) → where_room room (cond t (Some ops) None) ≡ None
+    by_begin : (ops : List Op) → bytes ≡ text ops → (t : Bool) → if_room room (cond t (Some ops) None) ≡ None
     by_begin ops same true = let t : leb (4 + length (text ops)) room ≡ false = lt-leb _ _ (omega (arith, short, ap length same)) in rw t refl
     by_begin ops same false = refl
 
-    by : (read : Result (List Op) TxRefused) → transaction_of bytes ≡ read → where_room room (where_it_may_begin read) ≡ None
+    by : (read : Result (List Op) TxRefused) → transaction_of bytes ≡ read → if_room room (if_it_may_begin read) ≡ None
     by (Ok ops) e = by_begin ops (takes_all bytes ops all e).1 (may_begin ops)
     by (Err e) h = refl
 
-room-some : (room : ℕ) (bytes : List ℕ) (o : Option (List Op)) → o ≡ transaction_in (Some bytes) → IfSome o (λ ops. bytes ≡ text ops) → length bytes + 4 ≤ room → o ≡ where_room room (transaction_in (Some bytes))
-room-some room bytes o e same short = by o same ∙ ap (where_room room) e
+room-some : (room : ℕ) (bytes : List ℕ) (o : Option (List Op)) → o ≡ transaction_in (Some bytes) → IfSome o (λ ops. bytes ≡ text ops) → length bytes + 4 ≤ room → o ≡ if_room room (transaction_in (Some bytes))
+room-some room bytes o e same short = by o same ∙ ap (if_room room) e
   where
-    by : (o : Option (List Op)) → IfSome o (λ ops. bytes ≡ text ops) → o ≡ where_room room o
+    by : (o : Option (List Op)) → IfSome o (λ ops. bytes ≡ text ops) → o ≡ if_room room o
     by None h = refl
     by (Some ops) h = let t : leb (4 + length (text ops)) room ≡ true = le-leb _ _ (omega (arith, short, ap length h)) in rw t refl
 
 pub room-kept : {E : Type 0} (room : ℕ) (bytes : List ℕ) → length bytes + 4 ≤ room → (r : Result (Option (List Op)) E) → IfOk r (λ o. o ≡ transaction_in (Some bytes)) → IfOk r (λ o. IfSome o (λ ops. bytes ≡ text ops))
-    → IfOk r (λ o. o ≡ where_room room (transaction_in (Some bytes)))
+    → IfOk r (λ o. o ≡ if_room room (transaction_in (Some bytes)))
 room-kept room bytes short (Ok o) e same = room-some room bytes o e same short
 room-kept room bytes short (Err e) h same = tt

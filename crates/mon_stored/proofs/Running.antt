@@ -6,10 +6,10 @@ use Rattle.mon_tx.specs.declared.op.Op.{Op}
 use Rattle.mon_msg.specs.Protocol.Parts.{value_length}
 use Rattle.mon_msg.specs.Protocol.Records.{record_at, run_from, longest}
 use Rattle.mon_msg.proofs.Runs.{RunsOn, runs-first, runs-last, runs-full, runs-out, runs-next, run_from-next, run_from-none, run_from-past}
-use Rattle.mon_stored.specs.Runs.{besides, have_room, run_within, where_room}
+use Rattle.mon_stored.specs.Runs.{besides, have_room, run_within, if_room}
 
 -- a value that has no room
-without_room : (room : ℕ) (value : List Op) → where_room room (Some value) ≡ None → room < value_length value
+without_room : (room : ℕ) (value : List Op) → if_room room (Some value) ≡ None → room < value_length value
 without_room room value h = by (leb (value_length value) room) refl h
   where
     by : (t : Bool) → leb (value_length value) room ≡ t → cond t (Some value) None ≡ None → room < value_length value
@@ -17,7 +17,7 @@ without_room room value h = by (leb (value_length value) room) refl h
     by false e h = leb-false _ _ e
 
 -- a value that has room
-pub with_room : (room : ℕ) (o : Option (List Op)) (value : List Op) → where_room room o ≡ Some value → (o ≡ Some value) × (value_length value ≤ room)
+pub with_room : (room : ℕ) (o : Option (List Op)) (value : List Op) → if_room room o ≡ Some value → (o ≡ Some value) × (value_length value ≤ room)
 with_room room None value h = cc
 with_room room (Some other) value h = by (leb (value_length other) room) refl h
   where
@@ -85,20 +85,20 @@ module _ (records : ℕ → Cell) (last from plain at_end : ℕ) where
 
   -- the next value isn't there, or has no room
   pub run-out : (v bytes room : ℕ) (done : List (List Op)) → RunsTo v bytes done → v ≤ last → room ≡ 1048576 - at_version v - bytes
-      → where_room room (record_at records v) ≡ None → done ≡ run_within records last from plain at_end
+      → if_room room (record_at records v) ≡ None → done ≡ run_within records last from plain at_end
   run-out v bytes room done r within is none = by (record_at records v) refl ∙ folded
     where
       by : (o : Option (List Op)) → record_at records v ≡ o → done ≡ longest_run
       by None e = ends v bytes done r (run_from-none records last v e)
       by (Some value) e =
-          let above = without_room room value (ap (where_room room) (sym e) ∙ none) in
+          let above = without_room room value (ap (if_room room) (sym e) ∙ none) in
           let k = taking-next v done value r.at within in
           runs-out value_length taking 1048576 (run_from records last from) bytes done value (run_from records last (suc v)) (goes_on v bytes done value r within e)
           (rw k (omega (arith, above, is)))
 
   -- the next value has room
   pub run-next : (v bytes room : ℕ) (done : List (List Op)) (value : List Op) → RunsTo v bytes done → v ≤ last → room ≡ 1048576 - at_version v - bytes
-      → length done ≢ 65535 → where_room room (record_at records v) ≡ Some value → RunsTo (v + 1) (bytes + value_length value) (done ++ value ∷ [])
+      → length done ≢ 65535 → if_room room (record_at records v) ≡ Some value → RunsTo (v + 1) (bytes + value_length value) (done ++ value ∷ [])
   run-next v bytes room done value r within is few there =
       let here = with_room room (record_at records v) value there in
       let k = taking-next v done value r.at within in

@@ -15,7 +15,7 @@ use Rattle.mon_tx.specs.declared.op.Op.{Op}
 use Rattle.mon_tx.proofs.After.{get-apply}
 use Rattle.mon_tx.proofs.Ranges.{key_within}
 use Rattle.mon_msg.specs.Joined.{takes_away}
-use Rattle.mon_msg.specs.Protocol.Changes.{Change, spelled}
+use Rattle.mon_msg.specs.Protocol.Changes.{Change, encoded}
 use Rattle.mon_msg.specs.Protocol.Played.{Fits, played}
 use Rattle.mon_msg.specs.Protocol.Readings.{readings_of}
 use Rattle.mon_msg.proofs.Changed.{readings-joined}
@@ -139,5 +139,5 @@ module _ (ops : List Op) (kv put now : Store) (prefix text : List ℕ) (a : Area
         by false e = (λ i. get kv (p i, t i)) ∙ still ops kv (place a k) (h ∙ there) (sym any ∙ e)
 
 -- what a store's readers return after changes that are encoded
-pub readings-after : (cs : List Change) → AllByRecursion Fits cs → (m : Store) → readings_of (apply (spelled cs) m) ≡ played cs (readings_of m)
-readings-after cs fit m = ap readings_of (sym (apply-joined (spelled cs) m)) ∙ readings-joined cs fit m
+pub readings-after : (cs : List Change) → AllByRecursion Fits cs → (m : Store) → readings_of (apply (encoded cs) m) ≡ played cs (readings_of m)
+readings-after cs fit m = ap readings_of (sym (apply-joined (encoded cs) m)) ∙ readings-joined cs fit m

@@ -22,6 +22,6 @@ unfoldable pub run_within : (records : ℕ → Cell) → (last from plain at_end
 run_within records last from plain at_end = longest (have_room last from plain at_end) (run_from records last from)
 
 -- a value that takes at most `room` bytes in a list of a message
-abbrev pub where_room : (room : ℕ) → Option (List Op) → Option (List Op)
-where_room room None = None
-where_room room (Some value) = if nat_le (value_length value) room then Some value else None
+abbrev pub if_room : (room : ℕ) → Option (List Op) → Option (List Op)
+if_room room None = None
+if_room room (Some value) = if nat_le (value_length value) room then Some value else None

@@ -7,7 +7,7 @@ ghost use Rattle.mon_msg.specs.Protocol.Parts.{value_length};
 ghost use Rattle.mon_msg.specs.Protocol.Readings.{readings_of};
 ghost use Rattle.mon_msg.specs.Protocol.Records.{record_at, transaction_in, found_as, pending};
 ghost use Rattle.mon_wire.specs.declared.write_lists.TheConstants.{MOST_ITEMS};
-ghost use Rattle.mon_stored.specs.Runs.{run_within, where_room};
+ghost use Rattle.mon_stored.specs.Runs.{run_within, if_room};
 
 use crate::stored::Stored;
 use mon_bytes::{Items, OutOfMemory};
@@ -50,7 +50,7 @@ fn value_fitting(
     bytes: &[u8],
     room: usize,
 ) -> Result<Option<Transaction>, OutOfMemory>
-    ensures { IfOk result (λ value. value ≡ where_room room (transaction_in (Some bytes.now))) }
+    ensures { IfOk result (λ value. value ≡ if_room room (transaction_in (Some bytes.now))) }
 {
     if room < 4 {
         return Ok(None);
@@ -109,7 +109,7 @@ impl<'a> Stored<'a> {
         v: u64,
         room: usize,
     ) -> Result<Option<Transaction>, OutOfMemory>
-        ensures { IfOk result (λ value. value ≡ where_room room (record_at (readings_of self.now).record_of v)) }
+        ensures { IfOk result (λ value. value ≡ if_room room (record_at (readings_of self.now).record_of v)) }
     {
         match self.stored(v) {
             Some(bytes) => value_fitting(alloc, bytes, room),

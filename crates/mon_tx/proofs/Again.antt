@@ -5,14 +5,14 @@ use Rattle.std.proofs.lemmas.Bool.{eqb-true, le-ltb, lt-ltb}
 use Rattle.std.proofs.lemmas.List.{take_at, drop_at, length-append, append-nil, nil_from_length}
 use Rattle.byteorder.specs.Endian.{little_bytes, little_number}
 use Rattle.byteorder.specs.Numbers.{little_number-reads_back, length-bytes_low_first}
-use Rattle.mon_bytes.specs.Reading.{Reading, moved, number, front}
+use Rattle.mon_bytes.specs.Reading.{Reading, moved, number, next_bytes}
 use Rattle.mon_bytes.specs.Texts.{is_word}
 use Rattle.mon_tx.specs.declared.op.Op.{Op}
 use Rattle.mon_tx.specs.declared.op.Op.TheVariants.{Put, Erase, ErasePrefix, EraseRange}
 use Rattle.mon_tx.specs.declared.refusal.TxRefused.{TxRefused}
 use Rattle.mon_tx.specs.declared.refusal.TxRefused.TheVariants as refused
 use Rattle.mon_tx.specs.Text.{word, op_text, is_range, format, text, most}
-use Rattle.mon_tx.specs.Fields.{cut, graphic_front, word_at, value_at, version_at, format_at}
+use Rattle.mon_tx.specs.Fields.{cut, graphic_prefix_len, word_at, value_at, version_at, format_at}
 use Rattle.mon_tx.specs.Decode.{put_at, erase_at, erase_prefix_at, erase_range_at, op_at, ops_at, ops_of, transaction_of, OpFits, HasText}
 use Rattle.mon_tx.proofs.Lengths.{count_le}
 use Rattle.mon_tx.proofs.Words.{word_parts}
@@ -28,7 +28,7 @@ number_again k c bytes rest n e len is =
     let long : ltb (length c.rest) k ≡ false = le-ltb _ _ (omega (arith, ap length e, length-append bytes rest)) in
     (moved k c, others, rw (long, first, is) refl)
 
-front_again : (k : ℕ) (c : Reading) (bytes rest : List ℕ) → c.rest ≡ bytes ++ rest → length bytes ≡ k → Again (cut (front k c)) bytes rest
+front_again : (k : ℕ) (c : Reading) (bytes rest : List ℕ) → c.rest ≡ bytes ++ rest → length bytes ≡ k → Again (cut (next_bytes k c)) bytes rest
 front_again k c bytes rest e len =
     let first : take k c.rest ≡ bytes = ap (take k) e ∙ take_at bytes rest k len in
     let others : drop k c.rest ≡ rest = ap (drop k) e ∙ drop_at bytes rest k len in
@@ -54,7 +54,7 @@ word_again limit c bytes rest e form =
     let b = front_again (length bytes) a.0 bytes rest a.1 refl in
     let low : ltb (length bytes) 1 ≡ false = le-ltb _ _ parts.low in
     let high : ltb limit (length bytes) ≡ false = le-ltb _ _ parts.high in
-    let good : ltb (graphic_front bytes) (length bytes) ≡ false = le-ltb _ _ parts.good in
+    let good : ltb (graphic_prefix_len bytes) (length bytes) ≡ false = le-ltb _ _ parts.good in
     (b.0, b.1, rw (a.2, low, high, b.2, good) refl)
 
 value_again : (c : Reading) (v rest : List ℕ) → c.rest ≡ little_bytes 4 (length v) ++ (v ++ rest) → length v < 2 ^ 32 → Again (value_at c) v rest
@@ -166,8 +166,8 @@ transaction_again ops h =
     let short : ltb most (length (text ops)) ≡ false = le-ltb _ _ h.short in
     rw short (text_again ops c [] (sym (append-nil (text ops))) h).1
 
-pub one_spelling : (a b : List Op) → HasText a → HasText b → text a ≡ text b → a ≡ b
-one_spelling a b has_a has_b e =
+pub distinct_encodings : (a b : List Op) → HasText a → HasText b → text a ≡ text b → a ≡ b
+distinct_encodings a b has_a has_b e =
     let same : ◌≡◌ {A = Result (List Op) TxRefused} (Ok a) (Ok b) = sym (transaction_again a has_a) ∙ ap transaction_of e ∙ transaction_again b has_b in cc
 
 accepted : (test : Bool) (e : TxRefused) (a b : List Op) → ◌≡◌ {A = Result (List Op) TxRefused} (cond (not test) (Err e) (Ok a)) (Ok b) → test ≡ true

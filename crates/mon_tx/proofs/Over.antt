@@ -10,7 +10,7 @@ use Rattle.mon_tx.specs.declared.refusal.TxRefused.TheVariants as refused
 use Rattle.mon_tx.specs.Text.{is_range}
 use Rattle.mon_tx.specs.Fields.{◌>>=◌, format_at}
 use Rattle.mon_tx.specs.Decode.{op_at, ops_at, ops_of}
-use Rattle.mon_tx.specs.Spelled.{range_at, with_range, ranges_at}
+use Rattle.mon_tx.specs.EncodedOp.{range_at, with_range, ranges_at}
 use Rattle.mon_tx.proofs.Loop.{one_more}
 
 pub or-assoc : (a b c : Bool) → (a || (b || c)) ≡ ((a || b) || c)

@@ -7,7 +7,7 @@ use Rattle.std.proofs.lemmas.Bool.Decides.{nat_tests}
 use Rattle.std.proofs.lemmas.List.{append-nil, nil_from_length}
 use Rattle.byteorder.specs.Endian.{little_bytes}
 use Rattle.mon_bytes.specs.declared.cursor.Short.{Short}
-use Rattle.mon_bytes.specs.Reading.{IsBytes, Reading, number, front}
+use Rattle.mon_bytes.specs.Reading.{IsBytes, Reading, number, next_bytes}
 use Rattle.mon_bytes.specs.Texts.{is_word}
 use Rattle.mon_bytes.proofs.Fields.{guard_ok, chosen_ok, ok_is, Takes, Takes-then, front_takes, byte_takes, number_takes}
 use Rattle.mon_bytes.proofs.Formats.{bind_ok, at_fault_ok}
@@ -17,7 +17,7 @@ use Rattle.mon_tx.specs.declared.transaction.Transaction.{Transaction}
 use Rattle.mon_tx.specs.declared.refusal.TxRefused.{TxRefused}
 use Rattle.mon_tx.specs.declared.refusal.TxRefused.TheVariants as refused
 use Rattle.mon_tx.specs.Text.{word, op_text, is_range, text, most}
-use Rattle.mon_tx.specs.Fields.{◌>>=◌, cut, Gives, graphic_front, word_at, value_at, version_at, format_at}
+use Rattle.mon_tx.specs.Fields.{◌>>=◌, cut, Gives, graphic_prefix_len, word_at, value_at, version_at, format_at}
 use Rattle.mon_tx.specs.Decode.{put_at, erase_at, erase_prefix_at, erase_range_at, op_at, ops_at, ops_of, transaction_of, OpFits, HasText}
 use Rattle.mon_tx.proofs.Words.{is_word_by}
 
@@ -34,18 +34,18 @@ four_takes c x fits e = number_takes 4 c x fits e
 word_takes : (limit : ℕ) (c : Reading) (x : List ℕ × Reading) → IsBytes c.rest → word_at limit c ≡ Ok x → Takes c (word x.0) x.1 × IsTrue (is_word limit x.0)
 unfolding word_at
 word_takes limit c x fits e =
-    let a = bind_ok (cut (number 1 c)) (λ n. cond (ltb n.0 1) (Err (refused.Name c.at)) (cond (ltb limit n.0) (Err (refused.Name c.at)) (cut (front n.0 n.1) >>= λ bytes. cond (ltb (graphic_front bytes.0) (length bytes.0)) (Err (refused.Name (n.1.at + graphic_front bytes.0))) (Ok bytes)))) x e in
+    let a = bind_ok (cut (number 1 c)) (λ n. cond (ltb n.0 1) (Err (refused.Name c.at)) (cond (ltb limit n.0) (Err (refused.Name c.at)) (cut (next_bytes n.0 n.1) >>= λ bytes. cond (ltb (graphic_prefix_len bytes.0) (length bytes.0)) (Err (refused.Name (n.1.at + graphic_prefix_len bytes.0))) (Ok bytes)))) x e in
     let n = a.0 in
-    let low = guard_ok (ltb n.0 1) (refused.Name c.at) (cond (ltb limit n.0) (Err (refused.Name c.at)) (cut (front n.0 n.1) >>= λ bytes. cond (ltb (graphic_front bytes.0) (length bytes.0)) (Err (refused.Name (n.1.at + graphic_front bytes.0))) (Ok bytes))) x a.2 in
-    let high = guard_ok (ltb limit n.0) (refused.Name c.at) (cut (front n.0 n.1) >>= λ bytes. cond (ltb (graphic_front bytes.0) (length bytes.0)) (Err (refused.Name (n.1.at + graphic_front bytes.0))) (Ok bytes)) x low.1 in
-    let b = bind_ok (cut (front n.0 n.1)) (λ bytes. cond (ltb (graphic_front bytes.0) (length bytes.0)) (Err (refused.Name (n.1.at + graphic_front bytes.0))) (Ok bytes)) x high.1 in
-    let good = guard_ok (ltb (graphic_front b.0.0) (length b.0.0)) (refused.Name (n.1.at + graphic_front b.0.0)) (Ok b.0) x b.2 in
+    let low = guard_ok (ltb n.0 1) (refused.Name c.at) (cond (ltb limit n.0) (Err (refused.Name c.at)) (cut (next_bytes n.0 n.1) >>= λ bytes. cond (ltb (graphic_prefix_len bytes.0) (length bytes.0)) (Err (refused.Name (n.1.at + graphic_prefix_len bytes.0))) (Ok bytes))) x a.2 in
+    let high = guard_ok (ltb limit n.0) (refused.Name c.at) (cut (next_bytes n.0 n.1) >>= λ bytes. cond (ltb (graphic_prefix_len bytes.0) (length bytes.0)) (Err (refused.Name (n.1.at + graphic_prefix_len bytes.0))) (Ok bytes)) x low.1 in
+    let b = bind_ok (cut (next_bytes n.0 n.1)) (λ bytes. cond (ltb (graphic_prefix_len bytes.0) (length bytes.0)) (Err (refused.Name (n.1.at + graphic_prefix_len bytes.0))) (Ok bytes)) x high.1 in
+    let good = guard_ok (ltb (graphic_prefix_len b.0.0) (length b.0.0)) (refused.Name (n.1.at + graphic_prefix_len b.0.0)) (Ok b.0) x b.2 in
     let t0 = (byte_takes c n fits (cut_ok (number 1 c) n a.1)).0 in
-    let t1 = front_takes n.0 n.1 b.0 t0.bytes (cut_ok (front n.0 n.1) b.0 b.1) in
+    let t1 = front_takes n.0 n.1 b.0 t0.bytes (cut_ok (next_bytes n.0 n.1) b.0 b.1) in
     let len = t1.1 in
     let lo : 1 ≤ n.0 = ltb-false _ _ low.0 in
     let hi : n.0 ≤ limit = ltb-false _ _ high.0 in
-    let fr : length b.0.0 ≤ graphic_front b.0.0 = ltb-false _ _ good.0 in
+    let fr : length b.0.0 ≤ graphic_prefix_len b.0.0 = ltb-false _ _ good.0 in
     let both = Takes-then c n.1 b.0.1 (n.0 ∷ []) b.0.0 t0 t1.0 in
     subst (λ (p : List ℕ × Reading). Takes c (word p.0) p.1 × IsTrue (is_word limit p.0)) (ok_is b.0 x good.1)
     (subst (λ (k : ℕ). Takes c (k ∷ b.0.0) b.0.1) (sym len) both, is_word_by limit b.0.0 (omega arith) (omega arith) fr)
@@ -53,10 +53,10 @@ word_takes limit c x fits e =
 value_takes : (c : Reading) (x : List ℕ × Reading) → IsBytes c.rest → value_at c ≡ Ok x → Takes c (little_bytes 4 (length x.0) ++ x.0) x.1 × (length x.0 < 2 ^ 32)
 unfolding value_at
 value_takes c x fits e =
-    let a = bind_ok (cut (number 4 c)) (λ n. cut (front n.0 n.1)) x e in
+    let a = bind_ok (cut (number 4 c)) (λ n. cut (next_bytes n.0 n.1)) x e in
     let n = a.0 in
     let t0 = four_takes c n fits (cut_ok (number 4 c) n a.1) in
-    let t1 = front_takes n.0 n.1 x t0.0.bytes (cut_ok (front n.0 n.1) x a.2) in
+    let t1 = front_takes n.0 n.1 x t0.0.bytes (cut_ok (next_bytes n.0 n.1) x a.2) in
     let both = Takes-then c n.1 x.1 (little_bytes 4 n.0) x.0 t0.0 t1.0 in
     (subst (λ (k : ℕ). Takes c (little_bytes 4 k ++ x.0) x.1) (sym t1.1) both, omega (arith, t0.1, t1.1))
 
@@ -218,11 +218,11 @@ ops_of_takes c ops fits e =
     let t2 = ops_takes a.0.0 n.0.0 n.0.1 b.0 t1.0.bytes b.1 in
     let two = Takes-then c a.0.1 n.0.1 (a.0.0 ∷ []) (little_bytes 4 n.0.0) t0.0 t1.0 in
     let all = Takes-then c n.0.1 b.0.1 (a.0.0 ∷ little_bytes 4 n.0.0) (flat_map op_text b.0.0) two t2.all in
-    let front = a.0.0 ∷ little_bytes 4 n.0.0 ++ flat_map op_text b.0.0 in
-    let whole : c.rest ≡ front = all.parts ∙ ap (λ (r : List ℕ). front ++ r) none ∙ append-nil front in
+    let next_bytes = a.0.0 ∷ little_bytes 4 n.0.0 ++ flat_map op_text b.0.0 in
+    let whole : c.rest ≡ next_bytes = all.parts ∙ ap (λ (r : List ℕ). next_bytes ++ r) none ∙ append-nil next_bytes in
     let byte = right_format a.0.0 (list_any is_range b.0.0) t0.1 t2.second h.0 in
-    let spelled : c.rest ≡ text b.0.0 = whole ∙ (λ i. sym byte i ∷ little_bytes 4 (sym t2.count i) ++ flat_map op_text b.0.0) in
-    subst (λ (os : List Op). (c.rest ≡ text os) × AllByRecursion OpFits os) (ok_is b.0.0 ops h.1) (spelled, t2.each)
+    let encoded_op : c.rest ≡ text b.0.0 = whole ∙ (λ i. sym byte i ∷ little_bytes 4 (sym t2.count i) ++ flat_map op_text b.0.0) in
+    subst (λ (os : List Op). (c.rest ≡ text os) × AllByRecursion OpFits os) (ok_is b.0.0 ops h.1) (encoded_op, t2.each)
 
 pub takes_all : (bytes : List ℕ) (ops : List Op) → IsBytes bytes → transaction_of bytes ≡ Ok ops → HasText ops × (bytes ≡ text ops)
 unfolding transaction_of

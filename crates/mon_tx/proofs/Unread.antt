@@ -9,7 +9,7 @@ use Rattle.mon_tx.specs.declared.refusal.TxRefused.TheVariants as refused
 use Rattle.mon_tx.specs.Text.{is_range}
 use Rattle.mon_tx.specs.Fields.{◌>>=◌}
 use Rattle.mon_tx.specs.Decode.{op_at, ops_at}
-use Rattle.mon_tx.specs.Spelled.{unread}
+use Rattle.mon_tx.specs.EncodedOp.{unread}
 use Rattle.mon_tx.proofs.Over.{or-assoc, or-false}
 
 carries : (a b : Bool) (d e : TxRefused) (op : Op) (ops : List Op)

@@ -2,7 +2,7 @@
 use Rattle.std.specs.Prelude.{ℕ, ◌+◌, ◌^◌, Bool, true, false, List, length, Result, Ok, Err, nat_lt, ◌==◌, if◌then◌else◌}
 use Rattle.std.specs.List.{prefix_len}
 use Rattle.mon_bytes.specs.declared.cursor.Short.{Short}
-use Rattle.mon_bytes.specs.Reading.{Reading, number, front}
+use Rattle.mon_bytes.specs.Reading.{Reading, number, next_bytes}
 use Rattle.mon_bytes.specs.Answers as answers
 use Rattle.mon_bytes.specs.Answers.{at_fault}
 pub use Rattle.mon_bytes.specs.Answers.{◌>>=◌}
@@ -31,22 +31,22 @@ abbrev pub Gives : {X Y : Type 0} → (X → Y) → Result X TxRefused → Resul
 Gives view result read = answers.Gives no_memory view result read
 
 -- how many bytes are before the first that isn't graphic
-abbrev pub graphic_front : List ℕ → ℕ
-graphic_front bytes = prefix_len graphic bytes
+abbrev pub graphic_prefix_len : List ℕ → ℕ
+graphic_prefix_len bytes = prefix_len graphic bytes
 
 -- a length of 1 to `limit`, and that many graphic bytes
 unfoldable pub word_at : ℕ → Reading → Result (List ℕ × Reading) TxRefused
 word_at limit c = do
   n ← cut (number 1 c)
   if nat_lt n.0 1 then Err (refused.Name c.at) else (if nat_lt limit n.0 then Err (refused.Name c.at) else (do
-    bytes ← cut (front n.0 n.1)
-    if nat_lt (graphic_front bytes.0) (length bytes.0) then Err (refused.Name (n.1.at + graphic_front bytes.0)) else Ok bytes))
+    bytes ← cut (next_bytes n.0 n.1)
+    if nat_lt (graphic_prefix_len bytes.0) (length bytes.0) then Err (refused.Name (n.1.at + graphic_prefix_len bytes.0)) else Ok bytes))
 
 -- a length, and that many bytes
 unfoldable pub value_at : Reading → Result (List ℕ × Reading) TxRefused
 value_at c = do
   n ← cut (number 4 c)
-  cut (front n.0 n.1)
+  cut (next_bytes n.0 n.1)
 
 -- a number of at most 2 ^ 62
 unfoldable pub version_at : Reading → Result (ℕ × Reading) TxRefused

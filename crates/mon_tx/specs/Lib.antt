@@ -4,5 +4,5 @@ pub mod Fields
 pub mod Keys
 pub mod Map
 pub mod Puts
-pub mod Spelled
+pub mod EncodedOp
 pub mod Text

@@ -3,15 +3,15 @@
 ghost use Rattle.std.specs.Prelude.{◌≡◌, ℕ, ◌≤◌, ◌<◌, ◌+◌, ◌^◌, List, length, IsTrue, IfOk};
 ghost use Rattle.std.specs.List.{list_all};
 ghost use Rattle.mon_bytes.specs.Texts.{graphic, is_word};
-ghost use Rattle.mon_tx.specs.Fields.{graphic_front, word_at, value_at, version_at, format_at, Scans};
+ghost use Rattle.mon_tx.specs.Fields.{graphic_prefix_len, word_at, value_at, version_at, format_at, Scans};
 
 use crate::refusal::TxRefused;
 use mon_bytes::Cursor;
 use mon_types::Version;
 
 /// How many bytes are before the first that isn't graphic.
-fn graphic_front(bytes: &[u8]) -> usize
-    ensures value { result ≡ graphic_front bytes.now }
+fn graphic_prefix_len(bytes: &[u8]) -> usize
+    ensures value { result ≡ graphic_prefix_len bytes.now }
     ensures most { result ≤ length bytes.now }
 {
     for (i, b) in bytes.iter().enumerate() {
@@ -35,7 +35,7 @@ pub fn word_at<'a>(cursor: &mut Cursor<'a>, limit: usize) -> Result<&'a [u8], Tx
     }
     let at = cursor.at();
     let bytes = cursor.take_bytes(n)?;
-    let good = graphic_front(bytes);
+    let good = graphic_prefix_len(bytes);
     if good < bytes.len() {
         return Err(TxRefused::Name { at: at + good });
     }

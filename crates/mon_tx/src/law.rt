@@ -20,7 +20,7 @@ pub fn law_reading()
 {}
 
 /// Two transactions with the same encoding are equal.
-pub fn law_one_spelling()
+pub fn law_distinct_encodings()
     ensures { (a b : List Op) → HasText a → HasText b → text a ≡ text b → a ≡ b }
 {}
 

@@ -3,6 +3,8 @@
 
 mod changes;
 mod encode;
+mod encoded_op;
+mod encoded_ops;
 mod fields;
 mod key;
 mod kinds;
@@ -12,18 +14,16 @@ mod place;
 mod reading;
 mod refusal;
 mod scan;
-mod spelled;
-mod spelled_ops;
 mod transaction;
 
 pub use encode::{EncodeRefused, MOST_TRANSACTION};
+pub use encoded_op::EncodedOp;
+pub use encoded_ops::EncodedOps;
 pub use key::{Area, Key};
-pub use law::{law_last_decides, law_no_prefix, law_one_spelling, law_range, law_reading};
+pub use law::{law_distinct_encodings, law_last_decides, law_no_prefix, law_range, law_reading};
 pub use op::Op;
 pub use place::is_at;
 pub use reading::decode;
 pub use refusal::TxRefused;
 pub use scan::is_text;
-pub use spelled::Spelled;
-pub use spelled_ops::SpelledOps;
 pub use transaction::Transaction;

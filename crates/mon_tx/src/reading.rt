@@ -7,10 +7,10 @@ ghost use Rattle.mon_tx.specs.Fields.{Reads, Gives};
 ghost use Rattle.mon_tx.specs.Decode.{op_at, ops_at, ops_of, transaction_of, HasText};
 
 use crate::encode::{MOST_TRANSACTION, has_range};
+use crate::encoded_op::op_at;
 use crate::fields::format_at;
 use crate::op::Op;
 use crate::refusal::TxRefused;
-use crate::spelled::op_at;
 use crate::transaction::Transaction;
 use mon_bytes::Cursor;
 use std::alloc::Global;
@@ -21,7 +21,7 @@ fn copied_at(alloc: Global, format: u8, cursor: &mut Cursor<'_>) -> Result<Op, T
     ensures upward { IfOk result (λ op. IsTrue (is_upward op)) }
 {
     match op_at(format, cursor) {
-        Ok(spelled) => Ok(spelled.to_op(alloc)?),
+        Ok(encoded_op) => Ok(encoded_op.to_op(alloc)?),
         Err(refused) => Err(refused),
     }
 }

@@ -3,12 +3,12 @@
 ghost use Rattle.std.specs.Prelude.{◌≡◌, is_ok};
 ghost use Rattle.mon_tx.specs.Fields.{Scans};
 ghost use Rattle.mon_tx.specs.Decode.{ops_of, is_text};
-ghost use Rattle.mon_tx.specs.Spelled.{range_at, ranges_at};
+ghost use Rattle.mon_tx.specs.EncodedOp.{range_at, ranges_at};
 
 use crate::encode::MOST_TRANSACTION;
+use crate::encoded_op::op_at;
 use crate::fields::format_at;
 use crate::refusal::TxRefused;
-use crate::spelled::op_at;
 use mon_bytes::Cursor;
 
 /// Scans over the next change, and returns whether it is a range.
@@ -16,7 +16,7 @@ fn range_at(format: u8, cursor: &mut Cursor<'_>) -> Result<bool, TxRefused>
     ensures { Scans (λ b. b) result cursor.new (range_at format cursor.old) }
 {
     match op_at(format, cursor) {
-        Ok(spelled) => Ok(spelled.is_range()),
+        Ok(encoded_op) => Ok(encoded_op.is_range()),
         Err(refused) => Err(refused),
     }
 }

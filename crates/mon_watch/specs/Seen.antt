@@ -182,6 +182,7 @@ after_heard from None s = s
 after_heard from (Some h) s = record s { victory = victory_after from h.kind h.epoch h.first s.victory }
 
 -- a datagram of a message of this kind, or of none, came at this time
-abbrev pub after_came : (now : ℕ) → Peer → Option Kind → List ℕ → Seen → Seen
-after_came now (Monitor from) k bytes s = with_contact from (heard_at now) (after_heard from (header_heard k bytes) s)
-after_came now (Client c) k bytes s = s
+abbrev pub after_arrival : (now : ℕ) → Peer → Option Kind → List ℕ → Seen → Seen
+after_arrival now (Monitor from) k bytes s =
+    with_contact from (heard_at now) (after_heard from (header_heard k bytes) s)
+after_arrival now (Client c) k bytes s = s

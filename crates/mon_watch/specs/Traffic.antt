@@ -10,7 +10,7 @@ use Rattle.mon_wire.specs.declared.kind.Kind.{Kind}
 use Rattle.mon_watch.specs.Kinds.{kind_named}
 use Rattle.mon_watch.specs.declared.notes.Notes.{Notes}
 use Rattle.mon_watch.specs.declared.traffic.Traffic.{Traffic}
-use Rattle.mon_watch.specs.Seen.{after_sent, after_came, nothing_seen}
+use Rattle.mon_watch.specs.Seen.{after_sent, after_arrival, nothing_seen}
 
 -- the place at which a datagram counts: the byte of the kind that it names, or 0 if it is a piece of a long message
 abbrev pub place : List ℕ → Option Kind → Option ℕ
@@ -43,13 +43,13 @@ notes_sent own to bytes n =
     let k = kind_named bytes in
     record n { seen = after_sent own n.now to k bytes n.seen; traffic = with_sent (place bytes k) n.traffic }
 
-abbrev pub notes_came : Peer → List ℕ → Notes → Notes
-notes_came from bytes n =
+abbrev pub notes_arrival : Peer → List ℕ → Notes → Notes
+notes_arrival from bytes n =
     let k = kind_named bytes in
-    record n { seen = after_came n.now from k bytes n.seen; traffic = with_received (place bytes k) n.traffic }
+    record n { seen = after_arrival n.now from k bytes n.seen; traffic = with_received (place bytes k) n.traffic }
 
 -- the link below gave this at this time
 abbrev pub notes_got : (now : ℕ) → Got → Notes → Notes
-notes_got now (Datagram from bytes) n = notes_came from bytes (record n { now = now })
+notes_got now (Datagram from bytes) n = notes_arrival from bytes (record n { now = now })
 notes_got now Idle n = record n { now = now }
 notes_got now Closed n = record n { now = now }

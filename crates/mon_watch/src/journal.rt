@@ -1,6 +1,6 @@
 //! Lines in one form, at most twenty in ten seconds.
 
-use crate::lines::Tell;
+use crate::lines::LineReceiver;
 use crate::ration::Ration;
 use mon_link::Clock;
 use std::alloc::{AllocError, Global};
@@ -10,7 +10,7 @@ use std::rc::Rc;
 
 /// Writes lines in one form: the milliseconds since the start, ` ms: `, and the line.
 #[derive(Drop)]
-pub struct Journal<W: Tell + Drop, C: Clock + Drop> {
+pub struct Journal<W: LineReceiver + Drop, C: Clock + Drop> {
     out: W,
     clock: C,
     ration: Ration,
@@ -29,7 +29,7 @@ fn left_out_line(alloc: Global, count: u64) -> Result<String, AllocError> {
     Ok(text)
 }
 
-impl<W: Tell + Drop, C: Clock + Drop> Journal<W, C> {
+impl<W: LineReceiver + Drop, C: Clock + Drop> Journal<W, C> {
     /// A journal without a line.
     pub fn new(out: W, clock: C, alloc: Global) -> Journal<W, C> {
         Journal {
@@ -43,7 +43,7 @@ impl<W: Tell + Drop, C: Clock + Drop> Journal<W, C> {
     /// Writes a line. If there is no memory for it, it is left out.
     fn writes(&mut self, now: u64, line: &str) {
         if let Ok(text) = dated(self.alloc, now, line) {
-            self.out.tell(text.as_str());
+            self.out.take_line(text.as_str());
         }
     }
 
@@ -73,11 +73,11 @@ impl<W: Tell + Drop, C: Clock + Drop> Journal<W, C> {
 
 /// A handle to a journal that several share, or to none, which drops all lines.
 #[derive(Drop)]
-pub struct Shared<W: Tell + Drop, C: Clock + Drop> {
+pub struct Shared<W: LineReceiver + Drop, C: Clock + Drop> {
     journal: Option<Rc<RefCell<Journal<W, C>>>>,
 }
 
-impl<W: Tell + Drop, C: Clock + Drop> Shared<W, C> {
+impl<W: LineReceiver + Drop, C: Clock + Drop> Shared<W, C> {
     /// A handle to this journal.
     pub fn new(alloc: Global, journal: Journal<W, C>) -> Result<Shared<W, C>, AllocError> {
         Ok(Shared {
@@ -101,8 +101,8 @@ impl<W: Tell + Drop, C: Clock + Drop> Shared<W, C> {
     }
 }
 
-impl<W: Tell + Drop, C: Clock + Drop> Tell for Shared<W, C> {
-    fn tell(&mut self, line: &str) {
+impl<W: LineReceiver + Drop, C: Clock + Drop> LineReceiver for Shared<W, C> {
+    fn take_line(&mut self, line: &str) {
         if let Some(journal) = &self.journal
             && let Ok(mut journal) = journal.try_borrow_mut()
         {

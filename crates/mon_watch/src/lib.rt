@@ -18,7 +18,7 @@ mod watched;
 
 pub use contact::{Contact, SILENCE};
 pub use journal::{Journal, Shared};
-pub use lines::Tell;
+pub use lines::LineReceiver;
 pub use notes::Notes;
 pub use ration::Ration;
 pub use report::{Report, report_text};

@@ -15,9 +15,9 @@ use std::fmt::Write;
 const LOOK: u64 = 1000;
 
 /// A receiver of lines.
-pub trait Tell {
+pub trait LineReceiver {
     /// Takes a line, which is given without its end.
-    fn tell(&mut self, line: &str);
+    fn take_line(&mut self, line: &str);
 
     /// Is called about once a second, so that a receiver can write lines that depend on time.
     fn rest(&mut self);
@@ -25,7 +25,7 @@ pub trait Tell {
 
 /// What a monitor is seen to do.
 #[derive(Clone, Copy, PartialEq, Eq)]
-enum Standing {
+enum QuorumRole {
     Unknown,
     Probes,
     Elects,
@@ -34,15 +34,15 @@ enum Standing {
     Follows(u8, u64),
 }
 
-impl Standing {
-    fn of(seen: &Seen) -> Standing {
+impl QuorumRole {
+    fn of(seen: &Seen) -> QuorumRole {
         match (seen.phase, seen.leader, seen.source) {
-            (Phase::Probing, _, _) => Standing::Probes,
-            (Phase::Electing, _, _) => Standing::Elects,
-            (Phase::Synchronizing, _, Some(source)) => Standing::Copies(source),
-            (Phase::Collecting | Phase::Active, _, _) => Standing::Leads(seen.epoch),
-            (Phase::Peon, Some(leader), _) => Standing::Follows(leader, seen.epoch),
-            _ => Standing::Unknown,
+            (Phase::Probing, _, _) => QuorumRole::Probes,
+            (Phase::Electing, _, _) => QuorumRole::Elects,
+            (Phase::Synchronizing, _, Some(source)) => QuorumRole::Copies(source),
+            (Phase::Collecting | Phase::Active, _, _) => QuorumRole::Leads(seen.epoch),
+            (Phase::Peon, Some(leader), _) => QuorumRole::Follows(leader, seen.epoch),
+            _ => QuorumRole::Unknown,
         }
     }
 }
@@ -50,7 +50,7 @@ impl Standing {
 /// What the last lines said, so that only changes are written.
 #[derive(Clone, Copy)]
 pub(crate) struct Said {
-    standing: Standing,
+    quorum_role: QuorumRole,
     source: Option<u8>,
     /// Since when each monitor is silent about which a line says so, by rank.
     silent: [Option<u64>; 15],
@@ -82,18 +82,22 @@ fn put_quorum(line: &mut String, bits: u64) -> Result<(), AllocError> {
     Ok(())
 }
 
-fn standing_line(alloc: Global, standing: Standing, quorum: u64) -> Result<String, AllocError> {
+fn quorum_role_line(
+    alloc: Global,
+    quorum_role: QuorumRole,
+    quorum: u64,
+) -> Result<String, AllocError> {
     let mut line = String::new(alloc);
-    match standing {
-        Standing::Unknown => {}
-        Standing::Probes => line.push_str("asks the other monitors how far they are")?,
-        Standing::Elects => line.push_str("takes part in an election")?,
-        Standing::Copies(source) => write!(line, "copies the store of monitor {source}")?,
-        Standing::Leads(epoch) => {
+    match quorum_role {
+        QuorumRole::Unknown => {}
+        QuorumRole::Probes => line.push_str("asks the other monitors how far they are")?,
+        QuorumRole::Elects => line.push_str("takes part in an election")?,
+        QuorumRole::Copies(source) => write!(line, "copies the store of monitor {source}")?,
+        QuorumRole::Leads(epoch) => {
             write!(line, "leads epoch {epoch}")?;
             put_quorum(&mut line, quorum)?;
         }
-        Standing::Follows(leader, epoch) => {
+        QuorumRole::Follows(leader, epoch) => {
             write!(line, "follows monitor {leader} in epoch {epoch}")?;
             put_quorum(&mut line, quorum)?;
         }
@@ -120,9 +124,9 @@ fn heard_line(alloc: Global, rank: u8, time: u64) -> Result<String, AllocError> 
 }
 
 /// Writes a line, if there was memory for it.
-fn write_if<S: Tell>(lines: &mut S, line: Result<String, AllocError>) {
+fn write_if<S: LineReceiver>(lines: &mut S, line: Result<String, AllocError>) {
     if let Ok(line) = line {
-        lines.tell(line.as_str());
+        lines.take_line(line.as_str());
     }
 }
 
@@ -130,7 +134,7 @@ impl Said {
     /// The state before any line is written.
     pub(crate) fn new() -> Said {
         Said {
-            standing: Standing::Unknown,
+            quorum_role: QuorumRole::Unknown,
             source: None,
             silent: [None; 15],
             slow_a: 0,
@@ -140,26 +144,32 @@ impl Said {
     }
 
     /// Writes a line if the monitor has its whole store again, and one if it does something else than before.
-    pub(crate) fn changes<S: Tell + Drop>(&mut self, watch: &mut Watch<S>, notes: &Notes)
+    pub(crate) fn changes<S: LineReceiver + Drop>(&mut self, watch: &mut Watch<S>, notes: &Notes)
         ensures { watch.new.member ≡ watch.old.member }
     {
         let seen = &notes.seen;
         if self.source.is_some() && seen.source.is_none() {
-            watch.lines.tell("is whole again");
+            watch.lines.take_line("is whole again");
         }
         self.source = seen.source;
-        let standing = Standing::of(seen);
-        if standing != self.standing {
-            self.standing = standing;
+        let quorum_role = QuorumRole::of(seen);
+        if quorum_role != self.quorum_role {
+            self.quorum_role = quorum_role;
             write_if(
                 &mut watch.lines,
-                standing_line(watch.alloc, standing, seen.quorum()),
+                quorum_role_line(watch.alloc, quorum_role, seen.quorum()),
             );
         }
     }
 
     /// Writes a line if a monitor became silent, or was heard again.
-    fn looks_at<S: Tell>(&mut self, alloc: Global, lines: &mut S, rank: Rank, notes: &Notes) {
+    fn looks_at<S: LineReceiver>(
+        &mut self,
+        alloc: Global,
+        lines: &mut S,
+        rank: Rank,
+        notes: &Notes,
+    ) {
         let place = usize::from(rank.get());
         let contact = notes.seen.contacts[place];
         match self.silent[place] {
@@ -180,7 +190,7 @@ impl Said {
     }
 
     /// Writes a line for each disk that had a slow sync since the last check.
-    fn looks_at_disks<S: Tell>(
+    fn looks_at_disks<S: LineReceiver>(
         &mut self,
         alloc: Global,
         lines: &mut S,
@@ -198,7 +208,7 @@ impl Said {
     }
 
     /// Writes lines about slow syncs and silent monitors, at most once a second.
-    pub(crate) fn passes<S: Tell + Drop>(&mut self, watch: &mut Watch<S>, notes: &Notes)
+    pub(crate) fn passes<S: LineReceiver + Drop>(&mut self, watch: &mut Watch<S>, notes: &Notes)
         ensures { watch.new.member ≡ watch.old.member }
     {
         if notes.now < self.due {

@@ -1,7 +1,7 @@
 ghost use Rattle.std.specs.Prelude.{◌≡◌};
 ghost use Rattle.mon_watch.specs.Kinds.{kind_named};
 ghost use Rattle.mon_watch.specs.Seen.{shows};
-ghost use Rattle.mon_watch.specs.Traffic.{no_notes, notes_came, notes_got, notes_sent};
+ghost use Rattle.mon_watch.specs.Traffic.{no_notes, notes_arrival, notes_got, notes_sent};
 
 use crate::kinds::kind_named;
 use crate::seen::{Seen, shows};
@@ -43,7 +43,7 @@ impl Notes {
     }
 
     fn comes(&mut self, from: Peer, bytes: &[u8])
-        ensures { self.new ≡ notes_came from bytes.now self.old }
+        ensures { self.new ≡ notes_arrival from bytes.now self.old }
     {
         let kind = kind_named(bytes);
         self.seen.gets(from, kind, bytes, self.now);

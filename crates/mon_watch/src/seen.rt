@@ -1,7 +1,7 @@
 //! What is known of a monitor from the headers of its messages.
 
 ghost use Rattle.std.specs.Prelude.{◌≡◌, slice_index_or};
-ghost use Rattle.mon_watch.specs.Seen.{after_came, after_header, after_heard, after_phase, after_sent, announces, awaits, contact_after, elections_after, header_heard, header_read, heard_at, later_of, led_by, named, no_contact, nothing_seen, quorum_of, shown, shows, taken_from, victory_after, with_contact};
+ghost use Rattle.mon_watch.specs.Seen.{after_arrival, after_header, after_heard, after_phase, after_sent, announces, awaits, contact_after, elections_after, header_heard, header_read, heard_at, later_of, led_by, named, no_contact, nothing_seen, quorum_of, shown, shows, taken_from, victory_after, with_contact};
 
 use crate::contact::Contact;
 use mon_decode::{Header, read_header};
@@ -305,7 +305,7 @@ impl Seen {
 
     /// Notes a datagram that arrived. `kind` is the kind that it names, if any.
     pub(crate) fn gets(&mut self, from: Peer, kind: Option<Kind>, bytes: &[u8], now: u64)
-        ensures { self.new ≡ after_came now from kind bytes.now self.old }
+        ensures { self.new ≡ after_arrival now from kind bytes.now self.old }
     {
         match from {
             Peer::Monitor(rank) => {

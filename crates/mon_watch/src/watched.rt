@@ -7,7 +7,7 @@ ghost use Rattle.mon_watch.specs.Answering.{AsksOnce, SendsAnswer, SendsTo, afte
 ghost use Rattle.mon_watch.specs.Requests.{request_of};
 ghost use Rattle.mon_watch.specs.Traffic.{no_notes, notes_got, notes_sent};
 
-use crate::lines::{Said, Tell};
+use crate::lines::{LineReceiver, Said};
 use crate::notes::Notes;
 use crate::report::{Report, report_text};
 use crate::request::{Asker, answer_of, is_watch, read_status_request};
@@ -21,7 +21,7 @@ use std::rc::Rc;
 
 /// The monitor that is watched, the counts of its two disks, and the receiver of lines about it.
 #[derive(Drop)]
-pub struct Watch<S: Tell + Drop> {
+pub struct Watch<S: LineReceiver + Drop> {
     pub member: Member,
     pub a: Rc<Cell<DiskTimes>>,
     pub b: Rc<Cell<DiskTimes>>,
@@ -32,7 +32,7 @@ pub struct Watch<S: Tell + Drop> {
 /// A link that passes on what its monitor sends and gets, except datagrams of the watch. It notes the headers of these
 /// messages, writes lines about what they show, and answers clients that ask for it.
 #[derive(Drop)]
-pub struct Watched<L: Link + Drop, C: Clock + Drop, S: Tell + Drop> {
+pub struct Watched<L: Link + Drop, C: Clock + Drop, S: LineReceiver + Drop> {
     pub inner: L,
     pub clock: C,
     pub watch: Watch<S>,
@@ -99,7 +99,7 @@ fn answer_to(alloc: Global, id: u64, report: &Report) -> Result<Bytes, OutOfMemo
     answer_of(alloc, id, text.as_bytes())
 }
 
-impl<L: Link + Drop, C: Clock + Drop, S: Tell + Drop> Watched<L, C, S> {
+impl<L: Link + Drop, C: Clock + Drop, S: LineReceiver + Drop> Watched<L, C, S> {
     /// A link over `inner` that has noted nothing yet.
     pub fn new(inner: L, clock: C, watch: Watch<S>) -> Watched<L, C, S>
         ensures inner { result.inner ≡ inner }
@@ -164,10 +164,10 @@ impl<L: Link + Drop, C: Clock + Drop, S: Tell + Drop> Watched<L, C, S> {
     }
 }
 
-impl<L: Link + Drop, C: Clock + Drop, S: Tell + Drop> Link for Watched<L, C, S> {
+impl<L: Link + Drop, C: Clock + Drop, S: LineReceiver + Drop> Link for Watched<L, C, S> {
     ghost use Rattle.std.specs.Prelude.{None};
 
-    ghost state = { λ r. record { told = None; faults = (L.state r.inner).faults; losses = r.losses } };
+    ghost state = { λ r. record { observed = None; faults = (L.state r.inner).faults; losses = r.losses } };
 
     /// Asks the link below once, with the same wait. Then it writes lines and answers a client that asked. If memory
     /// runs out for the answer, that is the error, and what was received is dropped.

@@ -4,13 +4,13 @@ use Rattle.mon_tx.specs.Text.{text as transaction_text}
 use Rattle.mon_wire.specs.declared.body.Body.{Body}
 use Rattle.mon_wire.specs.declared.body.Body.TheVariants as body
 use Rattle.mon_wire.specs.declared.message.Message.{Message}
-use Rattle.mon_wire.specs.Message.Bodies.{spelled}
+use Rattle.mon_wire.specs.Message.Bodies.{encoded}
 use Rattle.mon_wire.specs.Message.Whole.{text, IsMessage}
 use Rattle.mon_wire.specs.Message.Length.{body_length, message_length}
 use Rattle.mon_wire.specs.Message.Fields.{number_bytes}
 use Rattle.mon_wire.proofs.PartLengths.{length-number_bytes, length-set_bytes, length-text_bytes, length-values, length-entries, length-told, length-place, length-command, length-request, length-reply, length-scored}
 
-length-body : (n own : ℕ) (b : Body) → n ≤ 15 → (spelled n own b).Form → length (spelled n own b).text ≡ body_length n b
+length-body : (n own : ℕ) (b : Body) → n ≤ 15 → (encoded n own b).Form → length (encoded n own b).text ≡ body_length n b
 length-body n own body.Probe few form = refl
 length-body n own (body.ProbeReply quorum first last) few form = simp (length-append, length-number_bytes, length-set_bytes)
 length-body n own (body.Propose table) few form = length-scored n own table few form
@@ -44,7 +44,7 @@ pub length-message : (m : Message) → IsMessage m → message_length m.monitors
 length-message m is =
     omega (
       arith,
-      length-append (number_bytes m.epoch) (spelled m.monitors m.from m.body).text,
+      length-append (number_bytes m.epoch) (encoded m.monitors m.from m.body).text,
       length-number_bytes m.epoch,
       length-body m.monitors m.from m.body is.monitors is.body,
     )

@@ -2,7 +2,7 @@
 
 ghost use Rattle.std.specs.Prelude.{◌≡◌, ℕ, ◌≤◌, ◌∷◌, ◌++◌, IfOk, OnOk};
 ghost use Rattle.mon_wire.specs.Message.Fields.{number_bytes};
-ghost use Rattle.mon_wire.specs.Message.Bodies.{spelled};
+ghost use Rattle.mon_wire.specs.Message.Bodies.{encoded};
 ghost use Rattle.mon_wire.specs.Message.Whole.{text, IsMessage, HasText};
 
 use crate::body::Body;
@@ -21,7 +21,7 @@ use std::alloc::Global;
 
 /// The byte of the body's kind.
 fn kind_byte(n: u8, own: Rank, body: &Body) -> u8
-    ensures { result ≡ (spelled n own body.now).tag }
+    ensures { result ≡ (encoded n own body.now).tag }
 {
     match body {
         Body::Probe => 1,
@@ -55,8 +55,8 @@ fn kind_byte(n: u8, own: Rank, body: &Body) -> u8
 /// Appends what follows the header of a message of the monitor `own` of `n`.
 fn write_body(out: &mut Out, n: u8, own: Rank, body: &Body) -> Result<(), OutOfMemory>
     requires few { n ≤ 15 }
-    requires form { (spelled n own body.now).Form }
-    ensures { OnOk result (out.new ≡ out.old ++ (spelled n own body.now).text) }
+    requires form { (encoded n own body.now).Form }
+    ensures { OnOk result (out.new ≡ out.old ++ (encoded n own body.now).text) }
 {
     match *body {
         Body::Probe => Ok(()),

@@ -3,7 +3,7 @@
 ghost use Rattle.std.specs.Prelude.{◌≡◌, ℕ, ◌≤◌, ◌<◌, ◌^◌, ◌++◌, length, OnOk};
 ghost use Rattle.mon_bytes.specs.Forms.{text_bytes};
 ghost use Rattle.mon_wire.specs.Message.Parts.{optional, cookie, told, key_place, place, a_command};
-ghost use Rattle.mon_wire.specs.Message.Client.{request_spelled, a_request};
+ghost use Rattle.mon_wire.specs.Message.Client.{request_encoded, a_request};
 ghost use Rattle.mon_wire.specs.Message.Fields.{name, utf8};
 ghost use Rattle.mon_wire.specs.Message.Format.{◌⊗◌};
 
@@ -84,7 +84,7 @@ pub(crate) fn write_command(out: &mut Out, command: &Command) -> Result<(), OutO
 }
 
 fn request_byte(request: &Request) -> u8
-    ensures { result ≡ (request_spelled request.now).tag }
+    ensures { result ≡ (request_encoded request.now).tag }
 {
     match request {
         Request::Set { .. } => 1,
@@ -98,7 +98,7 @@ fn request_byte(request: &Request) -> u8
 /// Appends what follows the kind of a request.
 fn write_fields(out: &mut Out, request: &Request) -> Result<(), OutOfMemory>
     requires { a_request.Form request.now }
-    ensures { OnOk result (out.new ≡ out.old ++ (request_spelled request.now).text) }
+    ensures { OnOk result (out.new ≡ out.old ++ (request_encoded request.now).text) }
 {
     match request {
         Request::Set { key, value } => write_set(out, key, value),

@@ -2,7 +2,7 @@
 
 ghost use Rattle.std.specs.Prelude.{◌≡◌, ℕ, ◌<◌, ◌^◌, ◌++◌, OnOk};
 ghost use Rattle.mon_wire.specs.Message.Parts.{shown_text, shown_length};
-ghost use Rattle.mon_wire.specs.Message.Client.{shown, since, reply_spelled, a_reply};
+ghost use Rattle.mon_wire.specs.Message.Client.{shown, since, reply_encoded, a_reply};
 
 use crate::reply::{Reply, ShownMap};
 use crate::request::Service;
@@ -33,7 +33,7 @@ fn write_shown_map(out: &mut Out, shown: &ShownMap) -> Result<(), OutOfMemory>
 
 /// The byte of the reply's kind.
 fn kind_byte(reply: &Reply) -> u8
-    ensures { result ≡ (reply_spelled reply.now).tag }
+    ensures { result ≡ (reply_encoded reply.now).tag }
 {
     match reply {
         Reply::Done { .. } => 1,
@@ -84,7 +84,7 @@ fn write_since(
 /// Appends what follows the kind of a reply.
 fn write_fields(out: &mut Out, reply: &Reply) -> Result<(), OutOfMemory>
     requires { a_reply.Form reply.now }
-    ensures { OnOk result (out.new ≡ out.old ++ (reply_spelled reply.now).text) }
+    ensures { OnOk result (out.new ≡ out.old ++ (reply_encoded reply.now).text) }
 {
     match reply {
         Reply::Done { version } => write_number(out, version.get()),

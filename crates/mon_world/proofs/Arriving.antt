@@ -3,7 +3,7 @@ use Rattle.std.proofs.Common.{◌≡◌, ◌≢◌, ℕ, ◌<◌, Bool, true, fa
 use Rattle.std.proofs.lemmas.Bool.{eqb-false, eqb-true}
 use Rattle.std.proofs.lemmas.Option.{same_Some, slice_get_cases}
 use Rattle.std.specs.Prelude.{slice_get}
-use Rattle.mon_bounds.specs.Fitting.{MayCome}
+use Rattle.mon_bounds.specs.Fitting.{IsValidInput}
 use Rattle.mon_msg.specs.Protocol.Reaction.{reaction}
 use Rattle.mon_msg.specs.Protocol.State.{State}
 use Rattle.mon_msg.specs.declared.view.Me.{Me}
@@ -18,8 +18,8 @@ use Rattle.schedule_text.specs.declared.event.Plain as schedule
 use Rattle.mon_world.specs.declared.monitor.Monitor.{Monitor}
 use Rattle.mon_world.specs.declared.world.World.{World}
 use Rattle.mon_world.specs.Events.{plain_event}
-use Rattle.mon_world.specs.Monitor.{Standing, Stands}
-use Rattle.mon_world.specs.Stands.{EachStands, FitsPlain, StandsAt, StandsFor, envelope_of}
+use Rattle.mon_world.specs.Monitor.{RepresentsSome, Represents}
+use Rattle.mon_world.specs.Represented.{EachRepresents, FitsPlain, RepresentsAt, RepresentsScene, envelope_of}
 use Rattle.mon_world.proofs.Coming.{MayMeet, may_meet}
 use Rattle.mon_world.proofs.Ranks.{is_of, me_at}
 
@@ -39,23 +39,23 @@ pub record Reaches (ms : Monitors) (old : List Monitor) (c : Scene) (a : Arrival
   pub monitors : me.member.monitors ≡ ms.count
   pub monitor : Monitor
   pub found : slice_get old a.rank ≡ Some monitor
-  pub stands : Stands me (c.world.store a.rank) (c.world.state a.rank) (c.files a.rank) monitor
+  pub stands : Represents me (c.world.store a.rank) (c.world.state a.rank) (c.files a.rank) monitor
   pub within : a.rank < length old
 
-pub arrives : (ms : Monitors) (old : World) (c : Scene) (p : schedule.Plain) (a : Arrival) → StandsFor ms old c → FitsPlain (length old.monitors.items) p
-    → arrival c.world (plain_event p) ≡ Some a → (a.rank < length old.monitors.items) × MayCome a.input
+pub arrives : (ms : Monitors) (old : World) (c : Scene) (p : schedule.Plain) (a : Arrival) → RepresentsScene ms old c → FitsPlain (length old.monitors.items) p
+    → arrival c.world (plain_event p) ≡ Some a → (a.rank < length old.monitors.items) × IsValidInput a.input
 arrives ms old c p a s fits is =
     let may : MayMeet ms.count a =
     subst (λ (o : Option Arrival). IfSome o (MayMeet ms.count)) is (may_meet ms.count c.world p (subst (λ (n : ℕ). FitsPlain n p) s.count fits) s.arrive) in
     (omega (arith, s.count, may.rank), may.comes)
 
-pub standing_at : (ms : Monitors) (old : World) (c : Scene) (i : ℕ) → StandsFor ms old c → i < length old.monitors.items
-    → (monitor : Monitor) → slice_get old.monitors.items i ≡ Some monitor → Standing monitor
+pub standing_at : (ms : Monitors) (old : World) (c : Scene) (i : ℕ) → RepresentsScene ms old c → i < length old.monitors.items
+    → (monitor : Monitor) → slice_get old.monitors.items i ≡ Some monitor → RepresentsSome monitor
 standing_at ms old c i s within monitor found =
     let itself = me_at ms i (omega (arith, s.count, within)) in
     (itself.0, c.world.store i, c.world.state i, c.files i, s.each i itself.0 monitor itself.1 found)
 
-pub reaches : (ms : Monitors) (old : World) (c : Scene) (a : Arrival) → StandsFor ms old c → a.rank < length old.monitors.items → Reaches ms old.monitors.items c a
+pub reaches : (ms : Monitors) (old : World) (c : Scene) (a : Arrival) → RepresentsScene ms old c → a.rank < length old.monitors.items → Reaches ms old.monitors.items c a
 reaches ms old c a s within =
     let itself = me_at ms a.rank (omega (arith, s.count, within)) in
     let of_map = is_of ms a.rank itself.0 itself.1 in
@@ -102,17 +102,17 @@ put_each P c i m s f here others j = by (eqb j i) refl
     by false e = others j (eqb-false j i e)
 
 -- the other monitors represent what they did before
-pub elsewhere : (ms : Monitors) (old new : List Monitor) (c : Scene) (i : ℕ) → EachStands ms old c
+pub elsewhere : (ms : Monitors) (old new : List Monitor) (c : Scene) (i : ℕ) → EachRepresents ms old c
     → ((j : ℕ) → j ≢ i → slice_get new j ≡ slice_get old j)
-    → (j : ℕ) → j ≢ i → StandsAt ms new j (c.world.store j) (c.world.state j) (c.files j)
+    → (j : ℕ) → j ≢ i → RepresentsAt ms new j (c.world.store j) (c.world.state j) (c.files j)
 elsewhere ms old new c i each others j n me monitor itself found = each j me monitor itself (sym (others j n) ∙ found)
 
 -- only one monitor has a rank, so what one represents is what the monitor of the rank represents
 pub stands_at : (ms : Monitors) (new : List Monitor) (i : ℕ) (m : Store) (s : Option State) (f : Files) (me : Me) (monitor : Monitor)
-    → me_of ms i ≡ Some me → slice_get new i ≡ Some monitor → Stands me m s f monitor → StandsAt ms new i m s f
+    → me_of ms i ≡ Some me → slice_get new i ≡ Some monitor → Represents me m s f monitor → RepresentsAt ms new i m s f
 stands_at ms new i m s f me monitor itself found stands me_too monitor_too itself_too found_too =
-    subst (λ (x : Me). Stands x m s f monitor_too) (same_Some me me_too (sym itself ∙ itself_too))
-    (subst (λ (x : Monitor). Stands me m s f x) (same_Some monitor monitor_too (sym found ∙ found_too)) stands)
+    subst (λ (x : Me). Represents x m s f monitor_too) (same_Some me me_too (sym itself ∙ itself_too))
+    (subst (λ (x : Monitor). Represents me m s f x) (same_Some monitor monitor_too (sym found ∙ found_too)) stands)
 
 pub new_found : (ms : Monitors) (old new : List Monitor) (c : Scene) (a : Arrival) → Reaches ms old c a → length new ≡ length old → (monitor : Monitor) × (slice_get new a.rank ≡ Some monitor)
 new_found ms old new c a r count = let within = r.within in found_at new a.rank (omega arith)
@@ -122,10 +122,10 @@ new_found ms old new c a r count = let within = r.within in found_at new a.rank 
 abbrev pub after_none : Scene → Plain → Scene
 after_none c p = record { world = unmoved c.world p; files = c.files }
 
-pub unmoved_stands : (ms : Monitors) (old new : World) (c : Scene) (p : Plain) → StandsFor ms old c
-    → length new.monitors.items ≡ length old.monitors.items → EachStands ms new.monitors.items c
+pub unmoved_stands : (ms : Monitors) (old new : World) (c : Scene) (p : Plain) → RepresentsScene ms old c
+    → length new.monitors.items ≡ length old.monitors.items → EachRepresents ms new.monitors.items c
     → new.messages.items ≡ old.messages.items → new.log ≡ old.log
-    → StandsFor ms new (after_none c p)
+    → RepresentsScene ms new (after_none c p)
 unfolding unmoved
 unmoved_stands ms old new c p s count each messages log = record {
   count = count ∙ s.count;
@@ -136,12 +136,12 @@ unmoved_stands ms old new c p s count each messages log = record {
 }
 
 -- the monitor of the arrival stays down
-pub still_each : (ms : Monitors) (old new : List Monitor) (c : Scene) (a : Arrival) → Reaches ms old c a → EachStands ms old c
+pub still_each : (ms : Monitors) (old new : List Monitor) (c : Scene) (a : Arrival) → Reaches ms old c a → EachRepresents ms old c
     → length new ≡ length old
     → ((j : ℕ) → j ≢ a.rank → slice_get new j ≡ slice_get old j)
     → ((me : Me) (monitor : Monitor) → me_of ms a.rank ≡ Some me → slice_get new a.rank ≡ Some monitor
-    → Stands me (c.world.store a.rank) (c.world.state a.rank) (c.files a.rank) monitor)
-    → EachStands ms new c
+    → Represents me (c.world.store a.rank) (c.world.state a.rank) (c.files a.rank) monitor)
+    → EachRepresents ms new c
 still_each ms old new c a r each count others here =
-    put_each (λ j m s f. StandsAt ms new j (c.world.store j) (c.world.state j) (c.files j)) c a.rank (c.world.store a.rank) None (c.files a.rank) here
+    put_each (λ j m s f. RepresentsAt ms new j (c.world.store j) (c.world.state j) (c.files j)) c a.rank (c.world.store a.rank) None (c.files a.rank) here
     (elsewhere ms old new c a.rank each others)

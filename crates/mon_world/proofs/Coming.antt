@@ -2,7 +2,7 @@
 use Rattle.std.proofs.Common.{ℕ, zero, suc, ◌<◌, List, [], ◌∷◌, map, Option, Some, None, IfSome, arith}
 use Rattle.std.specs.List.{AllByRecursion}
 use Rattle.std.specs.Prelude.{slice_get}
-use Rattle.mon_bounds.specs.Fitting.{IsRequest, MayCome}
+use Rattle.mon_bounds.specs.Fitting.{IsRequest, IsValidInput}
 use Rattle.mon_msg.specs.declared.input.Input.TheVariants as input
 use Rattle.mon_wire.specs.declared.request.Request.{Request}
 use Rattle.mon_wire.specs.declared.request.Request.TheVariants as request
@@ -19,7 +19,7 @@ use Rattle.schedule_text.specs.declared.event.Plain.TheVariants as plain
 use Rattle.mon_world.specs.Events.{plain_event, scheduled_of}
 use Rattle.mon_types.specs.declared.names.Side.{Side}
 use Rattle.mon_world.specs.Crashes.{MayBe}
-use Rattle.mon_world.specs.Stands.{Fits, FitsPlain, FitsUpset, MayArrive}
+use Rattle.mon_world.specs.Represented.{Fits, FitsPlain, FitsInjected, MayArrive}
 
 -- ---- events
 
@@ -59,7 +59,7 @@ slice_all P (x ∷ xs) (suc k) h = slice_all P xs k h.1
 -- the arrival is at one of n monitors, and its input may come
 pub record MayMeet (n : ℕ) (a : Arrival) : Type 0 where
   pub rank : a.rank < n
-  pub comes : MayCome a.input
+  pub comes : IsValidInput a.input
 
 delivers : (n at : ℕ) (es : List Envelope) (k : ℕ) → AllByRecursion (MayArrive n) es
     → IfSome (Rattle.std.specs.Option.option_map (λ (e : Envelope). record { rank = e.to; at = at; input = input.Deliver e.message }) (message_at es k)) (MayMeet n)
@@ -79,12 +79,12 @@ may_meet n w (plain.Client rank at session asked) fits h = record { rank = fits.
 
 -- ---- if a disk fails
 
-pub record IsUpsetBy (n : ℕ) (disk : Side) (call image : ℕ) (p : Plain) : Type 0 where
+pub record IsInjectedBy (n : ℕ) (disk : Side) (call image : ℕ) (p : Plain) : Type 0 where
   pub may : MayBe (record { disk = disk; call = call; image = image })
   pub plain_fits_too : FitsPlain n p
 
-pub upset_fits : (n : ℕ) (disk : Side) (call image : ℕ) (p : Plain) → FitsUpset n call image p → IsUpsetBy n disk call image p
-upset_fits n disk call image p h = record {
+pub injected_fits : (n : ℕ) (disk : Side) (call image : ℕ) (p : Plain) → FitsInjected n call image p → IsInjectedBy n disk call image p
+injected_fits n disk call image p h = record {
   may = let last = h.1 in record { first = h.0; most = omega arith; image = h.2 };
   plain_fits_too = h.3;
 }

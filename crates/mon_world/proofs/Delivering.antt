@@ -8,7 +8,7 @@ use Rattle.quorum_model.specs.Meets.{Arrival, arrival}
 use Rattle.quorum_model.specs.World as model
 use Rattle.quorum_model.specs.World.{World, Deliver}
 use Rattle.mon_world.specs.declared.sending.Envelope.{Envelope}
-use Rattle.mon_world.specs.Stands.{envelope_of}
+use Rattle.mon_world.specs.Represented.{envelope_of}
 
 abbrev comes : ℕ → model.Envelope → Arrival
 comes at e = record { rank = e.to; at = at; input = input.Deliver e.message }

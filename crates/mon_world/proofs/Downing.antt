@@ -10,9 +10,9 @@ use Rattle.mon_msg.specs.Protocol.State.{State}
 use Rattle.mon_msg.specs.declared.input.Input.{Input}
 use Rattle.mon_msg.specs.declared.view.Me.{Me}
 use Rattle.mon_site.specs.Faults.{OpensMap, Rests}
-use Rattle.mon_site.specs.declared.upset.Upset.{Upset}
+use Rattle.mon_site.specs.declared.injected.InjectedFault.{InjectedFault}
 use Rattle.mon_store.specs.Pair.{Refusal}
-use Rattle.mon_store.specs.Stood.{Stood}
+use Rattle.mon_store.specs.StoreView.{StoreView}
 use Rattle.mon_tx.specs.Map.{Store, apply}
 use Rattle.mon_types.specs.declared.member.Member.{Member}
 use Rattle.mon_types.specs.declared.names.Which.{Which}
@@ -27,17 +27,17 @@ use Rattle.mon_world.specs.declared.crash.Written.{Written}
 use Rattle.mon_world.specs.declared.monitor.Kept.TheVariants.{Down}
 use Rattle.mon_world.specs.declared.monitor.Monitor.{Monitor}
 use Rattle.mon_world.specs.declared.stop.WorldStop.{WorldStop}
-use Rattle.mon_world.specs.Crashes.{Crashes, IsDown, IsLeft, files_left, keeps, map_left, marked_if, written, written_if}
-use Rattle.mon_world.specs.Monitor.{Holds, Stands, remembered}
+use Rattle.mon_world.specs.Crashes.{Crashes, IsDown, IsRemains, files_remaining, keeps, map_remaining, marked_if, written, written_if}
+use Rattle.mon_world.specs.Monitor.{Holds, Represents, remembered}
 use Rattle.mon_world.proofs.Remembering.{remembered_so, same_state}
 
 -- ---- two disks have one map
 
-same_stood : (x y : Stood) → ◌≡◌ {A = Result Stood Refusal} (Ok x) (Ok y) → x ≡ y
-same_stood x y e = cc
+same_store_view : (x y : StoreView) → ◌≡◌ {A = Result StoreView Refusal} (Ok x) (Ok y) → x ≡ y
+same_store_view x y e = cc
 
 one_map : (member : Member) (m n : Store) (a b : List ℕ) → OpensMap member m a b → OpensMap member n a b → m ≡ n
-one_map member m n a b x y = sym x.map ∙ (ap (λ (s : Stood). s.kv) (same_stood x.stood y.stood (sym x.opens ∙ y.opens)) ∙ y.map)
+one_map member m n a b x y = sym x.map ∙ (ap (λ (s : StoreView). s.kv) (same_store_view x.store_view y.store_view (sym x.opens ∙ y.opens)) ∙ y.map)
 
 -- a cache that follows one map of two disks follows each
 pub follows_each : (member : Member) (m n : Store) (f g : Files) (a b : MemoryState) (cache : Cache) → Rests member m f a b → Follows cache (readings_of m) → Rests member n g a b → Follows cache (readings_of n)
@@ -52,14 +52,14 @@ remembers me s came before now to is forgets at =
     same_state now to (sym forgets ∙ (ap (λ (x : State). state_at me.member.rank (Some x) came) is ∙ remembered_so me s came to at))
 
 -- it crashes as its monitor does
-pub crashes_as : (u : Upset) (m : Store) (f : Files) (came : Input) (now : ℕ) (result : Result Remains WorldStop) (core : Core) (me : Me) (to : State) → core.me ≡ me → core.state ≡ to
+pub crashes_as : (u : InjectedFault) (m : Store) (f : Files) (came : Input) (now : ℕ) (result : Result Remains WorldStop) (core : Core) (me : Me) (to : State) → core.me ≡ me → core.state ≡ to
     → Crashes u me.member m f came (reaction core.me now m core.state came) result → Crashes u me.member m f came (reaction me now m to came) result
 crashes_as u m f came now result core me to me_is state_is h =
     subst (λ (x : State). Crashes u me.member m f came (reaction me now m x came) result) state_is
     (subst (λ (k : Me). Crashes u me.member m f came (reaction k now m core.state came) result) me_is h)
 
 -- the same by the monitor's own identity
-pub crashes_itself : (u : Upset) (m : Store) (s : Option State) (f : Files) (came : Input) (now : ℕ) (result : Result Remains WorldStop) (monitor : Monitor) (me : Me) (to : State) → Stands me m s f monitor → state_at me.member.rank s came ≡ Some to
+pub crashes_itself : (u : InjectedFault) (m : Store) (s : Option State) (f : Files) (came : Input) (now : ℕ) (result : Result Remains WorldStop) (monitor : Monitor) (me : Me) (to : State) → Represents me m s f monitor → state_at me.member.rank s came ≡ Some to
     → (Holds monitor.me m s f monitor.kept → state_at monitor.me.member.rank s came ≡ Some to → Crashes u monitor.me.member m f came (reaction monitor.me now m to came) result)
     → Crashes u me.member m f came (reaction me now m to came) result
 crashes_itself u m s f came now result monitor me to stands at h =
@@ -71,12 +71,12 @@ crashes_itself u m s f came now result monitor me to stands at h =
 some_written : (x y : Written) → ◌≡◌ {A = Option Written} (Some x) (Some y) → x ≡ y
 some_written x y e = cc
 
-module _ (u : Upset) (me : Me) (m : Store) (f : Files) (came : Input) (r : Result Reaction Which) (remains : Remains) (left : IsLeft u me.member m f came r remains) (new : Monitor) (me_is : new.me ≡ me) (down : new.kept ≡ Down remains.disks) where
-  holds : Holds me (map_left u m f came r) None (files_left u m f came r) new.kept
-  holds = subst (Holds me (map_left u m f came r) None (files_left u m f came r)) (sym down) left.rests
+module _ (u : InjectedFault) (me : Me) (m : Store) (f : Files) (came : Input) (r : Result Reaction Which) (remains : Remains) (left : IsRemains u me.member m f came r remains) (new : Monitor) (me_is : new.me ≡ me) (down : new.kept ≡ Down remains.disks) where
+  holds : Holds me (map_remaining u m f came r) None (files_remaining u m f came r) new.kept
+  holds = subst (Holds me (map_remaining u m f came r) None (files_remaining u m f came r)) (sym down) left.rests
 
-  left_is : (k : Bool) → keeps u m f came r ≡ k → map_left u m f came r ≡ (if k then apply (ops_of r) m else m)
-  unfolding map_left
+  left_is : (k : Bool) → keeps u m f came r ≡ k → map_remaining u m f came r ≡ (if k then apply (ops_of r) m else m)
+  unfolding map_remaining
   left_is k so = ap (λ (k : Bool). if k then apply (ops_of r) m else m) so
 
   -- its transaction is kept
@@ -87,7 +87,7 @@ module _ (u : Upset) (me : Me) (m : Store) (f : Files) (came : Input) (r : Resul
       by true so =
           let is : w ≡ written (apply (ops_of r) m) = some_written w (written (apply (ops_of r) m)) (sym some ∙ (left.kept ∙ ap (λ (k : Bool). written_if k (apply (ops_of r) m)) so)) in record {
             goes_on = left.goes_on;
-            told_is = ap (λ (w : Written). Some w.marked) is ∙ ap (λ (k : Bool). marked_if k (apply (ops_of r) m)) (sym so);
+            reported_is = ap (λ (w : Written). Some w.marked) is ∙ ap (λ (k : Bool). marked_if k (apply (ops_of r) m)) (sym so);
             stands = record {
               me_is = me_is;
               last = last ∙ (ap (λ (w : Written). w.last) is ∙ ap last_of (sym (left_is true so)));
@@ -103,7 +103,7 @@ module _ (u : Upset) (me : Me) (m : Store) (f : Files) (came : Input) (r : Resul
       by : (k : Bool) → keeps u m f came r ≡ k → IsDown u me m f came r None new
       by false so = record {
         goes_on = left.goes_on;
-        told_is = ap (λ (k : Bool). marked_if k (apply (ops_of r) m)) (sym so);
+        reported_is = ap (λ (k : Bool). marked_if k (apply (ops_of r) m)) (sym so);
         stands = record {
           me_is = me_is;
           last = last ∙ ap last_of (sym (left_is false so));

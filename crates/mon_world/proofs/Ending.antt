@@ -9,7 +9,7 @@ use Rattle.mon_msg.specs.declared.input.Input.{Input}
 use Rattle.mon_msg.specs.declared.view.Me.{Me}
 use Rattle.mon_site.specs.Ending.{Writes}
 use Rattle.mon_site.specs.Faults.{Rests, Settles}
-use Rattle.mon_site.specs.declared.upset.Upset.{Upset}
+use Rattle.mon_site.specs.declared.injected.InjectedFault.{InjectedFault}
 use Rattle.mon_tx.specs.Map.{Store, apply}
 use Rattle.mon_tx.specs.declared.op.Op.{Op}
 use Rattle.mon_types.specs.declared.member.Member.{Member}
@@ -27,7 +27,7 @@ then_some_is true m = refl
 then_some_is false m = refl
 
 -- its disks settle
-pub settled : (u : Upset) (member : Member) (m : Store) (f : Files) (ops : List Op) (a b : MemoryState) (kept : Bool) (w : Written) (remains : Remains)
+pub settled : (u : InjectedFault) (member : Member) (m : Store) (f : Files) (ops : List Op) (a b : MemoryState) (kept : Bool) (w : Written) (remains : Remains)
     → Writes u member m f ops a b (Ok kept) → w ≡ written (apply ops m) → remains.kept ≡ then_some kept w
     → ((n : Store) (g : Files) → Settles member n g a b → Rests member n g remains.disks.a remains.disks.b) → Settled u member m f ops remains
 settled u member m f ops a b kept w remains x is some rests = record {
@@ -39,7 +39,7 @@ settled u member m f ops a b kept w remains x is some rests = record {
 }
 
 -- what its reaction writes is kept or lost, or stops the run as it should
-pub ends : (me : Me) (now : ℕ) (m : Store) (s : State) (came : Input) (u : Upset) (member : Member) (f : Files) (r : Reaction) (result : Result Remains WorldStop)
+pub ends : (me : Me) (now : ℕ) (m : Store) (s : State) (came : Input) (u : InjectedFault) (member : Member) (f : Files) (r : Reaction) (result : Result Remains WorldStop)
     → reaction me now m s came ≡ Ok r → EndsWith u member m f r.transaction result → Ends u member m f (reaction me now m s came) result
 unfolding does
 ends me now m s came u member f r (Ok remains) is h = (r, is, h)

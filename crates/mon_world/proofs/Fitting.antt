@@ -12,13 +12,13 @@ use Rattle.mon_wire.specs.declared.request.Request.TheVariants as request
 use Rattle.mon_wire.specs.declared.request.Session.{Session}
 use Rattle.schedule_text.proofs.FieldLaws.{is_utf8-printable}
 use Rattle.schedule_text.specs.Fields.{within}
-use Rattle.schedule_text.specs.Spelling.{event_fits, event_text, most_bytes, plain_fits, plain_text, request_fits, request_text, spaced, upset_text}
+use Rattle.schedule_text.specs.Encoding.{event_fits, event_text, most_bytes, plain_fits, plain_text, request_fits, request_text, spaced, injected_text}
 use Rattle.schedule_text.specs.Words.{printable, side_text}
 use Rattle.schedule_text.specs.declared.event.Event.{Event}
 use Rattle.schedule_text.specs.declared.event.Event.TheVariants as events
 use Rattle.schedule_text.specs.declared.event.Plain.{Plain}
 use Rattle.schedule_text.specs.declared.event.Plain.TheVariants as plain
-use Rattle.mon_world.specs.Stands.{Fits, FitsPlain, FitsUpset}
+use Rattle.mon_world.specs.Represented.{Fits, FitsPlain, FitsInjected}
 
 below : (n k : ℕ) → IsTrue (ltb k n) → k < n
 below n k h = grind (arith, nat_tests)
@@ -65,9 +65,9 @@ plain_may n (plain.Client rank at session asked) h short =
     let d = both (leb session.id (2 ^ 62)) (request_fits asked) c.1 in
     (below n rank a.0, (at_most (2 ^ 62) session.id d.0, may_ask asked d.1 (omega (arith, short, request_within rank at session asked))))
 
-upset_may : (n : ℕ) (word : List ℕ) (disk : Side) (call image : ℕ) (p : Plain) → IsTrue (within 1 1000 call && (leb image 3 && plain_fits n p))
-    → length (spaced word (upset_text disk call image p)) ≤ most_bytes → FitsUpset n call image p
-upset_may n word disk call image p form short =
+injected_may : (n : ℕ) (word : List ℕ) (disk : Side) (call image : ℕ) (p : Plain) → IsTrue (within 1 1000 call && (leb image 3 && plain_fits n p))
+    → length (spaced word (injected_text disk call image p)) ≤ most_bytes → FitsInjected n call image p
+injected_may n word disk call image p form short =
     let a = both (within 1 1000 call) (leb image 3 && plain_fits n p) form in
     let b = both (leb image 3) (plain_fits n p) a.1 in
     let w = both (leb 1 call) (leb call 1000) a.0 in
@@ -77,10 +77,10 @@ upset_may n word disk call image p form short =
       at_most call 1 w.0,
       at_most 1000 call w.1,
       at_most 3 image b.0,
-      plain_may n p b.1 (omega (arith, short, rest_within (decimal image) d, rest_within (decimal call) c, rest_within (side_text disk) e, rest_within word (upset_text disk call image p))),
+      plain_may n p b.1 (omega (arith, short, rest_within (decimal image) d, rest_within (decimal call) c, rest_within (side_text disk) e, rest_within word (injected_text disk call image p))),
     )
 
 pub line_fits : (n : ℕ) (e : Event) → IsTrue (event_fits n e) → length (event_text e) ≤ most_bytes → Fits n e
 line_fits n (events.Plain p) h short = plain_may n p h short
-line_fits n (events.Crash disk call image p) h short = upset_may n (codes "crash") disk call image p h short
-line_fits n (events.Fail disk call image p) h short = upset_may n (codes "fail") disk call image p h short
+line_fits n (events.Crash disk call image p) h short = injected_may n (codes "crash") disk call image p h short
+line_fits n (events.Fail disk call image p) h short = injected_may n (codes "fail") disk call image p h short

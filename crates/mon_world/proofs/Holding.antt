@@ -19,7 +19,7 @@ use Rattle.mon_world.specs.declared.monitor.Kept.{Kept}
 use Rattle.mon_world.specs.declared.monitor.Kept.TheVariants.{Up}
 use Rattle.mon_world.specs.declared.monitor.Monitor.{Monitor}
 use Rattle.mon_world.specs.declared.monitor.Running.{Running}
-use Rattle.mon_world.specs.Monitor.{Holds, IsUp, Reacts, Stands, StandsAfter, Takes, remembered}
+use Rattle.mon_world.specs.Monitor.{Holds, IsUp, Reacts, Represents, RepresentsAfter, Takes, remembered}
 
 -- the monitor is up, so its core has a state
 pub record IsInUse (me : Me) (m : Store) (s : Option State) (f : Files) (r : Running) : Type 0 where
@@ -38,7 +38,7 @@ pub as_known : (me : Me) (m : Store) (s : State) (f : Files) (kept : Kept) (r : 
 as_known me m s f kept r is h = subst (Holds me m (Some s) f) is h
 
 -- what a monitor keeps, by its own identity
-pub holds_itself : (me : Me) (m : Store) (s : Option State) (f : Files) (monitor : Monitor) → Stands me m s f monitor → Holds monitor.me m s f monitor.kept
+pub holds_itself : (me : Me) (m : Store) (s : Option State) (f : Files) (monitor : Monitor) → Represents me m s f monitor → Holds monitor.me m s f monitor.kept
 holds_itself me m s f monitor stands = subst (λ (me : Me). Holds me m s f monitor.kept) (sym stands.me_is) stands.holds
 
 -- ---- what is taken of it
@@ -60,7 +60,7 @@ same_me a b member rule = λ i. record { member = member i; rule = rule i }
 -- its store is open again, and its core is new
 pub started : (me : Me) (m : Store) (f : Files) (old : Monitor) → old.me ≡ me → old.last ≡ last_of m → (store : kept.Store MemoryState) (boot : Core) → Runs old.me.member m (after_opening f) store
     → boot.me.member ≡ old.me.member → boot.me.rule ≡ old.me.rule → boot.state ≡ booting old.me.member.rank → Follows boot.cache (readings_of m)
-    → Stands me m (Some (booting me.member.rank)) (after_opening f) (record old { kept = Up (record { store = store; core = boot }) })
+    → Represents me m (Some (booting me.member.rank)) (after_opening f) (record old { kept = Up (record { store = store; core = boot }) })
 started me m f old me_is last store boot runs member rule state follows = record {
   me_is = me_is;
   last = last;
@@ -76,6 +76,6 @@ started me m f old me_is last store boot runs member rule state follows = record
 
 -- its field `last` is the last version of its store
 pub stands_after : (me : Me) (now : ℕ) (m : Store) (s : State) (f : Files) (came : Input) (old : Monitor) (r : Running) (reaction : core.Reaction) (last : ℕ) → old.me ≡ me
-    → Reacts me now m s f came r (Ok reaction) → last ≡ last_of r.store.kv → StandsAfter me now m s f came (record old { last = last; kept = Up r }) (Ok reaction)
+    → Reacts me now m s f came r (Ok reaction) → last ≡ last_of r.store.kv → RepresentsAfter me now m s f came (record old { last = last; kept = Up r }) (Ok reaction)
 stands_after me now m s f came old r reaction last me_is h last_is =
     (h.0, h.1, record { me_is = me_is; last = last_is ∙ ap last_of h.2.runs.map; holds = h.2 })

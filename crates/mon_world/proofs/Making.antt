@@ -10,8 +10,8 @@ use Rattle.quorum_model.specs.Files.{no_files}
 use Rattle.quorum_model.specs.Monitors.{Monitors}
 use Rattle.quorum_model.specs.Scenes.{first_scene}
 use Rattle.mon_world.specs.declared.monitor.Monitor.{Monitor}
-use Rattle.mon_world.specs.Monitor.{Stands}
-use Rattle.mon_world.specs.Stands.{EachStands}
+use Rattle.mon_world.specs.Monitor.{Represents}
+use Rattle.mon_world.specs.Represented.{EachRepresents}
 use Rattle.mon_world.proofs.Ranks.{is_of}
 
 -- there is one monitor of a rank, a number and a rule
@@ -22,7 +22,7 @@ same_me a b ranks counts rules =
 
 -- a monitor represents who has that rank
 abbrev pub IsNew : (monitors : ℕ) → Rule → (rank : ℕ) → Monitor → Type 0
-IsNew monitors rule rank monitor = (me : Me) → me.member.rank ≡ rank → me.member.monitors ≡ monitors → me.rule ≡ rule → Stands me empty None no_files monitor
+IsNew monitors rule rank monitor = (me : Me) → me.member.rank ≡ rank → me.member.monitors ≡ monitors → me.rule ≡ rule → Represents me empty None no_files monitor
 
 -- this many were made
 pub record Made (monitors : ℕ) (rule : Rule) (list : List Monitor) (so_many : ℕ) : Type 0 where
@@ -48,7 +48,7 @@ one_made monitors rule list rank monitor made is_new = record {
 }
 
 pub all_made : (ms : Monitors) (monitors : ℕ) (rule : Rule) (list : List Monitor) (n : ℕ) → Made monitors rule list n → ms.count ≡ monitors → ms.rule ≡ rule
-    → EachStands ms list first_scene
+    → EachRepresents ms list first_scene
 all_made ms monitors rule list n made counts rules i me monitor itself found =
     let of_map = is_of ms i me itself in
     made.each i monitor found me of_map.rank_is (of_map.monitors ∙ counts) (of_map.rule ∙ rules)

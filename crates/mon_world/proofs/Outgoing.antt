@@ -14,7 +14,7 @@ use Rattle.trace_text.specs.declared.step.Replied.{Replied}
 use Rattle.mon_world.specs.declared.sending.Envelope.{Envelope}
 use Rattle.mon_world.specs.declared.sending.Gone.{Gone}
 use Rattle.mon_world.specs.Sending.{GoesOut, Sends}
-use Rattle.mon_world.specs.Stands.{envelope_of}
+use Rattle.mon_world.specs.Represented.{envelope_of}
 use Rattle.mon_world.specs.Step.{numbered, replied}
 
 pub numbered-append : (n : ℕ) (xs ys : List model.Envelope) → numbered n (xs ++ ys) ≡ numbered n xs ++ numbered (n + length xs) ys
@@ -70,11 +70,11 @@ last_is all before last found place ends at read =
 pub message_sent : (rank number : ℕ) (to : ℕ) (message copy : Message) (old new : List Envelope) (before after : Gone) → new ≡ old ++ record { to = to; message = message } ∷ [] → copy ≡ message
     → number ≡ length new → after.sent ≡ before.sent ++ record { number = number; to = to; message = copy } ∷ [] → after.replies ≡ before.replies
     → Sends rank (sent.Message to message) old new before after
-message_sent rank number to message copy old new before after pushed copied counted told others =
+message_sent rank number to message copy old new before after pushed copied counted reported others =
     let e : Envelope = record { to = to; message = message } in
     let next : number ≡ suc (length old) = omega (arith, ap length pushed, length-append old (e ∷ [])) in
     record {
       messages = ap (map envelope_of) pushed ∙ map-append envelope_of old (e ∷ []);
-      sent = told ∙ (λ i. before.sent ++ record { number = next i; to = to; message = copied i } ∷ []);
+      sent = reported ∙ (λ i. before.sent ++ record { number = next i; to = to; message = copied i } ∷ []);
       replies = others ∙ sym (append-nil before.replies);
     }

@@ -18,7 +18,7 @@ use Rattle.trace_text.specs.declared.step.StepLine.{StepLine}
 use Rattle.mon_world.specs.declared.stop.WorldStop.{WorldStop}
 use Rattle.mon_world.specs.declared.world.World as code
 use Rattle.mon_world.specs.Events.{scheduled_of}
-use Rattle.mon_world.specs.Stands.{Does, Fits, Leads, StandsFor, StandsForRun, and_event}
+use Rattle.mon_world.specs.Represented.{Does, Fits, Leads, RepresentsScene, RepresentsRun, and_event}
 use Rattle.mon_world.specs.Step.{line_of, step, with_line}
 use Rattle.mon_world.proofs.Coming.{all_spoken, event_spoken}
 
@@ -43,19 +43,19 @@ module _ (ms : Monitors) (there : World) (e : Event) where
   ran_next w next events is none goes = ran_on w events is none ∙ ap (goes_on there (λ next. ran_from ms next [])) goes
 
 -- the world of the next scene is the result of the event
-happened : (line told : StepLine) (files : ℕ → Files) (r : Result World Stop) (next : Scene) → with_line line (with_files files r) ≡ Ok (next, told) → r ≡ Ok next.world
-happened line told files (Ok w) next is =
-    let both : (record { world = w; files = files }, line) ≡ (next, told) = cc in
+happened : (line reported : StepLine) (files : ℕ → Files) (r : Result World Stop) (next : Scene) → with_line line (with_files files r) ≡ Ok (next, reported) → r ≡ Ok next.world
+happened line reported files (Ok w) next is =
+    let both : (record { world = w; files = files }, line) ≡ (next, reported) = cc in
     ap (λ (x : Scene × StepLine). Ok x.0.world) both
-happened line told files (Err stop) next is = absurd cc
+happened line reported files (Err stop) next is = absurd cc
 
 -- ---- the world
 
-pub begins : (ms : Monitors) (world : code.World) → StandsFor ms world first_scene → StandsForRun ms [] world first_scene
+pub begins : (ms : Monitors) (world : code.World) → RepresentsScene ms world first_scene → RepresentsRun ms [] world first_scene
 unfolding ran_from
 begins ms world stands = record { fit = tt; comes_to = refl; goes_on = refl; stands = stands }
 
-module _ (ms : Monitors) (old : code.World) (c : Scene) (events : List Event) (e : schedule.Event) (fits : Fits (length old.monitors.items) e) (s : StandsForRun ms events old c) where
+module _ (ms : Monitors) (old : code.World) (c : Scene) (events : List Event) (e : schedule.Event) (fits : Fits (length old.monitors.items) e) (s : RepresentsRun ms events old c) where
   next_fits : PlainFits ms.count (plain_of (event_in ms c (scheduled_of e)))
   unfolding events_from
   next_fits = (all_fit ms ms.count c (scheduled_of e ∷ []) (event_spoken ms.count e (subst (λ (n : ℕ). Fits n e) s.stands.count fits), tt)).0
@@ -63,11 +63,11 @@ module _ (ms : Monitors) (old : code.World) (c : Scene) (events : List Event) (e
   all_next_fit : AllFit ms.count (and_event ms events c e)
   all_next_fit = all_append (λ (x : Event). PlainFits ms.count (plain_of x)) events (event_in ms c (scheduled_of e) ∷ []) s.fit (next_fits, tt)
 
-  pub goes_further : (result : Result StepLine WorldStop) (new : code.World) → Does ms result new (step ms c e) → Leads (StandsForRun ms (and_event ms events c e) new) result (step ms c e)
+  pub goes_further : (result : Result StepLine WorldStop) (new : code.World) → Does ms result new (step ms c e) → Leads (RepresentsRun ms (and_event ms events c e) new) result (step ms c e)
   goes_further (Ok line) new does =
       let met = meets ms c.world (scheduled_of e).plain in
       let event = event_in ms c (scheduled_of e) in
-      let goes = happened (line_of c e met) line (all_files_after c (scheduled_of e).upset met) (happens ms c.world event) does.0 does.1 in
+      let goes = happened (line_of c e met) line (all_files_after c (scheduled_of e).injected met) (happens ms c.world event) does.0 does.1 in
       let ran = ran_next ms c.world event first_world does.0.world events s.comes_to s.goes_on goes in
       (does.0, does.1, record { fit = all_next_fit; comes_to = ap (λ (r : Ran). r.world) ran; goes_on = ap (λ (r : Ran). r.stop) ran; stands = does.2 })
   goes_further (Err stop) new does = does

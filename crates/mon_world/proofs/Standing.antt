@@ -11,10 +11,10 @@ use Rattle.quorum_model.specs.Files.{Files}
 use Rattle.quorum_model.specs.Meets.{state_at}
 use Rattle.quorum_model.specs.Scenes.{files_at}
 use Rattle.trace_text.specs.declared.step.StateLine.{StateLine}
-use Rattle.mon_world.specs.declared.meeting.Turn.{Turn}
+use Rattle.mon_world.specs.declared.meeting.Handled.{Handled}
 use Rattle.mon_world.specs.declared.monitor.Monitor.{Monitor}
 use Rattle.mon_world.specs.declared.stop.WorldStop.{WorldStop}
-use Rattle.mon_world.specs.Meeting.{IsTurn, Meets}
+use Rattle.mon_world.specs.Meeting.{IsHandled, Meets}
 use Rattle.mon_world.specs.Monitor.{does}
 use Rattle.mon_world.specs.Step.{state_before, state_if_up, state_of}
 use Rattle.mon_world.specs.Stops.{Stops}
@@ -51,17 +51,17 @@ is_down m (Some x) line is none = absurd (false≢true (sym none ∙ ap is_some 
 -- ---- it is up, and what comes isn't a start
 
 module _ (me : Me) (now : ℕ) (m : Store) (s : Option State) (f : Files) (line : StateLine) (came : Input) (new : Monitor) (other : came ≢ input.Start) (up : IsUpAt m s line) where
-  pub takes_turn : (t : Turn) → IsTurn me now m up.state f (Some line) came t new → Meets me now m s f came new (Ok (Some t))
-  takes_turn t turn =
+  pub handles_input : (t : Handled) → IsHandled me now m up.state f (Some line) came t new → Meets me now m s f came new (Ok (Some t))
+  handles_input t handled =
       let still = as_it_stands me.member.rank m s f came other in (
         up.state,
         still.state ∙ up.up,
-        subst (λ (f : Files). IsTurn me now m up.state f (state_before m s came) came t new) (sym still.files)
-            (subst (λ (b : Option StateLine). IsTurn me now m up.state f b came t new) (ap Some up.line_is ∙ sym (ap (state_if_up m) up.up) ∙ sym still.before) turn),
+        subst (λ (f : Files). IsHandled me now m up.state f (state_before m s came) came t new) (sym still.files)
+            (subst (λ (b : Option StateLine). IsHandled me now m up.state f b came t new) (ap Some up.line_is ∙ sym (ap (state_if_up m) up.up) ∙ sym still.before) handled),
       )
 
-  pub stops_turn : (e : WorldStop) → Stops e (does me now m up.state came) → Meets me now m s f came new (Err e)
-  stops_turn e stops =
+  pub stops_input : (e : WorldStop) → Stops e (does me now m up.state came) → Meets me now m s f came new (Err e)
+  stops_input e stops =
       let still = as_it_stands me.member.rank m s f came other in (up.state, still.state ∙ up.up, stops)
 
 -- ---- it starts or is up

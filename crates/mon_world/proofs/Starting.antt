@@ -5,7 +5,7 @@ use Rattle.std.specs.List.{list_any}
 use Rattle.election_rules.specs.Ranking.{allows}
 use Rattle.mon_bytes.specs.declared.entry.Entry.{Entry}
 use Rattle.mon_msg.specs.Joined.{joined, joined_onto, joined_with, or_here, or_last, puts, replaced, takes_away}
-use Rattle.mon_msg.specs.Protocol.Changes.{Change, Boot, Epoch, Last, Numbers, Vote, spelled}
+use Rattle.mon_msg.specs.Protocol.Changes.{Change, Boot, Epoch, Last, Numbers, Vote, encoded}
 use Rattle.mon_msg.specs.Protocol.Collecting.{begin_found, collect, collect_with, reign, settle}
 use Rattle.mon_msg.specs.Protocol.Course.{Course, ◌▸◌, change, change_all, forget_clients, in_phase, prober_is}
 use Rattle.mon_msg.specs.Protocol.Entering.{bootstrap, next_even, win_alone}
@@ -33,7 +33,7 @@ use Rattle.mon_types.specs.Proposal.{next_number}
 use Rattle.mon_types.specs.declared.names.Which.{Which}
 use Rattle.mon_types.specs.declared.names.Which.TheVariants as which
 use Rattle.mon_wire.specs.declared.phase.Phase.TheVariants as phase
-use Rattle.quorum_model.specs.Upsets.{writes_nothing}
+use Rattle.quorum_model.specs.InjectedFaults.{writes_nothing}
 use Rattle.quorum_walk.proofs.Walk.{Then, and_then, by_test, done, where_fits}
 
 -- ---- a joined transaction of some changes isn't empty
@@ -151,11 +151,11 @@ module _ (me : Me) (now : ℕ) where
   unfolding react
   begins_so shared w s booting = rw booting refl
 
-  writes : (x : Course) → Counts x → is_empty (joined (spelled x.changes)) ≡ false
+  writes : (x : Course) → Counts x → is_empty (joined (encoded x.changes)) ≡ false
   unfolding joined
   writes x s =
-      ap (λ (cs : List Change). is_empty (joined (spelled cs))) s.is
-      ∙ joined_onto_some (put_number area.Monitor key.BootCount s.boot ∷ []) (spelled s.more) refl
+      ap (λ (cs : List Change). is_empty (joined (encoded cs))) s.is
+      ∙ joined_onto_some (put_number area.Monitor key.BootCount s.boot ∷ []) (encoded s.more) refl
 
   wrote : (x : Result Course Which) → Then Counts x → writes_nothing (any_reaction x) ≡ false
   wrote (Ok x) h = writes x h.holds

@@ -18,9 +18,9 @@ use Rattle.quorum_model.specs.Meets.{Down, Meeting, NoMessage, Reacts, meets}
 use Rattle.quorum_model.specs.Monitors.{Monitors}
 use Rattle.quorum_model.specs.Runs.{Ran, goes_on, ran_from}
 use Rattle.quorum_model.specs.Scenes.{Scene, all_files_after, event_in, events_from, first_scene, kept_at, while_on, with_files}
-use Rattle.quorum_model.specs.Upsets.{Upset}
+use Rattle.quorum_model.specs.InjectedFaults.{InjectedFault}
 use Rattle.quorum_model.specs.World as model
-use Rattle.quorum_model.specs.World.{Comes, Crash, World}
+use Rattle.quorum_model.specs.World.{Arrives, Crash, World}
 use Rattle.schedule_text.specs.declared.event.Event.{Event}
 use Rattle.schedule_text.specs.declared.event.Event.TheVariants as events
 use Rattle.trace_text.specs.declared.step.Numbered.{Numbered}
@@ -29,8 +29,8 @@ use Rattle.trace_text.specs.declared.step.Outcome.TheVariants as outcome
 use Rattle.trace_text.specs.declared.step.Replied.{Replied}
 use Rattle.trace_text.specs.declared.step.StepLine.{StepLine}
 use Rattle.mon_world.specs.Events.{plain_event, scheduled_of}
-use Rattle.mon_world.specs.Step.{line_of, met_line, numbered, replied, still_line, upset_line, with_line}
-use Rattle.mon_world.specs.Traced.{Traced, TracesRun, as_told, traced_from, traced_on}
+use Rattle.mon_world.specs.Step.{line_of, met_line, numbered, replied, still_line, injected_line, with_line}
+use Rattle.mon_world.specs.Traced.{Traced, TracesRun, as_reported, traced_from, traced_on}
 use Rattle.mon_world.proofs.Outgoing.{numbered-append}
 
 -- ---- the run of a trace
@@ -53,117 +53,117 @@ traces_from ms c [] = refl
 traces_from ms c (e ∷ es) =
     let s = scheduled_of e in
     let met = meets ms c.world s.plain in
-    by ms c es (line_of c e met) (all_files_after c s.upset met) (happens ms c.world (event_in ms c s)) (λ next. traces_from ms next es)
+    by ms c es (line_of c e met) (all_files_after c s.injected met) (happens ms c.world (event_in ms c s)) (λ next. traces_from ms next es)
 
 -- ---- what is reported of one event
 
 -- the line has what was sent between two worlds
-record Tells (old new : World) (line : StepLine) : Type 0 where
-  pub replies : map as_told new.replied ≡ map as_told old.replied ++ line.replies
+record Reports (old new : World) (line : StepLine) : Type 0 where
+  pub replies : map as_reported new.replied ≡ map as_reported old.replied ++ line.replies
   pub messages : numbered 1 new.messages ≡ numbered 1 old.messages ++ line.sent
 
 -- if the event has a world
-abbrev TellsIn : World → StepLine → Result World Stop → Type 0
-TellsIn w line (Ok next) = Tells w next line
-TellsIn w line (Err stop) = Unit {0}
+abbrev ReportsIn : World → StepLine → Result World Stop → Type 0
+ReportsIn w line (Ok next) = Reports w next line
+ReportsIn w line (Err stop) = Unit {0}
 
-replies_told : (event rank : ℕ) (m : Store) (sends : List Sent) → map as_told (replies_of event rank m sends) ≡ replied rank sends
-replies_told event rank m [] = refl
-replies_told event rank m (sent.Message to x ∷ sends) = replies_told event rank m sends
-replies_told event rank m (sent.Reply to r ∷ sends) =
-    ap (λ (others : List Replied). record { rank = rank; session = to; reply = r } ∷ others) (replies_told event rank m sends)
+replies_reported : (event rank : ℕ) (m : Store) (sends : List Sent) → map as_reported (replies_of event rank m sends) ≡ replied rank sends
+replies_reported event rank m [] = refl
+replies_reported event rank m (sent.Message to x ∷ sends) = replies_reported event rank m sends
+replies_reported event rank m (sent.Reply to r ∷ sends) =
+    ap (λ (others : List Replied). record { rank = rank; session = to; reply = r } ∷ others) (replies_reported event rank m sends)
 
 -- nothing went out, and nothing is reported
-still : (old new : World) (how : Outcome) → new.replied ≡ old.replied → new.messages ≡ old.messages → Tells old new (still_line how)
+still : (old new : World) (how : Outcome) → new.replied ≡ old.replied → new.messages ≡ old.messages → Reports old new (still_line how)
 still old new how replies messages = record {
-  replies = ap (map as_told) replies ∙ sym (append-nil (map as_told old.replied));
+  replies = ap (map as_reported) replies ∙ sym (append-nil (map as_reported old.replied));
   messages = ap (numbered 1) messages ∙ sym (append-nil (numbered 1 old.messages));
 }
 
 module _ (w : World) (p : model.Plain) where
-  not_there : (how : Outcome) → Tells w (unmoved w p) (still_line how)
+  not_there : (how : Outcome) → Reports w (unmoved w p) (still_line how)
   unfolding unmoved
   not_there how = still w (unmoved w p) how refl refl
 
-  goes_down : (i : ℕ) (how : Outcome) → Tells w (lost w p i) (still_line how)
+  goes_down : (i : ℕ) (how : Outcome) → Reports w (lost w p i) (still_line how)
   unfolding lost
   goes_down i how = still w (lost w p i) how refl refl
 
-  keeps : (i : ℕ) (r : Reaction) (how : Outcome) → Tells w (kept_only w p i r) (still_line how)
+  keeps : (i : ℕ) (r : Reaction) (how : Outcome) → Reports w (kept_only w p i r) (still_line how)
   unfolding kept_only
   keeps i r how = still w (kept_only w p i r) how refl refl
 
-  moves : (i : ℕ) (r : Reaction) (line : StepLine) → line.replies ≡ replied i r.sends → line.sent ≡ numbered (suc (length w.messages)) (messages_of r.sends) → Tells w (moved w p i r) line
+  moves : (i : ℕ) (r : Reaction) (line : StepLine) → line.replies ≡ replied i r.sends → line.sent ≡ numbered (suc (length w.messages)) (messages_of r.sends) → Reports w (moved w p i r) line
   unfolding moved
   moves i r line replies sent =
       let new = replies_of (suc w.events) i (map_after w i r) r.sends in
       let next : 1 + length w.messages ≡ suc (length w.messages) = omega arith in
       record {
-        replies = map-append as_told w.replied new ∙ ap (λ (told : List Replied). map as_told w.replied ++ told) (replies_told (suc w.events) i (map_after w i r) r.sends ∙ sym replies);
-        messages = numbered-append 1 w.messages (messages_of r.sends) ∙ ap (λ (n : ℕ). numbered 1 w.messages ++ numbered n (messages_of r.sends)) next ∙ ap (λ (told : List Numbered). numbered 1 w.messages ++ told) (sym sent);
+        replies = map-append as_reported w.replied new ∙ ap (λ (reported : List Replied). map as_reported w.replied ++ reported) (replies_reported (suc w.events) i (map_after w i r) r.sends ∙ sym replies);
+        messages = numbered-append 1 w.messages (messages_of r.sends) ∙ ap (λ (n : ℕ). numbered 1 w.messages ++ numbered n (messages_of r.sends)) next ∙ ap (λ (reported : List Numbered). numbered 1 w.messages ++ reported) (sym sent);
       }
 
   -- a reaction that doesn't stop the run
-  unless_full : (m : Store) (next : Reaction → World) (r : Reaction) (line : StepLine) → Tells w (next r) line → TellsIn w line (in_world next (unless_stopped m (Ok r)))
-  unless_full m next r line tells =
-      cond_both (nat_lt most_size (size_of (apply r.transaction m))) (Err (Full (size_of (apply r.transaction m)))) (Ok r) (λ (x : Result Reaction Stop). TellsIn w line (in_world next x)) (λ _. tt) (λ _. tells)
+  unless_full : (m : Store) (next : Reaction → World) (r : Reaction) (line : StepLine) → Reports w (next r) line → ReportsIn w line (in_world next (unless_stopped m (Ok r)))
+  unless_full m next r line reports =
+      cond_both (nat_lt most_size (size_of (apply r.transaction m))) (Err (Full (size_of (apply r.transaction m)))) (Ok r) (λ (x : Result Reaction Stop). ReportsIn w line (in_world next x)) (λ _. tt) (λ _. reports)
 
-  comes : (met : Meeting) → TellsIn w (met_line w met) (after_meeting w (Comes p) met)
+  comes : (met : Meeting) → ReportsIn w (met_line w met) (after_meeting w (Arrives p) met)
   comes (Reacts i came (Ok r)) = unless_full (w.store i) (moved w p i) r (met_line w (Reacts i came (Ok r))) (moves i r (met_line w (Reacts i came (Ok r))) refl refl)
   comes (Reacts i came (Err which)) = tt
   comes NoMessage = not_there outcome.NoMessage
   comes Down = not_there outcome.Down
 
-  crashes : (kept : Bool) (i : ℕ) (came : Input) (how : Bool → Outcome) (r : Result Reaction Which) → TellsIn w (still_line (how kept)) (after_meeting w (Crash p kept) (Reacts i came r))
+  crashes : (kept : Bool) (i : ℕ) (came : Input) (how : Bool → Outcome) (r : Result Reaction Which) → ReportsIn w (still_line (how kept)) (after_meeting w (Crash p kept) (Reacts i came r))
   crashes true i came how (Ok r) = unless_full (w.store i) (kept_only w p i) r (still_line (how true)) (keeps i r (how true))
   crashes true i came how (Err which) = tt
   crashes false i came how r = goes_down i (how false)
 
-module _ (c : Scene) (p : model.Plain) (u : Upset) (how : Bool → Outcome) where
-  faulted : (met : Meeting) → TellsIn c.world (upset_line c u how met) (after_meeting c.world (Crash p (kept_at c u met)) met)
+module _ (c : Scene) (p : model.Plain) (u : InjectedFault) (how : Bool → Outcome) where
+  faulted : (met : Meeting) → ReportsIn c.world (injected_line c u how met) (after_meeting c.world (Crash p (kept_at c u met)) met)
   faulted (Reacts i came r) = crashes c.world p (kept_at c u (Reacts i came r)) i came how r
   faulted NoMessage = not_there c.world p outcome.NoMessage
   faulted Down = not_there c.world p outcome.Down
 
-tells_event : (ms : Monitors) (c : Scene) (e : Event) → TellsIn c.world (line_of c e (meets ms c.world (scheduled_of e).plain)) (happens ms c.world (event_in ms c (scheduled_of e)))
-tells_event ms c (events.Plain p) = comes c.world (plain_event p) (meets ms c.world (plain_event p))
-tells_event ms c (events.Crash disk call image p) = faulted c (plain_event p) (record { disk = disk; call = call; image = image }) outcome.Crashed (meets ms c.world (plain_event p))
-tells_event ms c (events.Fail disk call image p) = faulted c (plain_event p) (record { disk = disk; call = call; image = image }) outcome.Failed (meets ms c.world (plain_event p))
+reports_event : (ms : Monitors) (c : Scene) (e : Event) → ReportsIn c.world (line_of c e (meets ms c.world (scheduled_of e).plain)) (happens ms c.world (event_in ms c (scheduled_of e)))
+reports_event ms c (events.Plain p) = comes c.world (plain_event p) (meets ms c.world (plain_event p))
+reports_event ms c (events.Crash disk call image p) = faulted c (plain_event p) (record { disk = disk; call = call; image = image }) outcome.Crashed (meets ms c.world (plain_event p))
+reports_event ms c (events.Fail disk call image p) = faulted c (plain_event p) (record { disk = disk; call = call; image = image }) outcome.Failed (meets ms c.world (plain_event p))
 
 -- ---- what is reported of a run
 
-record AllTold (c : Scene) (t : Traced) : Type 0 where
-  pub replies : map as_told t.scene.world.replied ≡ map as_told c.world.replied ++ flat_map (λ (l : StepLine). l.replies) t.lines
+record AllReported (c : Scene) (t : Traced) : Type 0 where
+  pub replies : map as_reported t.scene.world.replied ≡ map as_reported c.world.replied ++ flat_map (λ (l : StepLine). l.replies) t.lines
   pub messages : numbered 1 t.scene.world.messages ≡ numbered 1 c.world.messages ++ flat_map (λ (l : StepLine). l.sent) t.lines
 
-and_then : (ms : Monitors) (c : Scene) (es : List Event) (line : StepLine) (files : ℕ → Files) (r : Result World Stop) → TellsIn c.world line r → ((next : Scene) → AllTold next (traced_from ms next es))
-    → AllTold c (traced_on c (λ next. traced_from ms next es) (with_line line (with_files files r)))
-and_then ms c es line files (Ok w) tells others =
+and_then : (ms : Monitors) (c : Scene) (es : List Event) (line : StepLine) (files : ℕ → Files) (r : Result World Stop) → ReportsIn c.world line r → ((next : Scene) → AllReported next (traced_from ms next es))
+    → AllReported c (traced_on c (λ next. traced_from ms next es) (with_line line (with_files files r)))
+and_then ms c es line files (Ok w) reports others =
     let next : Scene = record { world = w; files = files } in
-    let told = others next in
+    let reported = others next in
     let replies = flat_map (λ (l : StepLine). l.replies) (traced_from ms next es).lines in
     let messages = flat_map (λ (l : StepLine). l.sent) (traced_from ms next es).lines in
     record {
-      replies = told.replies ∙ ap (λ (before : List Replied). before ++ replies) tells.replies ∙ append_assoc (map as_told c.world.replied) line.replies replies;
-      messages = told.messages ∙ ap (λ (before : List Numbered). before ++ messages) tells.messages ∙ append_assoc (numbered 1 c.world.messages) line.sent messages;
+      replies = reported.replies ∙ ap (λ (before : List Replied). before ++ replies) reports.replies ∙ append_assoc (map as_reported c.world.replied) line.replies replies;
+      messages = reported.messages ∙ ap (λ (before : List Numbered). before ++ messages) reports.messages ∙ append_assoc (numbered 1 c.world.messages) line.sent messages;
     }
-and_then ms c es line files (Err stop) tells others = record { replies = sym (append-nil (map as_told c.world.replied)); messages = sym (append-nil (numbered 1 c.world.messages)) }
+and_then ms c es line files (Err stop) reports others = record { replies = sym (append-nil (map as_reported c.world.replied)); messages = sym (append-nil (numbered 1 c.world.messages)) }
 
-told_from : (ms : Monitors) (c : Scene) (es : List Event) → AllTold c (traced_from ms c es)
+reported_from : (ms : Monitors) (c : Scene) (es : List Event) → AllReported c (traced_from ms c es)
 unfolding traced_from
-told_from ms c [] = record { replies = sym (append-nil (map as_told c.world.replied)); messages = sym (append-nil (numbered 1 c.world.messages)) }
-told_from ms c (e ∷ es) =
+reported_from ms c [] = record { replies = sym (append-nil (map as_reported c.world.replied)); messages = sym (append-nil (numbered 1 c.world.messages)) }
+reported_from ms c (e ∷ es) =
     let s = scheduled_of e in
     let met = meets ms c.world s.plain in
-    and_then ms c es (line_of c e met) (all_files_after c s.upset met) (happens ms c.world (event_in ms c s)) (tells_event ms c e) (λ next. told_from ms next es)
+    and_then ms c es (line_of c e met) (all_files_after c s.injected met) (happens ms c.world (event_in ms c s)) (reports_event ms c e) (λ next. reported_from ms next es)
 
 pub traces_run : (ms : Monitors) (es : List Event) → TracesRun ms es
 traces_run ms es =
     let is = traces_from ms first_scene es in
-    let told = told_from ms first_scene es in
+    let reported = reported_from ms first_scene es in
     record {
       world = ap (λ (r : Ran). r.world) is;
       stop = ap (λ (r : Ran). r.stop) is;
-      replies = sym told.replies ∙ ap (λ (r : Ran). map as_told r.world.replied) is;
-      messages = sym told.messages ∙ ap (λ (r : Ran). numbered 1 r.world.messages) is;
+      replies = sym reported.replies ∙ ap (λ (r : Ran). map as_reported r.world.replied) is;
+      messages = sym reported.messages ∙ ap (λ (r : Ran). numbered 1 r.world.messages) is;
     }

@@ -15,8 +15,8 @@ plain_event (plain.Client rank at session request) = model.Client rank at sessio
 
 -- a crash and a fault of a disk are one to the model: the disk fails, and the monitor is down
 abbrev pub scheduled_of : schedule.Event → Scheduled
-scheduled_of (events.Plain p) = record { plain = plain_event p; upset = None }
+scheduled_of (events.Plain p) = record { plain = plain_event p; injected = None }
 scheduled_of (events.Crash disk call image p) =
-    record { plain = plain_event p; upset = Some (record { disk = disk; call = call; image = image }) }
+    record { plain = plain_event p; injected = Some (record { disk = disk; call = call; image = image }) }
 scheduled_of (events.Fail disk call image p) =
-    record { plain = plain_event p; upset = Some (record { disk = disk; call = call; image = image }) }
+    record { plain = plain_event p; injected = Some (record { disk = disk; call = call; image = image }) }

@@ -1,11 +1,11 @@
 pub mod Events
 pub mod Stops
 pub mod Monitor
-pub mod Moments
+pub mod Times
 pub mod Crashes
 pub mod Step
 pub mod Meeting
-pub mod Stands
+pub mod Represented
 pub mod Sending
-pub mod Telling
+pub mod Reporting
 pub mod Traced

@@ -2,7 +2,7 @@
 use Rattle.std.specs.Prelude.{◌≡◌, ℕ, ◌≤◌, List, length, Option, Some, None, Result, Ok, Err}
 use Rattle.std.specs.List.{AllByRecursion}
 use Rattle.mon_bounds.specs.Fitting.{MaySend}
-use Rattle.mon_core.specs.Reacts.{TellsNamed}
+use Rattle.mon_core.specs.Reacts.{SendsNamed}
 use Rattle.mon_core.specs.declared.reaction.Reaction as core
 use Rattle.mon_disk.specs.MemoryDisk.{MemoryState}
 use Rattle.mon_kv.specs.Readers.{size_of, most_size}
@@ -52,21 +52,21 @@ abbrev pub IsHeld : Me → Kept → Type 0
 IsHeld me kept = (m : Store) × (s : Option State) × (f : Files) × Holds me m s f kept
 
 -- A monitor represents a map, the state of its core if it is up, and files.
-pub record Stands (me : Me) (m : Store) (s : Option State) (f : Files) (monitor : Monitor) : Type 0 where
+pub record Represents (me : Me) (m : Store) (s : Option State) (f : Files) (monitor : Monitor) : Type 0 where
   pub me_is : monitor.me ≡ me
   pub last : monitor.last ≡ last_of m
   pub holds : Holds me m s f monitor.kept
 
 -- for something
-abbrev pub Standing : Monitor → Type 0
-Standing monitor = (me : Me) × (m : Store) × (s : Option State) × (f : Files) × Stands me m s f monitor
+abbrev pub RepresentsSome : Monitor → Type 0
+RepresentsSome monitor = (me : Me) × (m : Store) × (s : Option State) × (f : Files) × Represents me m s f monitor
 
 -- of monitors that are up
 abbrev pub IsRunning : Running → Type 0
 IsRunning r = (me : Me) × (m : Store) × (s : State) × (f : Files) × IsUp me m s f r
 
-abbrev pub StandingUp : Monitor → Type 0
-StandingUp monitor = (me : Me) × (m : Store) × (s : State) × (f : Files) × Stands me m (Some s) f monitor
+abbrev pub RepresentsRunning : Monitor → Type 0
+RepresentsRunning monitor = (me : Me) × (m : Store) × (s : State) × (f : Files) × Represents me m (Some s) f monitor
 
 -- a store that is in use
 abbrev pub InUse : kept.Store MemoryState → Type 0
@@ -106,7 +106,7 @@ pub record IsDone (me : Me) (now : ℕ) (m : Store) (s : State) (came : Input) (
   pub does_so : does me now m s came ≡ Ok (record { transaction = r.tx; sends = r.out; state = state })
   pub short : length (text r.tx) ≤ most
   pub may_go : AllByRecursion (MaySend me) r.out
-  pub named : AllByRecursion TellsNamed r.out
+  pub named : AllByRecursion SendsNamed r.out
 
 -- a monitor that is up reacted so and its transaction is kept, or the run stops as the model's
 abbrev pub Reacts : Me → (now : ℕ) → Store → State → Files → Input → Running → Result core.Reaction WorldStop → Type 0
@@ -115,9 +115,9 @@ Reacts me now m s f came new (Ok r) =
     × IsUp me (apply r.tx m) state (files_kept m f r.tx) new
 Reacts me now m s f came new (Err e) = Stops e (does me now m s came)
 
-abbrev pub StandsAfter : Me → (now : ℕ) → Store → State → Files → Input → Monitor →
+abbrev pub RepresentsAfter : Me → (now : ℕ) → Store → State → Files → Input → Monitor →
     Result core.Reaction WorldStop → Type 0
-StandsAfter me now m s f came new (Ok r) =
+RepresentsAfter me now m s f came new (Ok r) =
     (state : State) × IsDone me now m s came state r
-    × Stands me (apply r.tx m) (Some state) (files_kept m f r.tx) new
-StandsAfter me now m s f came new (Err e) = Stops e (does me now m s came)
+    × Represents me (apply r.tx m) (Some state) (files_kept m f r.tx) new
+RepresentsAfter me now m s f came new (Err e) = Stops e (does me now m s came)

@@ -4,7 +4,7 @@ use Rattle.mon_msg.specs.declared.plan.Sent.{Sent}
 use Rattle.quorum_model.specs.Clients.{messages_of}
 use Rattle.mon_world.specs.declared.sending.Envelope.{Envelope}
 use Rattle.mon_world.specs.declared.sending.Gone.{Gone}
-use Rattle.mon_world.specs.Stands.{envelope_of}
+use Rattle.mon_world.specs.Represented.{envelope_of}
 use Rattle.mon_world.specs.Step.{numbered, replied}
 
 -- the messages, numbered from this one on, and the replies

@@ -17,7 +17,7 @@ use Rattle.quorum_model.specs.Happens.{Stop, map_after}
 use Rattle.quorum_model.specs.Meets.{Meeting, NoMessage, Reacts, meets}
 use Rattle.quorum_model.specs.Monitors.{Monitors}
 use Rattle.quorum_model.specs.Scenes.{Scene, kept_at, scene_after}
-use Rattle.quorum_model.specs.Upsets.{Upset}
+use Rattle.quorum_model.specs.InjectedFaults.{InjectedFault}
 use Rattle.quorum_model.specs.World.{World, Envelope}
 use Rattle.schedule_text.specs.declared.event.Event as schedule
 use Rattle.schedule_text.specs.declared.event.Event.TheVariants as events
@@ -35,9 +35,9 @@ abbrev pub same_state : StateLine → StateLine → Bool
 same_state a b = same_phase a.phase b.phase && (a.epoch == b.epoch && a.last == b.last)
 
 -- the state is reported after a start, and if it changed
-abbrev pub told : Option StateLine → StateLine → Option StateLine
-told None now = Some now
-told (Some before) now = if same_state before now then None else Some now
+abbrev pub reported : Option StateLine → StateLine → Option StateLine
+reported None now = Some now
+reported (Some before) now = if same_state before now then None else Some now
 
 abbrev pub state_if_up : Store → Option State → Option StateLine
 state_if_up m None = None
@@ -67,7 +67,7 @@ abbrev pub ran_line : World → ℕ → Input → Reaction → StepLine
 ran_line w rank came r = record {
   outcome = outcome.Ran;
   ops = length r.transaction;
-  state = told (state_before (w.store rank) (w.state rank) came) (state_of (map_after w rank r) r.state);
+  state = reported (state_before (w.store rank) (w.state rank) came) (state_of (map_after w rank r) r.state);
   sent = numbered (suc (length w.messages)) (messages_of r.sends);
   replies = replied rank r.sends;
 }
@@ -89,16 +89,16 @@ with_line line (Err stop) = Err stop
 -- ---- with crashes
 
 -- the lines of an event in which a disk of its monitor fails: nothing is sent, and what it writes is kept or lost
-abbrev pub upset_line : Scene → Upset → (Bool → Outcome) → Meeting → StepLine
-upset_line c u how (Reacts rank came result) = still_line (how (kept_at c u (Reacts rank came result)))
-upset_line c u how other = met_line c.world other
+abbrev pub injected_line : Scene → InjectedFault → (Bool → Outcome) → Meeting → StepLine
+injected_line c u how (Reacts rank came result) = still_line (how (kept_at c u (Reacts rank came result)))
+injected_line c u how other = met_line c.world other
 
 abbrev pub line_of : Scene → schedule.Event → Meeting → StepLine
 line_of c (events.Plain p) met = met_line c.world met
 line_of c (events.Crash disk call image p) met =
-    upset_line c (record { disk = disk; call = call; image = image }) outcome.Crashed met
+    injected_line c (record { disk = disk; call = call; image = image }) outcome.Crashed met
 line_of c (events.Fail disk call image p) met =
-    upset_line c (record { disk = disk; call = call; image = image }) outcome.Failed met
+    injected_line c (record { disk = disk; call = call; image = image }) outcome.Failed met
 
 -- the scene after an event of a schedule, with its lines, or what stops the run before it
 abbrev pub step : Monitors → Scene → schedule.Event → Result (Scene × StepLine) Stop

@@ -19,11 +19,11 @@ pub record Traced : Type 0 where
   pub stop : Option Stop
 
 -- the trace that begins with this line and then continues with that trace
-abbrev pub told_first : StepLine → Traced → Traced
-told_first line t = record { lines = line ∷ t.lines; scene = t.scene; stop = t.stop }
+abbrev pub reported_first : StepLine → Traced → Traced
+reported_first line t = record { lines = line ∷ t.lines; scene = t.scene; stop = t.stop }
 
 abbrev pub traced_on : Scene → (Scene → Traced) → Result (Scene × StepLine) Stop → Traced
-traced_on c others (Ok done) = told_first done.1 (others done.0)
+traced_on c others (Ok done) = reported_first done.1 (others done.0)
 traced_on c others (Err stop) = record { lines = []; scene = c; stop = Some stop }
 
 -- each event is reported from the scene that the one before it led to
@@ -35,8 +35,8 @@ abbrev pub traced : Monitors → List Event → Traced
 traced ms es = traced_from ms first_scene es
 
 -- a reply, as a line reports it
-abbrev pub as_told : model.Replied → Replied
-as_told r = record { rank = r.rank; session = r.session; reply = r.reply }
+abbrev pub as_reported : model.Replied → Replied
+as_reported r = record { rank = r.rank; session = r.session; reply = r.reply }
 
 -- The trace is that of the run: it reaches the run's world, what stops the one stops the other, and its lines report each
 -- reply and each message of the run, in order, and no others.
@@ -44,6 +44,6 @@ pub record TracesRun (ms : Monitors) (es : List Event) : Type 0 where
   pub world : (traced ms es).scene.world ≡ run ms (events_of ms (map scheduled_of es))
   pub stop : (traced ms es).stop ≡ (ran ms (events_of ms (map scheduled_of es))).stop
   pub replies : flat_map (λ (l : StepLine). l.replies) (traced ms es).lines ≡
-      map as_told (run ms (events_of ms (map scheduled_of es))).replied
+      map as_reported (run ms (events_of ms (map scheduled_of es))).replied
   pub messages : flat_map (λ (l : StepLine). l.sent) (traced ms es).lines ≡
       numbered 1 (run ms (events_of ms (map scheduled_of es))).messages

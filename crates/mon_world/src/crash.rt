@@ -1,7 +1,7 @@
 //! An event in which a disk of its monitor fails.
 
 ghost use Rattle.std.specs.Prelude.{◌≡◌, ◌≤◌, false, IfOk, length};
-ghost use Rattle.mon_bounds.specs.Fitting.{MayCome};
+ghost use Rattle.mon_bounds.specs.Fitting.{IsValidInput};
 ghost use Rattle.mon_msg.specs.Protocol.Reaction.{reaction};
 ghost use Rattle.mon_msg.specs.Protocol.Readings.{readings_of};
 ghost use Rattle.mon_msg.specs.declared.input.Input.TheVariants.{Start};
@@ -20,7 +20,7 @@ use crate::stop::{WorldStop, stop_of};
 use mon_bytes::OutOfMemory;
 use mon_core::{Core, Input};
 use mon_disk::{MemoryDisk, NodeDisks};
-use mon_site::{Begun, Ended, Upset, finish, open, opening_count, settle_both, upset_one};
+use mon_site::{Begun, Ended, InjectedFault, finish, inject_one, open, opening_count, settle_both};
 use mon_store::Store;
 use mon_stored::Stored;
 use mon_tx::Transaction;
@@ -63,15 +63,16 @@ fn end_with(
     alloc: Global,
     store: Store<MemoryDisk>,
     tx: &Transaction,
-    upset: Upset,
+    injected: InjectedFault,
 ) -> Result<Remains, WorldStop>
-    requires fault { WithFault upset store }
+    requires fault { WithFault injected store }
     requires short { length (text tx.now) ≤ most }
-    ensures { (member : Member) (m : Map) (f : Files) → HasFault upset.disk upset.call upset.image member m f store
-        → EndsWith upset member m f tx.now result }
+    ensures { (member : Member) (m : Map) (f : Files)
+        → HasFault injected.disk injected.call injected.image member m f store
+        → EndsWith injected member m f tx.now result }
 {
     let written = written_by(alloc, &store, tx)?;
-    match finish(store, tx, upset) {
+    match finish(store, tx, injected) {
         Ok(Ended { disks, kept }) => Ok(Remains {
             disks: settle_both(disks)?,
             kept: kept.then_some(written),
@@ -86,33 +87,33 @@ fn end(
     alloc: Global,
     store: Store<MemoryDisk>,
     core: &mut Core,
-    upset: Upset,
+    injected: InjectedFault,
     input: &Input,
     now: Moment,
 ) -> Result<Remains, WorldStop>
-    requires fault { WithFault upset store }
+    requires fault { WithFault injected store }
     requires follows { Follows core.old.cache (readings_of store.kv) }
-    requires comes { MayCome input.now }
-    ensures { (m : Map) (f : Files) → HasFault upset.disk upset.call upset.image core.old.me.member m f store
-        → Ends upset core.old.me.member m f (reaction core.old.me now m core.old.state input.now) result }
+    requires comes { IsValidInput input.now }
+    ensures { (m : Map) (f : Files) → HasFault injected.disk injected.call injected.image core.old.me.member m f store
+        → Ends injected core.old.me.member m f (reaction core.old.me now m core.old.state input.now) result }
 {
     let reaction = core.react(alloc, store.kv(), input, now)?;
-    end_with(alloc, store, &reaction.tx, upset)
+    end_with(alloc, store, &reaction.tx, injected)
 }
 
 /// The fault with its call counted from the first call of the opening. An event counts a start's failing call so, and
 /// that of any other input from the opening's end, after `opening` calls.
-fn counted_from(upset: Upset, input: &Input, opening: u64) -> Upset
-    requires may { MayBe upset }
+fn counted_from(injected: InjectedFault, input: &Input, opening: u64) -> InjectedFault
+    requires may { MayBe injected }
     requires opening { opening ≤ FIRST_OPENING }
-    ensures { result ≡ counted upset input.now opening }
+    ensures { result ≡ counted injected input.now opening }
 {
     match input {
-        Input::Start => upset,
-        Input::Deliver(_) | Input::Timer(_) | Input::Client(..) => Upset {
-            disk: upset.disk,
-            call: upset.call + opening,
-            image: upset.image,
+        Input::Start => injected,
+        Input::Deliver(_) | Input::Timer(_) | Input::Client(..) => InjectedFault {
+            disk: injected.disk,
+            call: injected.call + opening,
+            image: injected.image,
         },
     }
 }
@@ -123,7 +124,7 @@ pub(crate) fn crash(
     member: Member,
     mut disks: NodeDisks<MemoryDisk>,
     core: &mut Core,
-    upset: Upset,
+    injected: InjectedFault,
     input: &Input,
     now: Moment,
 ) -> Result<Remains, WorldStop>
@@ -131,17 +132,17 @@ pub(crate) fn crash(
     requires rests { Rest member disks.a disks.b }
     requires follows { (m : Map) (f : Files) → Rests member m f disks.a disks.b →
         Follows core.old.cache (readings_of m) }
-    requires comes { MayCome input.now }
+    requires comes { IsValidInput input.now }
     requires starts { input.now ≡ Start → core.old.state.phase ≡ Booting }
-    requires may { MayBe upset }
+    requires may { MayBe injected }
     ensures { (m : Map) (f : Files) → Rests member m f disks.a disks.b
-        → Crashes upset member m f input.now (reaction core.old.me now m core.old.state input.now) result }
+        → Crashes injected member m f input.now (reaction core.old.me now m core.old.state input.now) result }
 {
-    let opening = opening_count(&mut disks, upset.disk)?;
-    let from = counted_from(upset, input, opening);
-    match open(alloc, upset_one(disks, from), member, from)? {
+    let opening = opening_count(&mut disks, injected.disk)?;
+    let from = counted_from(injected, input, opening);
+    match open(alloc, inject_one(disks, from), member, from)? {
         Begun::Open(store) => {
-            let behind = Upset {
+            let behind = InjectedFault {
                 disk: from.disk,
                 call: from.call - opening,
                 image: from.image,

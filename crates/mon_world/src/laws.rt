@@ -7,6 +7,6 @@ ghost use Rattle.mon_world.specs.Traced.{TracesRun};
 
 /// After any events of a schedule the trace has reached the world of their run. What stops the one stops the other. Its
 /// lines report each reply and each message of that run, in order, and no others.
-pub fn law_told()
+pub fn law_traced()
     ensures { (ms : Monitors) (events : List Event) → TracesRun ms events }
 {}

@@ -11,6 +11,6 @@ mod sending;
 mod stop;
 mod world;
 
-pub use laws::law_told;
+pub use laws::law_traced;
 pub use stop::WorldStop;
 pub use world::World;

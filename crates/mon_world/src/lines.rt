@@ -1,15 +1,15 @@
 //! What is reported of an event.
 
 ghost use Rattle.std.specs.Prelude.{◌≡◌};
-ghost use Rattle.mon_world.specs.Step.{still_line, told};
+ghost use Rattle.mon_world.specs.Step.{still_line, reported};
 
 use mon_msg::Items;
 use std::alloc::Global;
 use trace_text::{Outcome, Replies, StateLine, StepLine};
 
 /// The state that is reported: `now` after a start or if it differs from `before`, otherwise none.
-pub(crate) fn told(before: Option<StateLine>, now: StateLine) -> Option<StateLine>
-    ensures { result ≡ told before now }
+pub(crate) fn reported(before: Option<StateLine>, now: StateLine) -> Option<StateLine>
+    ensures { result ≡ reported before now }
 {
     let Some(before) = before else {
         return Some(now);

@@ -1,32 +1,32 @@
 //! How a monitor that may be down takes an input.
 
 ghost use Rattle.std.specs.Prelude.{◌≡◌, ◌↔◌, Option, None, Some, IfOk, IsTrue};
-ghost use Rattle.mon_bounds.specs.Fitting.{MayCome};
+ghost use Rattle.mon_bounds.specs.Fitting.{IsValidInput};
 ghost use Rattle.mon_msg.specs.Protocol.State.{State, booting};
 ghost use Rattle.mon_msg.specs.declared.input.Input.TheVariants.{Start};
 ghost use Rattle.mon_msg.specs.declared.view.Me.{Me};
-ghost use Rattle.mon_site.specs.Moments.{OpensEither};
+ghost use Rattle.mon_site.specs.Times.{OpensEither};
 ghost use Rattle.mon_tx.specs.Map.{Store as Map, apply};
 ghost use Rattle.quorum_model.specs.Files.{Files, after_opening};
 ghost use Rattle.mon_world.specs.Crashes.{MayBe};
-ghost use Rattle.mon_world.specs.Meeting.{Meets, MeetsFault, Turns};
-ghost use Rattle.mon_world.specs.Moments.{PassesAt, PassesTurn};
-ghost use Rattle.mon_world.specs.Monitor.{Standing, StandingUp, Stands};
+ghost use Rattle.mon_world.specs.Meeting.{Meets, MeetsFault, Handles};
+ghost use Rattle.mon_world.specs.Times.{PassesAt, PassesHandled};
+ghost use Rattle.mon_world.specs.Monitor.{RepresentsSome, RepresentsRunning, Represents};
 
-use crate::lines::told;
+use crate::lines::reported;
 use crate::monitor::Monitor;
 use crate::stop::WorldStop;
 use mon_core::{Input, Reaction};
-use mon_site::Upset;
+use mon_site::InjectedFault;
 use mon_types::{Moment, Version};
 use trace_text::StateLine;
 
 /// What a monitor did, and what the trace reports of it.
 #[derive(Drop)]
-pub(crate) struct Turn {
+pub(crate) struct Handled {
     pub(crate) reaction: Reaction,
     /// Its new state, if the trace reports it: after a start, or if the state changed.
-    pub(crate) told: Option<StateLine>,
+    pub(crate) reported: Option<StateLine>,
     /// The last committed version of its map then.
     pub(crate) last: Version,
     /// Whether its map is marked then.
@@ -50,18 +50,18 @@ fn is_start(input: &Input) -> bool
 }
 
 /// Lets a monitor that is up take an input. `before` is its state before the event, or `None` if it starts.
-fn take_turn(
+fn handle_input(
     monitor: &mut Monitor,
     before: Option<StateLine>,
     input: &Input,
     at: Moment,
-) -> Result<Turn, WorldStop>
-    requires up { StandingUp monitor.old }
-    requires comes { MayCome input.now }
-    ensures turns { (me : Me) (m : Map) (s : State) (f : Files) → Stands me m (Some s) f monitor.old
-        → Turns me at m s f before input.now monitor.new result }
-    ensures passes { (me : Me) (m : Map) (s : State) (f : Files) → Stands me m (Some s) f monitor.old → IfOk result
-        (λ turn. PassesAt (OpensEither me.member m (apply turn.reaction.tx m)) monitor.old monitor.new) }
+) -> Result<Handled, WorldStop>
+    requires up { RepresentsRunning monitor.old }
+    requires comes { IsValidInput input.now }
+    ensures handles { (me : Me) (m : Map) (s : State) (f : Files) → Represents me m (Some s) f monitor.old
+        → Handles me at m s f before input.now monitor.new result }
+    ensures passes { (me : Me) (m : Map) (s : State) (f : Files) → Represents me m (Some s) f monitor.old → IfOk result
+        (λ handled. PassesAt (OpensEither me.member m (apply handled.reaction.tx m)) monitor.old monitor.new) }
 {
     let reaction = monitor.react(input, at)?;
     let last = monitor.last();
@@ -69,25 +69,25 @@ fn take_turn(
     let Some(now) = monitor.state() else {
         unreachable!()
     };
-    Ok(Turn {
+    Ok(Handled {
         reaction,
-        told: told(before, now),
+        reported: reported(before, now),
         last,
         marked,
     })
 }
 
 /// Opens the store, boots a new core, and lets it react to the start.
-fn start(monitor: &mut Monitor, input: &Input, at: Moment) -> Result<Turn, WorldStop>
-    requires stands { Standing monitor.old }
+fn start(monitor: &mut Monitor, input: &Input, at: Moment) -> Result<Handled, WorldStop>
+    requires stands { RepresentsSome monitor.old }
     requires start { input.now ≡ Start }
-    ensures turns { (me : Me) (m : Map) (s : Option State) (f : Files) → Stands me m s f monitor.old
-        → Turns me at m (booting me.member.rank) (after_opening f) None Start monitor.new result }
-    ensures passes { (me : Me) (m : Map) (s : Option State) (f : Files) → Stands me m s f monitor.old → IfOk result
-        (λ turn. PassesAt (OpensEither me.member m (apply turn.reaction.tx m)) monitor.old monitor.new) }
+    ensures handles { (me : Me) (m : Map) (s : Option State) (f : Files) → Represents me m s f monitor.old
+        → Handles me at m (booting me.member.rank) (after_opening f) None Start monitor.new result }
+    ensures passes { (me : Me) (m : Map) (s : Option State) (f : Files) → Represents me m s f monitor.old → IfOk result
+        (λ handled. PassesAt (OpensEither me.member m (apply handled.reaction.tx m)) monitor.old monitor.new) }
 {
     monitor.start()?;
-    take_turn(monitor, None, input, at)
+    handle_input(monitor, None, input, at)
 }
 
 /// Lets a monitor take an input. Returns `None`, and changes nothing, if it is down and the input isn't a start.
@@ -95,40 +95,40 @@ pub(crate) fn meet(
     monitor: &mut Monitor,
     input: &Input,
     at: Moment,
-) -> Result<Option<Turn>, WorldStop>
-    requires stands { Standing monitor.old }
-    requires comes { MayCome input.now }
-    ensures meets { (me : Me) (m : Map) (s : Option State) (f : Files) → Stands me m s f monitor.old →
+) -> Result<Option<Handled>, WorldStop>
+    requires stands { RepresentsSome monitor.old }
+    requires comes { IsValidInput input.now }
+    ensures meets { (me : Me) (m : Map) (s : Option State) (f : Files) → Represents me m s f monitor.old →
         Meets me at m s f input.now monitor.new result }
-    ensures passes { (me : Me) (m : Map) (s : Option State) (f : Files) → Stands me m s f monitor.old →
-        PassesTurn me.member m result monitor.old monitor.new }
+    ensures passes { (me : Me) (m : Map) (s : Option State) (f : Files) → Represents me m s f monitor.old →
+        PassesHandled me.member m result monitor.old monitor.new }
 {
     if is_start(input) {
         return Ok(Some(start(monitor, input, at)?));
     }
     match monitor.state() {
         None => Ok(None),
-        Some(before) => Ok(Some(take_turn(monitor, Some(before), input, at)?)),
+        Some(before) => Ok(Some(handle_input(monitor, Some(before), input, at)?)),
     }
 }
 
 /// Lets a disk fail while the monitor takes an input. It returns `None` if the monitor is down and doesn't start.
 pub(crate) fn fail_disk(
     monitor: &mut Monitor,
-    upset: Upset,
+    injected: InjectedFault,
     input: &Input,
     at: Moment,
 ) -> Result<Option<Crash>, WorldStop>
-    requires stands { Standing monitor.old }
-    requires comes { MayCome input.now }
-    requires may { MayBe upset }
-    ensures { (me : Me) (m : Map) (s : Option State) (f : Files) → Stands me m s f monitor.old
-        → MeetsFault upset me at m s f input.now monitor.new result }
+    requires stands { RepresentsSome monitor.old }
+    requires comes { IsValidInput input.now }
+    requires may { MayBe injected }
+    ensures { (me : Me) (m : Map) (s : Option State) (f : Files) → Represents me m s f monitor.old
+        → MeetsFault injected me at m s f input.now monitor.new result }
 {
     if !is_start(input) && monitor.state().is_none() {
         return Ok(None);
     }
-    let kept = monitor.crash(upset, input, at)?;
+    let kept = monitor.crash(injected, input, at)?;
     Ok(Some(Crash {
         kept,
         last: monitor.last(),

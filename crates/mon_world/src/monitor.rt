@@ -2,7 +2,7 @@
 
 ghost use Rattle.std.specs.Prelude.{◌≡◌, ◌≤◌, Option, None, Some, IfOk, OnOk, length};
 ghost use Rattle.std.specs.FinMap.{empty};
-ghost use Rattle.mon_bounds.specs.Fitting.{MayCome};
+ghost use Rattle.mon_bounds.specs.Fitting.{IsValidInput};
 ghost use Rattle.mon_kv.specs.Readers.{is_marked};
 ghost use Rattle.mon_msg.specs.Protocol.Reaction.{reaction};
 ghost use Rattle.mon_msg.specs.Protocol.Readings.{Readings};
@@ -10,7 +10,7 @@ ghost use Rattle.mon_msg.specs.Protocol.State.{State, booting};
 ghost use Rattle.mon_msg.specs.declared.view.Me.{Me};
 ghost use Rattle.mon_site.specs.Calm.{Runs};
 ghost use Rattle.mon_site.specs.Faults.{OpensMap, Rests};
-ghost use Rattle.mon_site.specs.Moments.{OpensEither};
+ghost use Rattle.mon_site.specs.Times.{OpensEither};
 ghost use Rattle.mon_store.specs.Whole.{disk_a, disk_b};
 ghost use Rattle.mon_tx.specs.Map.{Store as Map, apply};
 ghost use Rattle.mon_tx.specs.Text.{text, most};
@@ -20,8 +20,8 @@ ghost use Rattle.quorum_model.specs.Growth.{last_of};
 ghost use Rattle.quorum_model.specs.Meets.{state_at};
 ghost use Rattle.svc_core.specs.Cache.{Follows};
 ghost use Rattle.mon_world.specs.Crashes.{Crashes, CrashesDown, MayBe};
-ghost use Rattle.mon_world.specs.Monitor.{Holds, InUse, IsHeld, IsRunning, IsUp, Keeps, Reacts, Standing, StandingUp, Stands, StandsAfter, Takes};
-ghost use Rattle.mon_world.specs.Moments.{Passes, PassesAt, a_of, b_of};
+ghost use Rattle.mon_world.specs.Monitor.{Holds, InUse, IsHeld, IsRunning, IsUp, Keeps, Reacts, RepresentsSome, RepresentsRunning, Represents, RepresentsAfter, Takes};
+ghost use Rattle.mon_world.specs.Times.{Passes, PassesAt, a_of, b_of};
 ghost use Rattle.mon_world.specs.Step.{state_if_up, state_of};
 
 use crate::crash::{Remains, crash};
@@ -31,7 +31,7 @@ use mon_core::{Core, Input, Reaction};
 use mon_disk::{MemoryDisk, NodeDisks};
 use mon_kv::Kv;
 use mon_msg::Me;
-use mon_site::{Upset, apply, close, empty_disks, start};
+use mon_site::{InjectedFault, apply, close, empty_disks, start};
 use mon_store::Store;
 use mon_stored::Stored;
 use mon_tx::Transaction;
@@ -112,20 +112,20 @@ fn crash_within(
     alloc: Global,
     me: &Me,
     kept: &mut Kept,
-    upset: Upset,
+    injected: InjectedFault,
     input: &Input,
     now: Moment,
 ) -> Result<Remains, WorldStop>
     requires held { IsHeld me.now kept.old }
-    requires comes { MayCome input.now }
-    requires may { MayBe upset }
+    requires comes { IsValidInput input.now }
+    requires may { MayBe injected }
     ensures { (m : Map) (s : Option State) (t : State) (f : Files) → Holds me.now m s f kept.old
         → state_at me.now.member.rank s input.now ≡ Some t
-        → Crashes upset me.now.member m f input.now (reaction me.now now m t input.now) result }
+        → Crashes injected me.now.member m f input.now (reaction me.now now m t input.now) result }
 {
     let Taken { disks, core } = take(alloc, me, kept);
     let mut core = core_at(alloc, me, core, input);
-    let remains = crash(alloc, me.member, disks, &mut core, upset, input, now);
+    let remains = crash(alloc, me.member, disks, &mut core, injected, input, now);
     drop(core);
     remains
 }
@@ -164,7 +164,7 @@ impl Running {
     /// Lets the core react to an input, keeps the transaction, and returns the reaction.
     fn react(&mut self, alloc: Global, input: &Input, now: Moment) -> Result<Reaction, WorldStop>
         requires up { IsRunning self.old }
-        requires comes { MayCome input.now }
+        requires comes { IsValidInput input.now }
         ensures reacts { (me : Me) (m : Map) (s : State) (f : Files) → IsUp me m s f self.old →
             Reacts me now m s f input.now self.new result }
         ensures passes { (me : Me) (m : Map) (s : State) (f : Files) → IsUp me m s f self.old → IfOk result
@@ -193,7 +193,7 @@ impl Running {
 impl Monitor {
     /// A monitor that is down, with empty disks. It takes no memory.
     pub(crate) fn new(alloc: Global, me: Me) -> Monitor
-        ensures { Stands me empty None no_files result }
+        ensures { Represents me empty None no_files result }
     {
         Monitor {
             alloc,
@@ -205,8 +205,8 @@ impl Monitor {
 
     /// The state of the monitor, if it is up.
     pub(crate) fn state(&self) -> Option<StateLine>
-        requires { Standing self.now }
-        ensures { (me : Me) (m : Map) (s : Option State) (f : Files) → Stands me m s f self.now →
+        requires { RepresentsSome self.now }
+        ensures { (me : Me) (m : Map) (s : Option State) (f : Files) → Represents me m s f self.now →
             result ≡ state_if_up m s }
     {
         match &self.kept {
@@ -217,15 +217,17 @@ impl Monitor {
 
     /// The last committed version of its map.
     pub(crate) fn last(&self) -> Version
-        ensures { (me : Me) (m : Map) (s : Option State) (f : Files) → Stands me m s f self.now → result ≡ last_of m }
+        ensures { (me : Me) (m : Map) (s : Option State) (f : Files) → Represents me m s f self.now
+            → result ≡ last_of m }
     {
         self.last
     }
 
     /// Whether the map of a monitor that is up is marked: a full synchronization is under way.
     pub(crate) fn is_marked(&self) -> bool
-        requires { StandingUp self.now }
-        ensures { (me : Me) (m : Map) (s : State) (f : Files) → Stands me m (Some s) f self.now → result ≡ is_marked m }
+        requires { RepresentsRunning self.now }
+        ensures { (me : Me) (m : Map) (s : State) (f : Files) → Represents me m (Some s) f self.now
+            → result ≡ is_marked m }
     {
         match &self.kept {
             Kept::Down(_) => unreachable!(),
@@ -235,10 +237,10 @@ impl Monitor {
 
     /// Opens the store on the disks, and boots a new core. All that the store doesn't hold is forgotten.
     pub(crate) fn start(&mut self) -> Result<(), OutOfMemory>
-        requires { Standing self.old }
-        ensures stands { (me : Me) (m : Map) (s : Option State) (f : Files) → Stands me m s f self.old
-            → OnOk result (Stands me m (Some (booting me.member.rank)) (after_opening f) self.new) }
-        ensures passes { (me : Me) (m : Map) (s : Option State) (f : Files) → Stands me m s f self.old
+        requires { RepresentsSome self.old }
+        ensures stands { (me : Me) (m : Map) (s : Option State) (f : Files) → Represents me m s f self.old
+            → OnOk result (Represents me m (Some (booting me.member.rank)) (after_opening f) self.new) }
+        ensures passes { (me : Me) (m : Map) (s : Option State) (f : Files) → Represents me m s f self.old
             → OnOk result (PassesAt (OpensMap me.member m) self.old self.new) }
     {
         let Taken {
@@ -254,11 +256,11 @@ impl Monitor {
 
     /// Lets a monitor that is up react to an input, keeps the transaction, and returns the reaction.
     pub(crate) fn react(&mut self, input: &Input, now: Moment) -> Result<Reaction, WorldStop>
-        requires up { StandingUp self.old }
-        requires comes { MayCome input.now }
-        ensures stands { (me : Me) (m : Map) (s : State) (f : Files) → Stands me m (Some s) f self.old →
-            StandsAfter me now m s f input.now self.new result }
-        ensures passes { (me : Me) (m : Map) (s : State) (f : Files) → Stands me m (Some s) f self.old → IfOk result
+        requires up { RepresentsRunning self.old }
+        requires comes { IsValidInput input.now }
+        ensures stands { (me : Me) (m : Map) (s : State) (f : Files) → Represents me m (Some s) f self.old →
+            RepresentsAfter me now m s f input.now self.new result }
+        ensures passes { (me : Me) (m : Map) (s : State) (f : Files) → Represents me m (Some s) f self.old → IfOk result
             (λ r. PassesAt (OpensEither me.member m (apply r.tx m)) self.old self.new) }
     {
         match &mut self.kept {
@@ -275,22 +277,22 @@ impl Monitor {
     /// if the transaction is kept, and `None` if it is lost.
     pub(crate) fn crash(
         &mut self,
-        upset: Upset,
+        injected: InjectedFault,
         input: &Input,
         now: Moment,
     ) -> Result<Option<bool>, WorldStop>
-        requires stands { Standing self.old }
-        requires comes { MayCome input.now }
-        requires may { MayBe upset }
-        ensures { (me : Me) (m : Map) (s : Option State) (t : State) (f : Files) → Stands me m s f self.old
+        requires stands { RepresentsSome self.old }
+        requires comes { IsValidInput input.now }
+        requires may { MayBe injected }
+        ensures { (me : Me) (m : Map) (s : Option State) (t : State) (f : Files) → Represents me m s f self.old
             → state_at me.member.rank s input.now ≡ Some t
-            → CrashesDown upset me m f input.now (reaction me now m t input.now) self.new result }
+            → CrashesDown injected me m f input.now (reaction me now m t input.now) self.new result }
     {
         let Remains { disks, kept } = crash_within(
             self.alloc,
             &self.me,
             &mut self.kept,
-            upset,
+            injected,
             input,
             now,
         )?;

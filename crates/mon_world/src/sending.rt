@@ -4,7 +4,7 @@ ghost use Rattle.std.specs.Prelude.{◌≡◌, ℕ, suc, ◌≤◌, List, [], �
 ghost use Rattle.mon_msg.specs.declared.plan.Sent.TheVariants.{Message as message_to};
 ghost use Rattle.quorum_model.specs.Clients.{messages_of};
 ghost use Rattle.mon_world.specs.Sending.{GoesOut, Sends};
-ghost use Rattle.mon_world.specs.Stands.{envelope_of};
+ghost use Rattle.mon_world.specs.Represented.{envelope_of};
 
 use mon_bytes::{Items, OutOfMemory};
 use mon_msg::Message;

@@ -3,7 +3,7 @@
 ghost use Rattle.std.specs.Prelude.{◌≡◌, ◌≢◌, ℕ, ◌<◌, ◌≤◌, Bool, List, [], Option, None, Some, IfOk, OnOk, length, map, slice_get};
 ghost use Rattle.std.specs.FinMap.{empty};
 ghost use Rattle.std.specs.Option.{option_map};
-ghost use Rattle.mon_bounds.specs.Fitting.{MayCome};
+ghost use Rattle.mon_bounds.specs.Fitting.{IsValidInput};
 ghost use Rattle.mon_kv.specs.Readers.{is_marked};
 ghost use Rattle.mon_msg.specs.Protocol.State.{State};
 ghost use Rattle.mon_msg.specs.declared.input.Input.TheVariants as input;
@@ -20,17 +20,17 @@ ghost use Rattle.quorum_model.specs.World as model;
 ghost use Rattle.schedule_text.specs.declared.event.Event.TheVariants as events;
 ghost use Rattle.schedule_text.specs.declared.event.Plain.{Plain};
 ghost use Rattle.mon_world.specs.Events.{plain_event};
-ghost use Rattle.mon_world.specs.Crashes.{MayBe, upset_of};
+ghost use Rattle.mon_world.specs.Crashes.{MayBe, injected_of};
 ghost use Rattle.mon_world.specs.Meeting.{Meets, MeetsFault};
-ghost use Rattle.mon_world.specs.Moments.{EachPasses, PassesTurn};
-ghost use Rattle.mon_world.specs.Monitor.{Standing, Stands};
-ghost use Rattle.mon_world.specs.Stands.{Does, DoesUpset, Fits, FitsPlain, IsWorld, Leads, StandsFor, StandsForRun};
-ghost use Rattle.mon_world.specs.Stands.{and_event, arrival_of, envelope_of};
+ghost use Rattle.mon_world.specs.Times.{EachPasses, PassesHandled};
+ghost use Rattle.mon_world.specs.Monitor.{RepresentsSome, Represents};
+ghost use Rattle.mon_world.specs.Represented.{Does, DoesInjected, Fits, FitsPlain, IsWorld, Leads, RepresentsScene, RepresentsRun};
+ghost use Rattle.mon_world.specs.Represented.{and_event, arrival_of, envelope_of};
 ghost use Rattle.mon_world.specs.Step.{log_after, step};
-ghost use Rattle.mon_world.specs.Telling.{Leaves, Tells, faulty_event};
+ghost use Rattle.mon_world.specs.Reporting.{Leaves, Reports, faulty_event};
 
 use crate::lines::still;
-use crate::meeting::{Crash, Turn, fail_disk, meet};
+use crate::meeting::{Crash, Handled, fail_disk, meet};
 use crate::monitor::Monitor;
 use crate::sending::{Envelope, Gone, send};
 use crate::stop::WorldStop;
@@ -38,7 +38,7 @@ use election_rules::Rule;
 use mon_bytes::OutOfMemory;
 use mon_core::{Input, Reaction};
 use mon_msg::Me;
-use mon_site::Upset;
+use mon_site::InjectedFault;
 use mon_types::{Member, Moment, Rank, Side, Version};
 use schedule_text::{Event, Plain};
 use std::alloc::Global;
@@ -70,7 +70,7 @@ enum FaultOutcome {
 
 impl FaultOutcome {
     ghost use Rattle.std.specs.Prelude.{◌≡◌};
-    ghost use Rattle.mon_world.specs.Telling.{outcome_of, stopped_as};
+    ghost use Rattle.mon_world.specs.Reporting.{outcome_of, stopped_as};
 
     /// The outcome that the trace reports.
     fn outcome(self, fault: Fault) -> Outcome
@@ -89,10 +89,10 @@ impl FaultOutcome {
 
 /// The fault that an event injects: the disk, the number of its failing call from 1, and which of four images it
 /// leaves.
-fn upset_at(disk: Side, call: u16, image: u8) -> Upset
+fn injected_at(disk: Side, call: u16, image: u8) -> InjectedFault
     ensures { result ≡ record { disk = disk; call = call; image = image } }
 {
-    Upset {
+    InjectedFault {
         disk,
         call: call as u64,
         image,
@@ -177,20 +177,20 @@ fn meet_at(
     rank: Rank,
     input: &Input,
     at: Moment,
-) -> Result<Option<Turn>, WorldStop>
+) -> Result<Option<Handled>, WorldStop>
     requires within { rank < length monitors.old.items }
-    requires stands { (monitor : Monitor) → slice_get monitors.old.items rank ≡ Some monitor → Standing monitor }
-    requires comes { MayCome input.now }
+    requires stands { (monitor : Monitor) → slice_get monitors.old.items rank ≡ Some monitor → RepresentsSome monitor }
+    requires comes { IsValidInput input.now }
     ensures count { length monitors.new.items ≡ length monitors.old.items }
     ensures others { (i : ℕ) → i ≢ rank → slice_get monitors.new.items i ≡ slice_get monitors.old.items i }
     ensures meets { (old new : Monitor) → slice_get monitors.old.items rank ≡ Some old →
         slice_get monitors.new.items rank ≡ Some new
-        → (me : Me) (m : Map) (s : Option State) (f : Files) → Stands me m s f old →
+        → (me : Me) (m : Map) (s : Option State) (f : Files) → Represents me m s f old →
         Meets me at m s f input.now new result }
     ensures passes { (old new : Monitor) → slice_get monitors.old.items rank ≡ Some old →
         slice_get monitors.new.items rank ≡ Some new
-        → (me : Me) (m : Map) (s : Option State) (f : Files) → Stands me m s f old →
-        PassesTurn me.member m result old new }
+        → (me : Me) (m : Map) (s : Option State) (f : Files) → Represents me m s f old →
+        PassesHandled me.member m result old new }
 {
     meet(&mut monitors[rank.get() as usize], input, at)
 }
@@ -199,22 +199,22 @@ fn meet_at(
 fn fail_disk_at(
     monitors: &mut Vec<Monitor>,
     rank: Rank,
-    upset: Upset,
+    injected: InjectedFault,
     input: &Input,
     at: Moment,
 ) -> Result<Option<Crash>, WorldStop>
     requires within { rank < length monitors.old.items }
-    requires stands { (monitor : Monitor) → slice_get monitors.old.items rank ≡ Some monitor → Standing monitor }
-    requires comes { MayCome input.now }
-    requires may { MayBe upset }
+    requires stands { (monitor : Monitor) → slice_get monitors.old.items rank ≡ Some monitor → RepresentsSome monitor }
+    requires comes { IsValidInput input.now }
+    requires may { MayBe injected }
     ensures count { length monitors.new.items ≡ length monitors.old.items }
     ensures others { (i : ℕ) → i ≢ rank → slice_get monitors.new.items i ≡ slice_get monitors.old.items i }
     ensures meets { (old new : Monitor) → slice_get monitors.old.items rank ≡ Some old →
         slice_get monitors.new.items rank ≡ Some new
-        → (me : Me) (m : Map) (s : Option State) (f : Files) → Stands me m s f old →
-        MeetsFault upset me at m s f input.now new result }
+        → (me : Me) (m : Map) (s : Option State) (f : Files) → Represents me m s f old →
+        MeetsFault injected me at m s f input.now new result }
 {
-    fail_disk(&mut monitors[rank.get() as usize], upset, input, at)
+    fail_disk(&mut monitors[rank.get() as usize], injected, input, at)
 }
 
 /// A monitor of a map, which is down, with empty disks.
@@ -222,7 +222,7 @@ fn down(alloc: Global, rank: u8, monitors: u8, rule: &Rule) -> Monitor
     requires in_map { rank < monitors }
     requires most { monitors ≤ 15 }
     ensures { (me : Me) → me.member.rank ≡ rank → me.member.monitors ≡ monitors → me.rule ≡ rule.now →
-        Stands me empty None no_files result }
+        Represents me empty None no_files result }
 {
     let member = Member {
         rank: Rank::known(rank),
@@ -242,7 +242,7 @@ impl World {
     pub fn new(alloc: Global, monitors: u8, rule: Rule) -> Result<World, OutOfMemory>
         requires { monitors ≤ 15 }
         ensures { (ms : Monitors) → ms.count ≡ monitors → ms.rule ≡ rule →
-            IfOk result (λ world. StandsForRun ms [] world first_scene) }
+            IfOk result (λ world. RepresentsRun ms [] world first_scene) }
     {
         let mut list = Vec::new(alloc);
         for rank in 0..monitors {
@@ -266,29 +266,29 @@ impl World {
     /// The last committed version of a monitor's map, and 0 if there is none. The rank has to be a monitor's.
     pub fn last_of(&self, rank: Rank) -> Version
         requires { rank < length self.now.monitors.items }
-        ensures { (ms : Monitors) (c : Scene) → StandsFor ms self.now c → result ≡ last_of (c.world.store rank) }
+        ensures { (ms : Monitors) (c : Scene) → RepresentsScene ms self.now c → result ≡ last_of (c.world.store rank) }
     {
         self.monitors[rank.get() as usize].last()
     }
 
     /// Records the log's new length, sends what the monitor of a rank sent, and returns the trace lines.
-    fn tell(&mut self, rank: Rank, turn: Turn) -> Result<StepLine, OutOfMemory>
-        requires { length (text turn.reaction.tx) ≤ most }
-        ensures { IfOk result (λ line. Tells rank turn self.old self.new line) }
+    fn report(&mut self, rank: Rank, handled: Handled) -> Result<StepLine, OutOfMemory>
+        requires { length (text handled.reaction.tx) ≤ most }
+        ensures { IfOk result (λ line. Reports rank handled self.old self.new line) }
     {
-        let Turn {
+        let Handled {
             reaction,
-            told,
+            reported,
             last,
             marked,
-        } = turn;
+        } = handled;
         let Reaction { tx, out } = reaction;
         self.log = grown(self.log, last, marked);
         let Gone { sent, replies } = send(self.alloc, &mut self.messages, rank, out)?;
         Ok(StepLine {
             outcome: Outcome::Ran,
             ops: tx.ops().len() as u32,
-            state: told,
+            state: reported,
             sent,
             replies,
         })
@@ -298,27 +298,29 @@ impl World {
     fn deliver(&mut self, arrival: &Arrival) -> Result<StepLine, WorldStop>
         requires world { IsWorld self.old }
         requires within { arrival.now.rank < length self.old.monitors.items }
-        requires comes { MayCome arrival.now.input }
-        ensures does { (ms : Monitors) (c : Scene) (p : Plain) → StandsFor ms self.old c
+        requires comes { IsValidInput arrival.now.input }
+        ensures does { (ms : Monitors) (c : Scene) (p : Plain) → RepresentsScene ms self.old c
             → meets.arrival c.world (plain_event p) ≡ Some (arrival_of arrival.now)
             → Does ms result self.new (step ms c (events.Plain p)) }
-        ensures any_moment { (ms : Monitors) (c next : Scene) → StandsFor ms self.old c → StandsFor ms self.new next
+        ensures any_time { (ms : Monitors) (c next : Scene) → RepresentsScene ms self.old c
+            → RepresentsScene ms self.new next
             → OnOk result (EachPasses ms c next self.old self.new) }
     {
-        let Some(turn) = meet_at(&mut self.monitors, arrival.rank, &arrival.input, arrival.at)?
+        let Some(handled) = meet_at(&mut self.monitors, arrival.rank, &arrival.input, arrival.at)?
         else {
             return Ok(still(self.alloc, Outcome::Down));
         };
-        Ok(self.tell(arrival.rank, turn)?)
+        Ok(self.report(arrival.rank, handled)?)
     }
 
     /// Makes a plain event happen, and returns its trace lines.
     fn plain(&mut self, event: &Plain) -> Result<StepLine, WorldStop>
         requires world { IsWorld self.old }
         requires fits { FitsPlain (length self.old.monitors.items) event.now }
-        ensures does { (ms : Monitors) (c : Scene) → StandsFor ms self.old c →
+        ensures does { (ms : Monitors) (c : Scene) → RepresentsScene ms self.old c →
             Does ms result self.new (step ms c (events.Plain event.now)) }
-        ensures any_moment { (ms : Monitors) (c next : Scene) → StandsFor ms self.old c → StandsFor ms self.new next
+        ensures any_time { (ms : Monitors) (c next : Scene) → RepresentsScene ms self.old c
+            → RepresentsScene ms self.new next
             → OnOk result (EachPasses ms c next self.old self.new) }
     {
         match arriving(self.alloc, self.messages.as_slice(), event)? {
@@ -346,20 +348,20 @@ impl World {
     fn deliver_with_fault(
         &mut self,
         arrival: &Arrival,
-        upset: Upset,
+        injected: InjectedFault,
     ) -> Result<FaultOutcome, WorldStop>
         requires world { IsWorld self.old }
         requires within { arrival.now.rank < length self.old.monitors.items }
-        requires comes { MayCome arrival.now.input }
-        requires may { MayBe upset }
-        ensures { (ms : Monitors) (c : Scene) (p : model.Plain) → StandsFor ms self.old c →
+        requires comes { IsValidInput arrival.now.input }
+        requires may { MayBe injected }
+        ensures { (ms : Monitors) (c : Scene) (p : model.Plain) → RepresentsScene ms self.old c →
             meets.arrival c.world p ≡ Some (arrival_of arrival.now)
-            → DoesUpset ms result self.new c (upset_of upset) p }
+            → DoesInjected ms result self.new c (injected_of injected) p }
     {
         let Some(crash) = fail_disk_at(
             &mut self.monitors,
             arrival.rank,
-            upset,
+            injected,
             &arrival.input,
             arrival.at,
         )?
@@ -370,17 +372,17 @@ impl World {
     }
 
     /// Lets an event happen in which a disk of its monitor fails, and returns the outcome.
-    fn inject(&mut self, event: &Plain, upset: Upset) -> Result<FaultOutcome, WorldStop>
+    fn inject(&mut self, event: &Plain, injected: InjectedFault) -> Result<FaultOutcome, WorldStop>
         requires world { IsWorld self.old }
         requires fits { FitsPlain (length self.old.monitors.items) event.now }
-        requires may { MayBe upset }
-        ensures { (ms : Monitors) (c : Scene) → StandsFor ms self.old c →
-            DoesUpset ms result self.new c (upset_of upset) (plain_event event.now) }
+        requires may { MayBe injected }
+        ensures { (ms : Monitors) (c : Scene) → RepresentsScene ms self.old c →
+            DoesInjected ms result self.new c (injected_of injected) (plain_event event.now) }
     {
         match arriving(self.alloc, self.messages.as_slice(), event)? {
             None => Ok(FaultOutcome::NoMessage),
             Some(arrival) => {
-                let fault_outcome = self.deliver_with_fault(&arrival, upset);
+                let fault_outcome = self.deliver_with_fault(&arrival, injected);
                 drop(arrival);
                 fault_outcome
             }
@@ -391,16 +393,16 @@ impl World {
     fn run_with_fault(
         &mut self,
         event: &Plain,
-        upset: Upset,
+        injected: InjectedFault,
         fault: Fault,
     ) -> Result<StepLine, WorldStop>
         requires world { IsWorld self.old }
         requires fits { FitsPlain (length self.old.monitors.items) event.now }
-        requires may { MayBe upset }
-        ensures { (ms : Monitors) (c : Scene) → StandsFor ms self.old c →
-            Does ms result self.new (step ms c (faulty_event fault upset event.now)) }
+        requires may { MayBe injected }
+        ensures { (ms : Monitors) (c : Scene) → RepresentsScene ms self.old c →
+            Does ms result self.new (step ms c (faulty_event fault injected event.now)) }
     {
-        let fault_outcome = self.inject(event, upset)?;
+        let fault_outcome = self.inject(event, injected)?;
         Ok(still(self.alloc, fault_outcome.outcome(fault)))
     }
 
@@ -409,10 +411,10 @@ impl World {
     fn happen(&mut self, event: &Event) -> Result<StepLine, WorldStop>
         requires world { IsWorld self.old }
         requires fits { Fits (length self.old.monitors.items) event.now }
-        ensures does { (ms : Monitors) (c : Scene) → StandsFor ms self.old c →
+        ensures does { (ms : Monitors) (c : Scene) → RepresentsScene ms self.old c →
             Does ms result self.new (step ms c event.now) }
-        ensures any_moment { (ms : Monitors) (c next : Scene) (p : Plain) → event.now ≡ events.Plain p
-            → StandsFor ms self.old c → StandsFor ms self.new next
+        ensures any_time { (ms : Monitors) (c next : Scene) (p : Plain) → event.now ≡ events.Plain p
+            → RepresentsScene ms self.old c → RepresentsScene ms self.new next
             → OnOk result (EachPasses ms c next self.old self.new) }
     {
         match event {
@@ -422,13 +424,13 @@ impl World {
                 call,
                 image,
                 event,
-            } => self.run_with_fault(event, upset_at(*disk, *call, *image), Fault::Crash),
+            } => self.run_with_fault(event, injected_at(*disk, *call, *image), Fault::Crash),
             Event::Fail {
                 disk,
                 call,
                 image,
                 event,
-            } => self.run_with_fault(event, upset_at(*disk, *call, *image), Fault::Fail),
+            } => self.run_with_fault(event, injected_at(*disk, *call, *image), Fault::Fail),
         }
     }
 
@@ -441,17 +443,17 @@ impl World {
     pub fn step(&mut self, event: &Event) -> Result<StepLine, WorldStop>
         requires world { IsWorld self.old }
         requires fits { Fits (length self.old.monitors.items) event.now }
-        ensures does { (ms : Monitors) (c : Scene) → StandsFor ms self.old c →
+        ensures does { (ms : Monitors) (c : Scene) → RepresentsScene ms self.old c →
             Does ms result self.new (step ms c event.now) }
-        ensures goes_on { (ms : Monitors) (c : Scene) (events : List model.Event) → StandsForRun ms events self.old c
-            → Leads (StandsForRun ms (and_event ms events c event.now) self.new) result (step ms c event.now) }
-        ensures safe { (ms : Monitors) (c : Scene) (events : List model.Event) → StandsForRun ms events self.old c
+        ensures goes_on { (ms : Monitors) (c : Scene) (events : List model.Event) → RepresentsRun ms events self.old c
+            → Leads (RepresentsRun ms (and_event ms events c event.now) self.new) result (step ms c event.now) }
+        ensures safe { (ms : Monitors) (c : Scene) (events : List model.Event) → RepresentsRun ms events self.old c
             → Safe ms (and_event ms events c event.now) }
 
         // A crash at any point of an event in which no disk fails, also inside each call on a disk, leaves each monitor
         // two images on which it opens the map from before the event or from after it.
-        ensures any_moment { (ms : Monitors) (c next : Scene) (p : Plain) → event.now ≡ events.Plain p
-            → StandsFor ms self.old c → StandsFor ms self.new next
+        ensures any_time { (ms : Monitors) (c next : Scene) (p : Plain) → event.now ≡ events.Plain p
+            → RepresentsScene ms self.old c → RepresentsScene ms self.new next
             → OnOk result (EachPasses ms c next self.old self.new) }
     {
         self.happen(event)

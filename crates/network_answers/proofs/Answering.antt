@@ -18,7 +18,7 @@ use Rattle.quorum_answers.proofs.Refusals.{all_refused}
 use Rattle.quorum_answers.specs.Linear.{Linearizable, Read, Write}
 use Rattle.quorum_answers.specs.Reads.{EachOnward, NoOlder, Shows}
 use Rattle.quorum_answers.specs.Refused as model
-use Rattle.quorum_answers.specs.Refused.{AllRefused, CoversAll, Refuses}
+use Rattle.quorum_answers.specs.Refused.{AllRefused, CoversAll, IsRefusalReply}
 use Rattle.quorum_model.specs.Events.{AllFit}
 use Rattle.quorum_model.specs.Monitors.{Monitors}
 use Rattle.quorum_model.specs.Runs.{run}
@@ -256,6 +256,6 @@ module _ (ms : Monitors) (old_asks asks : List Asked) (old_acks acks : List Ackn
     ];
   }
 
-  pub refusals : AllByRecursion (λ (a : Answer). Refuses a.reply → IsRefused old_asks asks old_acks T.w.log a) (map answer T.w.replied)
-  refusals = all_image answer (λ (a : Answer). Refuses a.reply → IsRefused old_asks asks old_acks T.w.log a) T.w.replied
-      (all_map (λ (r : Replied). Refuses r.reply → model.IsRefused S.w T.w r.rank r.session r.epoch r.reply) (λ (r : Replied). Refuses r.reply → IsRefused old_asks asks old_acks T.w.log (answer r)) (λ r k t. refusal_is r (k t)) T.w.replied refused_world)
+  pub refusals : AllByRecursion (λ (a : Answer). IsRefusalReply a.reply → IsRefused old_asks asks old_acks T.w.log a) (map answer T.w.replied)
+  refusals = all_image answer (λ (a : Answer). IsRefusalReply a.reply → IsRefused old_asks asks old_acks T.w.log a) T.w.replied
+      (all_map (λ (r : Replied). IsRefusalReply r.reply → model.IsRefused S.w T.w r.rank r.session r.epoch r.reply) (λ (r : Replied). IsRefusalReply r.reply → IsRefused old_asks asks old_acks T.w.log (answer r)) (λ r k t. refusal_is r (k t)) T.w.replied refused_world)

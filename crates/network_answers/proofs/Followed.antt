@@ -10,8 +10,8 @@ use Rattle.log_model.proofs.Lists.{all_append, all_map}
 use Rattle.map_follower.proofs.Follows.{holds_all}
 use Rattle.map_follower.specs.Copies.{Taken, applied_from, first, if_applied, is_of, taken, taken_all}
 use Rattle.map_follower.specs.Following.{Holds, WasGiven}
-use Rattle.map_follower.specs.Turns as turns
-use Rattle.map_follower.specs.Turns.{Course, EndsAfter, Follows, IsAnswer, Turned, all_turned, and_turned, asked, copy_text, course, course_before, line_of, reply_in, reply_read, request_of, turned, with_datagram, with_reply}
+use Rattle.map_follower.specs.Iterations as turns
+use Rattle.map_follower.specs.Iterations.{Course, EndsAfter, Follows, IsAnswer, Iterated, all_turned, and_turned, asked, copy_text, course, course_before, line_of, reply_in, reply_read, request_of, turned, with_datagram, with_reply}
 use Rattle.map_follower.specs.declared.end.FollowEnd.{FollowEnd}
 use Rattle.map_follower.specs.declared.end.FollowEnd.TheVariants as end
 use Rattle.map_follower.specs.declared.follower.Follower.{Follower}
@@ -20,7 +20,7 @@ use Rattle.mon_decode.proofs.WholeLaws.{message_again}
 use Rattle.mon_frag.specs.Keeping.{taken as piece_taken}
 use Rattle.mon_frag.specs.Whole.{FromPeer, and_answered, answer_in, answered, kept_in}
 use Rattle.mon_frag.specs.declared.partial.Partial.{Partial}
-use Rattle.mon_link.specs.Links.{Told, asked_to_send, first_of, next_leaves, others}
+use Rattle.mon_link.specs.Links.{Observed, asked_to_send, first_of, next_leaves, others}
 use Rattle.mon_link.specs.Memory.{fails_next}
 use Rattle.mon_link.specs.declared.link.Got.{Got}
 use Rattle.mon_link.specs.declared.link.Got.TheVariants.{Closed, Datagram, Idle}
@@ -228,10 +228,10 @@ none_written (Some x) = ap Some (sym (append-nil x))
 -- ---- iterations
 
 -- P holds after an iteration, or at the end if the client ended before it
-turned_or_not : (P : Course → Type 0) (n : ℕ) (g : Result Got Stop) (t : Turned) → P t.course → P (turned n g t.course).course → P (and_turned n g t).course
+turned_or_not : (P : Course → Type 0) (n : ℕ) (g : Result Got Stop) (t : Iterated) → P t.course → P (turned n g t.course).course → P (and_turned n g t).course
 turned_or_not P n g t h k = by t.stop
   where
-    by : (o : Option FollowEnd) → P (elim o as (λ _. Turned) [ None ↦ turned n g t.course | Some e ↦ t ]).course
+    by : (o : Option FollowEnd) → P (elim o as (λ _. Iterated) [ None ↦ turned n g t.course | Some e ↦ t ]).course
     by None = k
     by (Some e) = h
 
@@ -311,7 +311,7 @@ module _ (n : ℕ) (requests : List Asked) (acks : List Acknowledgement) (log : 
       (subst (λ (ps : List Partial). AllByRecursion (λ (x : FromPeer). IsJoined (IsReply n requests acks [] log) numbers x.from x.bytes) (and_answered from (answer_in (piece_taken ps from bytes)) [])) (sym I.parts) last)
 
   -- a question to the link doesn't change what a client joined and took
-  with_link : (now : Course) (link : Option Told) (asks : ℕ) → IsSo now → IsSo (record now { asks = asks; link = link })
+  with_link : (now : Course) (link : Option Observed) (asks : ℕ) → IsSo now → IsSo (record now { asks = asks; link = link })
   with_link now link asks I = record { came = I.came; reach = I.reach; parts = I.parts; replies = I.replies; given = I.given; follower = I.follower; writes = I.writes; low = I.low }
 
   after_result : (g : Result Got Stop) (now : Course) → Reaches sent numbers g → IsSo now → IsSo (turns.answered n g now).course
@@ -321,7 +321,7 @@ module _ (n : ℕ) (requests : List Asked) (acks : List Acknowledgement) (log : 
   after_result (Err stop.Failed) now reaches I = I
   after_result (Err stop.OutOfMemory) now reaches I = I
 
-  module _ (asks : ℕ) (link : Option Told) where
+  module _ (asks : ℕ) (link : Option Observed) where
     abbrev begun : Course
     begun = course (first s) [] asks link written
 
@@ -341,8 +341,8 @@ module _ (n : ℕ) (requests : List Asked) (acks : List Acknowledgement) (log : 
     before_so (g ∷ earlier) reach = holds_so (all_turned n begun earlier).course (all_so earlier reach.1)
 
     -- the copy at an end
-    at_end : (P : Follower → Type 0) (turns made : ℕ) (e : FollowEnd) (before : Course) (t : Turned) (new : Course) → EndsAfter turns e made before t new → P before.follower → P t.course.follower → P new.follower
-    at_end P turns made end.TurnsUsed before t new h was now = subst (λ (x : Turned). P x.course.follower) h.1 now
+    at_end : (P : Follower → Type 0) (turns made : ℕ) (e : FollowEnd) (before : Course) (t : Iterated) (new : Course) → EndsAfter turns e made before t new → P before.follower → P t.course.follower → P new.follower
+    at_end P turns made end.TurnsUsed before t new h was now = subst (λ (x : Iterated). P x.course.follower) h.1 now
     at_end P turns made end.OutOfMemory before t new h was now = elim h.0 [ inl e ↦ subst P (sym e) was | inr e ↦ subst P (sym e) now ]
     at_end P turns made end.WriteFault before t new h was now = subst P (sym h.0) now
     at_end P turns made end.Closed before t new h was now = subst P (sym h.0) now
@@ -385,14 +385,14 @@ rises n old (g ∷ later) earlier =
 -- ---- a link whose ghost state lists what it will return
 
 module _ (sent : List Posted) (numbers : Numbers) where
-  abbrev GivesFine : Option Told → Type 0
+  abbrev GivesFine : Option Observed → Type 0
   GivesFine None = ⊥
   GivesFine (Some t) = AllByRecursion (λ (g : Got). Reaches sent numbers (Ok g)) t.left
 
   abbrev IsFine : Course → Type 0
   IsFine now = GivesFine now.link
 
-  asked_fine : (to : Peer) (bytes : List ℕ) (o : Option Told) → GivesFine o → GivesFine (option_map (asked_to_send to bytes) o)
+  asked_fine : (to : Peer) (bytes : List ℕ) (o : Option Observed) → GivesFine o → GivesFine (option_map (asked_to_send to bytes) o)
   asked_fine to bytes None h = h
   asked_fine to bytes (Some t) h = h
 
@@ -400,7 +400,7 @@ module _ (sent : List Posted) (numbers : Numbers) where
   others_fine [] h = tt
   others_fine (g ∷ gs) h = h.1
 
-  leaves_fine : (g : Result Got Stop) (o : Option Told) → GivesFine o → GivesFine (option_map (next_leaves 1000 g) o)
+  leaves_fine : (g : Result Got Stop) (o : Option Observed) → GivesFine o → GivesFine (option_map (next_leaves 1000 g) o)
   leaves_fine g None h = h
   leaves_fine (Ok got) (Some t) h = others_fine t.left h
   leaves_fine (Err stop.Failed) (Some t) h = h
@@ -421,7 +421,7 @@ module _ (sent : List Posted) (numbers : Numbers) where
   first_fine [] h = tt
   first_fine (g ∷ gs) h = h.0
 
-  answer_fine : (g : Result Got Stop) (o : Option Told) → GivesFine o → IsAnswer o g → Reaches sent numbers g
+  answer_fine : (g : Result Got Stop) (o : Option Observed) → GivesFine o → IsAnswer o g → Reaches sent numbers g
   answer_fine g None h k = absurd h
   answer_fine (Err e) (Some t) h k = tt
   answer_fine (Ok got) (Some t) h k = by (fails_next t.failing_next (length t.waits)) k
@@ -439,6 +439,6 @@ module _ (sent : List Posted) (numbers : Numbers) where
         turned_or_not IsFine n g t h.1 (result_fine n g (record t.course { link = option_map (next_leaves 1000 g) t.course.link }) (leaves_fine g t.course.link h.1)),
       )
 
-  pub all_reach : (n turns asks : ℕ) (s : Service) (link : Told) (written : Option (List ℕ)) (new : Course) (e : FollowEnd) → AllByRecursion (λ (g : Got). Reaches sent numbers (Ok g)) link.left
+  pub all_reach : (n turns asks : ℕ) (s : Service) (link : Observed) (written : Option (List ℕ)) (new : Course) (e : FollowEnd) → AllByRecursion (λ (g : Got). Reaches sent numbers (Ok g)) link.left
       → (F : Follows n turns (course (first s) [] asks (Some link) written) new e) → AllByRecursion (Reaches sent numbers) F.given
   all_reach n turns asks s link written new e fine F = (all_fine n (course (first s) [] asks (Some link) written) fine F.given F.are).0

@@ -15,7 +15,7 @@ use Rattle.mon_wire.specs.declared.reply.Reply.TheVariants as reply
 use Rattle.mon_wire.specs.declared.request.Request.{Request}
 use Rattle.mon_wire.specs.declared.request.Session.{Session}
 use Rattle.quorum_answers.specs.Reads.{Shows}
-use Rattle.quorum_answers.specs.Refused.{Refuses}
+use Rattle.quorum_answers.specs.Refused.{IsRefusalReply}
 use Rattle.quorum_model.specs.Clients.{command_of}
 use Rattle.quorum_model.specs.Monitors.{Monitors}
 use Rattle.quorum_model.specs.Shown.{AreAfter}
@@ -121,7 +121,7 @@ pub record Adds (ms : Monitors) (earlier later : List Step) (old_log log : List 
   pub brings : AreAnswers (IsAnswer ms.count more) sent
   pub order : AreInOrder (acknowledgements ms earlier) old writes more
   pub refusals : AllByRecursion
-      (λ (a : Answer). Refuses a.reply
+      (λ (a : Answer). IsRefusalReply a.reply
       → IsRefused (requests ms earlier) (requests ms later) (acknowledgements ms earlier) log a) answers
 
 -- After each list of steps there are a log and a list of answers, and later steps only add to both. All maps and all

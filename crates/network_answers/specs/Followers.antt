@@ -2,7 +2,7 @@
 use Rattle.std.specs.Prelude.{◌≡◌, ℕ, ◌<◌, List, [], ◌∷◌, ◌++◌, Option, option_map, Result, Ok, Err}
 use Rattle.std.specs.List.{AllByRecursion, flat_map}
 use Rattle.map_follower.specs.Following.{Holds}
-use Rattle.map_follower.specs.Turns.{copy_text}
+use Rattle.map_follower.specs.Iterations.{copy_text}
 use Rattle.map_follower.specs.declared.follower.Follower.{Follower}
 use Rattle.mon_link.specs.declared.link.Got.{Got}
 use Rattle.mon_link.specs.declared.link.Got.TheVariants.{Datagram, Idle, Closed}

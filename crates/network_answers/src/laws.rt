@@ -2,9 +2,9 @@ ghost use Rattle.std.specs.List.{AllByRecursion};
 ghost use Rattle.std.specs.Prelude.{◌≡◌, ℕ, ◌≤◌, List, [], ◌++◌, Option, Some, Ok, Result};
 ghost use Rattle.map_follower.specs.Copies.{first};
 ghost use Rattle.map_follower.specs.Following.{Holds};
-ghost use Rattle.map_follower.specs.Turns.{Course, Follows, all_turned, course};
+ghost use Rattle.map_follower.specs.Iterations.{Course, Follows, all_turned, course};
 ghost use Rattle.map_follower.specs.declared.end.FollowEnd.{FollowEnd};
-ghost use Rattle.mon_link.specs.Links.{Told};
+ghost use Rattle.mon_link.specs.Links.{Observed};
 ghost use Rattle.mon_link.specs.declared.link.Got.{Got};
 ghost use Rattle.mon_types.specs.declared.names.Stop.{Stop};
 ghost use Rattle.mon_wire.specs.declared.request.Service.{Service};
@@ -38,13 +38,13 @@ pub fn law_answers()
 pub fn law_followers()
     ensures holds { (ms : Monitors) (steps : List Step) (log : List (List ℕ))
         → IsLogOf ms (requests ms steps) (acknowledgements ms steps) (network ms steps) log
-        → (numbers : Numbers) (turns asks : ℕ) (s : Service) (link : Option Told) (written : Option (List ℕ))
+        → (numbers : Numbers) (turns asks : ℕ) (s : Service) (link : Option Observed) (written : Option (List ℕ))
         → (new : Course) (e : FollowEnd)
         → (F : Follows ms.count turns (course (first s) [] asks link written) new e)
         → AllByRecursion (Reaches (network ms steps).sent numbers) F.given → Holds s log new.follower }
     ensures copies { (ms : Monitors) (steps : List Step) (log : List (List ℕ))
         → IsLogOf ms (requests ms steps) (acknowledgements ms steps) (network ms steps) log
-        → (numbers : Numbers) (asks : ℕ) (s : Service) (link : Option Told) (written : Option (List ℕ))
+        → (numbers : Numbers) (asks : ℕ) (s : Service) (link : Option Observed) (written : Option (List ℕ))
         → (given : List (Result Got Stop))
         → AllByRecursion (Reaches (network ms steps).sent numbers) given
         → Holds s log (all_turned ms.count (course (first s) [] asks link written) given).course.follower
@@ -53,7 +53,7 @@ pub fn law_followers()
         → (all_turned n old earlier).course.follower.version
         ≤ (all_turned n old (later ++ earlier)).course.follower.version }
     ensures shown { (ms : Monitors) (steps : List Step) (numbers : Numbers) (turns asks : ℕ) (s : Service)
-        (link : Told) (written : Option (List ℕ)) (new : Course) (e : FollowEnd)
+        (link : Observed) (written : Option (List ℕ)) (new : Course) (e : FollowEnd)
         → AllByRecursion (λ (g : Got). Reaches (network ms steps).sent numbers (Ok g)) link.left
         → (F : Follows ms.count turns (course (first s) [] asks (Some link) written) new e)
         → AllByRecursion (Reaches (network ms steps).sent numbers) F.given }

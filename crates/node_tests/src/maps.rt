@@ -1,5 +1,5 @@
 ghost use Rattle.std.specs.Prelude.{◌≡◌, ◌≤◌, ◌^◌, length, IfSome};
-ghost use Rattle.mon_bounds.specs.Fitting.{MayCome};
+ghost use Rattle.mon_bounds.specs.Fitting.{IsValidInput};
 ghost use Rattle.mon_msg.specs.Protocol.Readings.{readings_of};
 ghost use Rattle.mon_tx.specs.Map.{apply};
 ghost use Rattle.svc_core.specs.Cache.{Follows};
@@ -61,7 +61,7 @@ fn text(alloc: Global, letter: u8) -> Option<Text>
 }
 
 fn set(alloc: Global, key: u8, value: u8) -> Option<Input>
-    ensures { IfSome result MayCome }
+    ensures { IfSome result IsValidInput }
 {
     let Some(key) = name(alloc, key) else {
         return None;
@@ -81,7 +81,7 @@ fn set(alloc: Global, key: u8, value: u8) -> Option<Input>
 }
 
 fn show() -> Input
-    ensures { MayCome result }
+    ensures { IsValidInput result }
 {
     let session = Session { client: 2, id: 1 };
     let service = Service::Kv;
@@ -89,7 +89,7 @@ fn show() -> Input
 }
 
 fn input(alloc: Global, act: Act) -> Option<Input>
-    ensures { IfSome result MayCome }
+    ensures { IfSome result IsValidInput }
 {
     match act {
         Act::Start => Some(Input::Start),
@@ -125,7 +125,7 @@ fn keep(alloc: Global, kv: &mut Kv, tx: Transaction) -> Option<u32>
 
 /// Gives a monitor an input, and keeps the transaction of its reaction.
 fn react(alloc: Global, one: &mut Running, input: Input, now: Moment) -> Option<u32>
-    requires comes { MayCome input }
+    requires comes { IsValidInput input }
     requires follows { Follows one.old.core.cache (readings_of one.old.kv) }
     ensures { IfSome result (λ n. Follows one.new.core.cache (readings_of one.new.kv)) }
 {

@@ -39,8 +39,8 @@ pub over : (n : ℕ) → (n < 2 ^ 62 → false ≡ true) → 2 ^ 62 < suc n
 over n h = elim (cases_lt n (2 ^ 62)) [ inl lt ↦ let no : false ≡ true = h lt in absurd cc | inr le ↦ omega (arith, le) ]
 
 -- one whose value waits for its members
-abbrev pub valued : Me → LeaderStage → List Op → Option Origin → Leader → Leader
-valued me s value o l = record l { stage = s; accepted = only me.member.rank; value = Some value; origin = o }
+abbrev pub awaiting_votes : Me → LeaderStage → List Op → Option Origin → Leader → Leader
+awaiting_votes me s value o l = record l { stage = s; accepted = only me.member.rank; value = Some value; origin = o }
 
 module _ (me : Me) (now : ℕ) (y : Course) where
   abbrev pub peons : List ℕ
@@ -58,7 +58,7 @@ module _ (me : Me) (now : ℕ) (y : Course) where
   pub begin_with-is : (s : LeaderStage) (v : ℕ) (value : List Op) (o : Option Origin) → is_leading y.state.phase ≡ true
       → begin_with me now s v value o y
       ≡ finish (Vote v y.state.leader.pn value ∷ []) (map (message_to me (epoch_of y.readings) (body.Begin y.state.leader.pn v value)) peons)
-      (value_timers now) (valued me s value o y.state.leader) y
+      (value_timers now) (awaiting_votes me s value o y.state.leader) y
   unfolding begin_with
   begin_with-is s v value o lead = rw lead refl
 
@@ -92,10 +92,10 @@ module _ (me : Me) (now epoch last : ℕ) (l : Leader) (y : Course) (b : IsHere 
       ∙ (λ i. finish [] (map (message_to me (b.epoch i) (body.Lease (b.last i))) (members me (e i).quorum)) (lease_timers (is_empty (members me (e i).quorum)) now) (leasing me now (e i)) y)
 
   pub begun-here : (s : LeaderStage) (v : ℕ) (value : List Op) (o : Option Origin) → begin_with me now s v value o y
-      ≡ finish (Vote v l.pn value ∷ []) (map (message_to me epoch (body.Begin l.pn v value)) (members me l.quorum)) (value_timers now) (valued me s value o l) y
+      ≡ finish (Vote v l.pn value ∷ []) (map (message_to me epoch (body.Begin l.pn v value)) (members me l.quorum)) (value_timers now) (awaiting_votes me s value o l) y
   begun-here s v value o =
       begin_with-is me now y s v value o b.leads
-      ∙ (λ i. finish (Vote v (e i).pn value ∷ []) (map (message_to me (b.epoch i) (body.Begin (e i).pn v value)) (members me (e i).quorum)) (value_timers now) (valued me s value o (e i)) y)
+      ∙ (λ i. finish (Vote v (e i).pn value ∷ []) (map (message_to me (b.epoch i) (body.Begin (e i).pn v value)) (members me (e i).quorum)) (value_timers now) (awaiting_votes me s value o (e i)) y)
 
   pub alone-here : (v : ℕ) (value : List Op) → learn v (value ∷ []) y ≡ Ok (changed (learned v (value ∷ [])) y)
       → begin_alone me v value None y ≡ Ok (finish (learned v (value ∷ [])) [] [] (record l { stage = stage.Active }) y)
@@ -157,6 +157,6 @@ module _ (me : Me) (now : ℕ) (t : Timer) (y : Course) (lead : is_leading y.sta
           begin-others me now (disarm t y) s value None short others
           ∙ ap Ok (begin_with-is me now (disarm t y) s (suc y.readings.last) value None lead
           ∙ finish-unarmed (Vote (suc y.readings.last) y.state.leader.pn value ∷ []) (map (message_to me (epoch_of y.readings) (body.Begin y.state.leader.pn (suc y.readings.last) value)) (peons me now y))
-          (value_timers now) (valued me s value None y.state.leader) t y leaves other
+          (value_timers now) (awaiting_votes me s value None y.state.leader) t y leaves other
           ∙ sym (begin_with-is me now y s (suc y.readings.last) value None lead))
           ∙ sym (begin-others me now y s value None short others)

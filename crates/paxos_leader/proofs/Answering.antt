@@ -3,11 +3,11 @@ use Rattle.std.proofs.Common.{◌≡◌, ℕ, suc, ◌≤◌, ◌<◌, ◌^◌, 
 use Rattle.std.specs.List.{AllByRecursion}
 use Rattle.std.specs.Prelude.{◌==◌}
 use Rattle.std.proofs.lemmas.Bool.{and_parts, le-leb, lt-leb}
-use Rattle.mon_msg.specs.Protocol.Changes.{Change, spelled}
+use Rattle.mon_msg.specs.Protocol.Changes.{Change, encoded}
 use Rattle.mon_msg.specs.Protocol.Collecting.{collect, settle}
 use Rattle.mon_msg.specs.Protocol.Course.{Course, ◌>>=◌, leader_is}
 use Rattle.mon_msg.specs.Protocol.Found.{counts, better, is_newer}
-use Rattle.mon_msg.specs.Protocol.Leader.{is_one_of, note, note_told, note_answer, all_answered, hear_whole}
+use Rattle.mon_msg.specs.Protocol.Leader.{is_one_of, note, note_pending, note_answer, all_answered, hear_whole}
 use Rattle.mon_msg.specs.Protocol.Phases.{phase_of}
 use Rattle.mon_msg.specs.Protocol.Played.{Fits, played}
 use Rattle.mon_msg.specs.Protocol.Readings.{Readings, readings_of, epoch_of}
@@ -40,7 +40,7 @@ use Rattle.paxos_leader.specs.Rows.{IsHeard, Notes, NotesFound, goes_on}
 
 module _ (f last : ℕ) (x : Course) where
   note-none : (told : Option Told) (found : Option Found) → counts told ≡ None → x.state.leader.found ≡ found → note f last told x ≡ Ok (note_answer f last found x)
-  note-none told found none h = ap (λ t. note_told f last t x) none ∙ ap (λ k. Ok (note_answer f last k x)) h
+  note-none told found none h = ap (λ t. note_pending f last t x) none ∙ ap (λ k. Ok (note_answer f last k x)) h
 
   note-some : (t : Told) (found : Option Found) → length (text t.value) ≤ most_value → suc last ≤ 2 ^ 62 → x.state.leader.found ≡ found
       → note f last (Some t) x ≡ Ok (note_answer f last (better found (record { version = suc last; pn = t.pn; value = t.value })) x)
@@ -146,12 +146,12 @@ pub asks-here : (epoch : ℕ) (w : Readings) (x : Course) → x.readings ≡ w �
 asks-here epoch w x h is collecting = record { epoch = ap epoch_of h ∙ sym is; kept = as_read w x h; phase = collecting; stage = refl }
 
 -- once values of an answer are learned
-module _ (cs : List Change) (fit : AllByRecursion Fits cs) (kv : Store) (tx : List Op) (spells : tx ≡ spelled cs) where
+module _ (cs : List Change) (fit : AllByRecursion Fits cs) (kv : Store) (tx : List Op) (encodes : tx ≡ encoded cs) where
   pub learned-asks : (f e : ℕ) (l : Leader) (x : Course) → IsHeard (phase.Collecting ∷ []) f e (readings_of kv) l x
       → IsAsking (epoch_of (readings_of (apply tx kv))) (readings_of (apply tx kv)) (leader_is l (changed cs x))
   learned-asks f e l x b =
       let reads : (changed cs x).readings ≡ readings_of (apply tx kv) =
-      changed-readings cs x ∙ ap (played cs) b.readings ∙ sym (readings-after cs fit kv) ∙ ap (λ ops. readings_of (apply ops kv)) (sym spells) in
+      changed-readings cs x ∙ ap (played cs) b.readings ∙ sym (readings-after cs fit kv) ∙ ap (λ ops. readings_of (apply ops kv)) (sym encodes) in
       let phases = heard-phase f e (readings_of kv) l x b in
       record {
         epoch = ap epoch_of reads;

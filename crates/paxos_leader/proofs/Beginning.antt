@@ -1,7 +1,7 @@
 -- A leader's acts as they are entered, and its renewal of leases.
 use Rattle.std.proofs.Common.{◌≡◌, ℕ, Bool, true, false, not, cond, List, [], ◌∷◌, map, Option, Some, Ok, Err, refl, sym, ap, subst, ◌∙◌}
 use Rattle.std.specs.List.{AllByRecursion}
-use Rattle.mon_msg.specs.Protocol.Changes.{spelled}
+use Rattle.mon_msg.specs.Protocol.Changes.{encoded}
 use Rattle.mon_msg.specs.Protocol.Collecting.{collect, reign}
 use Rattle.mon_msg.specs.Protocol.Course.{Course, ◌▸◌, ◌>>=◌, arm_if, in_phase, leader_is, leads_in, say}
 use Rattle.mon_msg.specs.Protocol.Leader.{renew}
@@ -74,12 +74,12 @@ pub led-here : (w : Readings) (l : Leader) (x : Course) → IsLed w l x → IsHe
 led-here w l x b = record { epoch = ap epoch_of b.readings; last = ap (λ (r : Readings). r.last) b.readings; leads = led-leads w l x b }
 
 -- what the store's readers return once a value is learned
-pub learned-epoch : (v : ℕ) (value : List Op) → AllByRecursion Fits (learned v (value ∷ [])) → (kv : Store) (tx : List Op) → tx ≡ spelled (learned v (value ∷ []))
+pub learned-epoch : (v : ℕ) (value : List Op) → AllByRecursion Fits (learned v (value ∷ [])) → (kv : Store) (tx : List Op) → tx ≡ encoded (learned v (value ∷ []))
     → (y : Course) → y.readings ≡ readings_of kv → epoch_of (played (learned v (value ∷ [])) y.readings) ≡ epoch_of (readings_of (apply tx kv))
-learned-epoch v value fit kv tx spells y h =
+learned-epoch v value fit kv tx encodes y h =
     ap (λ r. epoch_of (played (learned v (value ∷ [])) r)) h
     ∙ sym (ap epoch_of (readings-after (learned v (value ∷ [])) fit kv))
-    ∙ ap (λ ops. epoch_of (readings_of (apply ops kv))) (sym spells)
+    ∙ ap (λ ops. epoch_of (readings_of (apply ops kv))) (sym encodes)
 
 -- ---- one that renews its lease
 
@@ -121,7 +121,7 @@ module _ (me : Me) (now : ℕ) where
   alone-spent At v value o stop.OutOfMemory h = tt
   alone-spent At v value o (stop.Spent which) h = λ x b. ap (λ r. r >>= (λ z. Ok (z ▸ leads_in stage.Active ▸ answer_any me o (reply.Done v)))) (h x)
 
-  module _ (kv : Store) (l : Leader) (v : ℕ) (value : List Op) (o : Origin) (fit : AllByRecursion Fits (learned v (value ∷ []))) (tx : List Op) (spells : tx ≡ spelled (learned v (value ∷ [])))
+  module _ (kv : Store) (l : Leader) (v : ℕ) (value : List Op) (o : Origin) (fit : AllByRecursion Fits (learned v (value ∷ []))) (tx : List Op) (encodes : tx ≡ encoded (learned v (value ∷ [])))
       (learns : (y : Course) → learn v (value ∷ []) y ≡ Ok (changed (learned v (value ∷ [])) y)) where
     abbrev heard : List Sent
     heard = answers_to me (epoch_of (readings_of (apply tx kv))) (Some o) (reply.Done v)
@@ -131,10 +131,10 @@ module _ (me : Me) (now : ℕ) where
     alone-answers p is_tx out timers state stays = record {
       changes = learned v (value ∷ []);
       fit = fit;
-      spelled = is_tx ∙ spells;
+      encoded = is_tx ∙ encodes;
       row = λ x b.
           begin_alone-is me now x v value (Some o) (led-leads (readings_of kv) l x b) (learns x)
-          ∙ (λ i. Ok (finish (learned v (value ∷ [])) (answers_to me (learned-epoch v value fit kv tx spells x b.readings i) (Some o) (reply.Done v)) [] (record (b.role i) { stage = stage.Active }) x))
+          ∙ (λ i. Ok (finish (learned v (value ∷ [])) (answers_to me (learned-epoch v value fit kv tx encodes x b.readings i) (Some o) (reply.Done v)) [] (record (b.role i) { stage = stage.Active }) x))
           ∙ (λ i. Ok (finish (learned v (value ∷ [])) (sym out i) (sym timers i) (sym state i) x))
           ∙ ap Ok (sym (done-is (learned v (value ∷ [])) p x stays))
           ∙ sym (ap (λ n. act me now n (done leads (learned v (value ∷ [])) p x)) stays);

@@ -1,7 +1,7 @@
 -- A value that all of the quorum accepted.
 use Rattle.std.proofs.Common.{◌≡◌, ℕ, suc, ◌<◌, ◌^◌, true, false, List, [], ◌∷◌, ◌++◌, map, Option, Some, None, Result, Ok, Err, refl, sym, ap, subst, ◌∙◌, arith}
 use Rattle.std.specs.List.{AllByRecursion}
-use Rattle.mon_msg.specs.Protocol.Changes.{spelled}
+use Rattle.mon_msg.specs.Protocol.Changes.{encoded}
 use Rattle.mon_msg.specs.Protocol.Course.{Course, ◌▸◌, ◌>>=◌, disarm, leader_is, say}
 use Rattle.mon_msg.specs.Protocol.Leader.{is_one_of, commit_any}
 use Rattle.mon_msg.specs.Protocol.Leading.{be_active, commit, extend}
@@ -65,7 +65,7 @@ module _ (me : Me) (now epoch last v : ℕ) (l : Leader) (values : List (List Op
   pub announces : (tx : List Op) (d : Draft) → d.tx ≡ tx → d.out ≡ news → d.state ≡ without_value l → (p q : Plan Leader) → p.next ≡ next.Stay → q ≡ record p { out = p.out ++ heard }
       → GoesOn me now (IsHere epoch last) d (λ y. Ok (be_active me now y)) (Ok p)
       → GoesOn me now (IsHere epoch last) (record { tx = tx; out = []; state = l }) (announced me now v values) (Ok q)
-  announces tx d is_tx is_out is_state p q stays is h cs fit spells =
+  announces tx d is_tx is_out is_state p q stays is h cs fit encodes =
       let At : Course → Type 0 = λ (x : Course). IsHere epoch last (under_way cs [] l x) in
       let way : (x : Course) → under_way cs d.out d.state x ≡ leader_is (without_value l) (say news (changed cs x)) =
       λ (x : Course). (λ i. under_way cs (is_out i) (is_state i) x) ∙ ap (leader_is (without_value l)) (sending-is news (changed cs x)) in
@@ -76,7 +76,7 @@ module _ (me : Me) (now epoch last v : ℕ) (l : Leader) (values : List (List Op
       (λ x b.
       let here : IsHere epoch last (leader_is (without_value l) (say news (changed cs x))) = record { epoch = b.epoch; last = b.last; leads = b.leads } in
       subst (IsHere epoch last) (sym (way x)) here)
-      (h cs fit (is_tx ∙ spells)))
+      (h cs fit (is_tx ∙ encodes)))
 
 -- ---- phases
 
@@ -148,18 +148,18 @@ module _ (me : Me) (now : ℕ) (value : List Op) where
       commit-is y ∙ ap (λ r. r >>= rest (suc y.readings.last)) (learn-spent (suc y.readings.last) value [] y (omega (arith, over, h)))
 
   pub commit-fails : (w : Readings) (d : Draft) (v : ℕ) → v ≡ suc w.last → (e : RoleStop) → Learns v (value ∷ []) (Err e) → GoesOn me now (IsVoted w) d (commit me now value) (Err e)
-  commit-fails w d v is stop.OutOfMemory h cs fit spells = tt
-  commit-fails w d v is (stop.Spent which) h cs fit spells = λ x b.
+  commit-fails w d v is stop.OutOfMemory h cs fit encodes = tt
+  commit-fails w d v is (stop.Spent which) h cs fit encodes = λ x b.
       by_version v (under_way cs d.out d.state x) (is ∙ sym (ap (λ (r : Readings). suc r.last) b.readings)) ∙ ap (λ r. r >>= rest v) (h (under_way cs d.out d.state x))
 
 -- ---- what the store's readers then return
 
-module _ (v : ℕ) (value : List Op) (fit : AllByRecursion Fits (learned v (value ∷ []))) (kv : Store) (tx : List Op) (spells : tx ≡ spelled (learned v (value ∷ []))) where
+module _ (v : ℕ) (value : List Op) (fit : AllByRecursion Fits (learned v (value ∷ []))) (kv : Store) (tx : List Op) (encodes : tx ≡ encoded (learned v (value ∷ []))) where
   then_reads : (y : Course) → y.readings ≡ readings_of kv → (changed (learned v (value ∷ [])) y).readings ≡ readings_of (apply tx kv)
   then_reads y h =
       ap (played (learned v (value ∷ []))) h
       ∙ sym (readings-after (learned v (value ∷ [])) fit kv)
-      ∙ ap (λ ops. readings_of (apply ops kv)) (sym spells)
+      ∙ ap (λ ops. readings_of (apply ops kv)) (sym encodes)
 
   pub committed-here : (l : Leader) (y : Course) → IsVoted (readings_of kv) y
       → IsHere (epoch_of (readings_of (apply tx kv))) (readings_of (apply tx kv)).last (leader_is l (changed (learned v (value ∷ [])) y))

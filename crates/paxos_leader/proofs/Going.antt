@@ -1,7 +1,7 @@
 -- Plans of a leader, part by part, and calls that hand an act on.
 use Rattle.std.proofs.Common.{◌≡◌, ◌≢◌, ℕ, false, cond, List, [], ◌++◌, Option, None, Result, Ok, Err, refl, sym, ap, subst, ◌∙◌, append_assoc, set, get_or-set_other}
 use Rattle.std.specs.List.{AllByRecursion}
-use Rattle.mon_msg.specs.Protocol.Changes.{Change, spelled}
+use Rattle.mon_msg.specs.Protocol.Changes.{Change, encoded}
 use Rattle.mon_msg.specs.Protocol.Course.{Course, ◌▸◌, ◌>>=◌, say, disarm, leader_is, timers_in}
 use Rattle.mon_msg.specs.Protocol.Leading.{has_queue}
 use Rattle.mon_msg.specs.Protocol.Phases.{same_phase}
@@ -18,7 +18,7 @@ use Rattle.mon_msg.specs.declared.view.Me.{Me}
 use Rattle.mon_types.specs.declared.names.Which.{Which}
 use Rattle.mon_wire.specs.declared.phase.Timer.{Timer}
 use Rattle.mon_plan.specs.Plans.{Does, Plans, changed, sending, stands, phase_as, leads, all_armed, arm_all, done, act}
-use Rattle.mon_plan.proofs.Planning.{played-append, changed-is, sending-is, spelled-append, fit-append, weaken, instead}
+use Rattle.mon_plan.proofs.Planning.{played-append, changed-is, sending-is, encoded-append, fit-append, weaken, instead}
 use Rattle.paxos_leader.specs.Drafts.{under_way, GoesOn}
 use Rattle.paxos_leader.specs.declared.draft.Draft.{Draft}
 
@@ -89,12 +89,12 @@ module _ (me : Me) (now : ℕ) (At : Course → Type 0) (d : Draft) (wanted : Co
   -- a plan goes on with a draft if its parts are the draft's with the rest of the act's
   pub goes : (ds : List Change) → AllByRecursion Fits ds → (ms : List Sent) (armings : List Arming) (new : Leader)
       → ((y : Course) → At y → y.state.leader ≡ d.state → wanted y ≡ Ok (finish ds ms armings new y))
-      → (p : Plan Leader) → p.tx ≡ d.tx ++ spelled ds → p.out ≡ d.out ++ ms → p.timers ≡ armings → p.state ≡ new → p.next ≡ next.Stay
+      → (p : Plan Leader) → p.tx ≡ d.tx ++ encoded ds → p.out ≡ d.out ++ ms → p.timers ≡ armings → p.state ≡ new → p.next ≡ next.Stay
       → GoesOn me now At d wanted (Ok p)
   goes ds fit ms armings new law p tx out timers state stays cs fits is = record {
     changes = cs ++ ds;
     fit = fit-append cs ds fits fit;
-    spelled = tx ∙ ap (λ ops. ops ++ spelled ds) is ∙ sym (spelled-append cs ds);
+    encoded = tx ∙ ap (λ ops. ops ++ encoded ds) is ∙ sym (encoded-append cs ds);
     row = λ x b.
         law (under_way cs d.out d.state x) b refl
         ∙ ap Ok (
@@ -114,7 +114,7 @@ module _ (me : Me) (now : ℕ) (At : Course → Type 0) (d : Draft) (wanted : Co
 
   -- another call may finish the act, from a draft with more changes made and more sent
   pub hands_on : (Bt : Course → Type 0) (e : Draft) (other : Course → Result Course Which) (ds : List Change) → AllByRecursion Fits ds → (ms : List Sent)
-      → e.tx ≡ d.tx ++ spelled ds → e.out ≡ d.out ++ ms
+      → e.tx ≡ d.tx ++ encoded ds → e.out ≡ d.out ++ ms
       → ((y : Course) → At y → y.state.leader ≡ d.state → Bt (under_way ds ms e.state y))
       → ((y : Course) → At y → y.state.leader ≡ d.state → wanted y ≡ other (under_way ds ms e.state y))
       → (r : Result (Plan Leader) RoleStop) → GoesOn me now Bt e other r → GoesOn me now At d wanted r
@@ -125,7 +125,7 @@ module _ (me : Me) (now : ℕ) (At : Course → Type 0) (d : Draft) (wanted : Co
       (λ x b. same (under_way cs d.out d.state x) b refl ∙ sym (ap other (new x)))
       (weaken me now leads (λ x. Bt (under_way (cs ++ ds) e.out e.state x)) (λ x. At (under_way cs d.out d.state x)) (λ x. x) (λ x. other (under_way (cs ++ ds) e.out e.state x)) r
       (λ x b. subst Bt (sym (new x)) (there (under_way cs d.out d.state x) b refl))
-      (h (cs ++ ds) (fit-append cs ds fits fit) (tx ∙ ap (λ ops. ops ++ spelled ds) is ∙ sym (spelled-append cs ds))))
+      (h (cs ++ ds) (fit-append cs ds fits fit) (tx ∙ ap (λ ops. ops ++ encoded ds) is ∙ sym (encoded-append cs ds))))
 
 -- a call that goes on if nothing is written yet, as a row or as an act
 pub from_start : (me : Me) (now : ℕ) (Bt : Course → Type 0) (e : Draft) (other : Course → Result Course Which) (r : Result (Plan Leader) RoleStop)
@@ -136,7 +136,7 @@ pub from_start : (me : Me) (now : ℕ) (Bt : Course → Type 0) (e : Draft) (oth
     → Plans me now leads A start wanted r
 from_start me now Bt e other (Ok p) none h A start wanted there same =
     let g = h [] tt none in
-    record { changes = g.changes; fit = g.fit; spelled = g.spelled; row = λ x b. same x b ∙ g.row (start x) (there x b) }
+    record { changes = g.changes; fit = g.fit; encoded = g.encoded; row = λ x b. same x b ∙ g.row (start x) (there x b) }
 from_start me now Bt e other (Err stop.OutOfMemory) none h A start wanted there same = tt
 from_start me now Bt e other (Err (stop.Spent which)) none h A start wanted there same = λ x b. same x b ∙ h [] tt none (start x) (there x b)
 
@@ -151,7 +151,7 @@ module _ (me : Me) (now : ℕ) (B : Course → Type 0) (start : Course → Cours
   says_on same p q stays is h = record {
     changes = h.changes;
     fit = h.fit;
-    spelled = ap (λ (p : Plan Leader). p.tx) is ∙ h.spelled;
+    encoded = ap (λ (p : Plan Leader). p.tx) is ∙ h.encoded;
     row = λ x b.
         same x b
         ∙ ap (then_say ms) (h.row x b)

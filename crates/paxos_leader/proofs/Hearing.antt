@@ -37,8 +37,8 @@ use Rattle.mon_plan.specs.Seen.{IsMet}
 use Rattle.mon_plan.proofs.Planning.{weaken}
 use Rattle.mon_plan.proofs.Values.{all_short}
 use Rattle.paxos_leader.specs.Drafts.{IsVoted}
-use Rattle.paxos_leader.specs.Inputs.{is_told, is_own, phases_for}
-use Rattle.paxos_leader.specs.Rows.{IsHeard, goes_on, may_begin_told}
+use Rattle.paxos_leader.specs.Inputs.{is_role_message, is_own, phases_for}
+use Rattle.paxos_leader.specs.Rows.{IsHeard, goes_on, may_begin_pending}
 use Rattle.paxos_leader.proofs.Answering.{collects}
 use Rattle.paxos_leader.proofs.Committing.{voted-leads}
 
@@ -60,9 +60,9 @@ module _ (me : Me) (now f e : ℕ) (x : Course) (pn first last : ℕ) (whole : B
         rw (mine, u, t) refl
 
     module _ (same : pn ≡ x.state.leader.pn) where
-      pub last-behind : (ltb (suc x.readings.last) first && ltb x.readings.last last) ≡ true → hear_last me now f e pn first last whole from values told x ≡ bootstrap me now x
+      pub last-prepended : (ltb (suc x.readings.last) first && ltb x.readings.last last) ≡ true → hear_last me now f e pn first last whole from values told x ≡ bootstrap me now x
       unfolding hear_last
-      last-behind h =
+      last-prepended h =
           let t : ltb pn x.state.leader.pn ≡ false = le-ltb pn x.state.leader.pn (omega arith) in
           let u : ltb x.state.leader.pn pn ≡ false = le-ltb x.state.leader.pn pn (omega arith) in
           rw (mine, u, t, h) refl
@@ -187,7 +187,7 @@ module _ (me : Me) (now : ℕ) (w : Readings) (v : View) (l : Leader) (f e : ℕ
       })
       p
 
-pub hear-dropped : (me : Me) (shared : List Entry) (now f e : ℕ) (b : Body) → is_told b ≡ true → (x : Course) → of_member (phases_for b) f e x ≡ false → hear me shared now f e b x ≡ Ok x
+pub hear-dropped : (me : Me) (shared : List Entry) (now f e : ℕ) (b : Body) → is_role_message b ≡ true → (x : Course) → of_member (phases_for b) f e x ≡ false → hear me shared now f e b x ≡ Ok x
 hear-dropped me shared now f e (body.Last pn first last whole from values told) t x h = last-dropped me now f e x pn first last whole from values told h
 hear-dropped me shared now f e (body.Accept pn v) t x h = accept-dropped me now f e x pn v h
 hear-dropped me shared now f e (body.LeaseAck last) t x h = ack-dropped me f e x last h
@@ -215,11 +215,11 @@ module _ (n pn first last : ℕ) (whole : Bool) (from : ℕ) (values : List (Lis
   pub answered-few : length values ≤ 65535
   answered-few = fitting.1
 
-  told-begins : (n : ℕ) (told : Option Told) → 12 + (33 + n + told_length told) ≤ 1048576 → may_begin_told told ≡ true
+  told-begins : (n : ℕ) (told : Option Told) → 12 + (33 + n + told_length told) ≤ 1048576 → may_begin_pending told ≡ true
   told-begins n None short = refl
   told-begins n (Some t) short = ap (λ b. b && true) (le-leb (12 + (16 + (4 + length (text t.value)))) 1048576 (omega (arith, short)))
 
-  pub answered-begins : may_begin_told told ≡ true
+  pub answered-begins : may_begin_pending told ≡ true
   answered-begins = told-begins (2 + sum_by value_length values) told fitting.0
 
 -- ---- what is heard of a member, by what the leader remembers then

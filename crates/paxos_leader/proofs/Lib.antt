@@ -2,7 +2,7 @@ pub mod Acting
 pub mod Answering
 pub mod Asking
 pub mod Beginning
-pub mod Behind
+pub mod Prepended
 pub mod Committing
 pub mod Going
 pub mod Hearing

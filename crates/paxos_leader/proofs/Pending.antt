@@ -3,7 +3,7 @@ use Rattle.std.proofs.Common.{◌≡◌, ℕ, suc, ◌+◌, ◌≤◌, Bool, tru
 use Rattle.std.proofs.lemmas.Bool.{and_parts, leb-true}
 use Rattle.std.specs.Option.{option_map}
 use Rattle.mon_msg.specs.Protocol.Readings.{Readings}
-use Rattle.mon_msg.specs.Protocol.Records.{transaction_in, record_at, where_it_may_begin, found_as, pending, pending_of, may_begin, most_value}
+use Rattle.mon_msg.specs.Protocol.Records.{transaction_in, record_at, if_it_may_begin, found_as, pending, pending_of, may_begin, most_value}
 use Rattle.mon_msg.specs.declared.paxos.Leader.{Leader}
 use Rattle.mon_tx.specs.Decision.{Cell}
 use Rattle.mon_tx.specs.Decode.{transaction_of}
@@ -12,7 +12,7 @@ use Rattle.mon_tx.specs.declared.op.Op.{Op}
 use Rattle.mon_tx.specs.declared.refusal.TxRefused.{TxRefused}
 use Rattle.paxos_leader.specs.Inputs.{may_begin_all, may_begin_any, may_begin_found}
 
-read : (r : Result (List Op) TxRefused) → may_begin_any (where_it_may_begin r) ≡ true
+read : (r : Result (List Op) TxRefused) → may_begin_any (if_it_may_begin r) ≡ true
 read (Err e) = refl
 read (Ok value) = by (may_begin value) refl
   where
@@ -20,9 +20,9 @@ read (Ok value) = by (may_begin value) refl
     by true h = h
     by false h = refl
 
-spelled : (c : Cell) → may_begin_any (transaction_in c) ≡ true
-spelled None = refl
-spelled (Some bytes) = read (transaction_of bytes)
+encoded : (c : Cell) → may_begin_any (transaction_in c) ≡ true
+encoded None = refl
+encoded (Some bytes) = read (transaction_of bytes)
 
 found : (v pn : ℕ) (value : Option (List Op)) → may_begin_any value ≡ true → may_begin_found (found_as v pn value) ≡ true
 found v pn None h = refl
@@ -37,7 +37,7 @@ unfolding pending_of record_at
 pending-begins w = by (eqb w.pending_v (suc w.last))
   where
     by : (b : Bool) → may_begin_found (cond b (found_as w.pending_v w.pending_pn (transaction_in (w.record_of (suc w.last)))) None) ≡ true
-    by true = found w.pending_v w.pending_pn (transaction_in (w.record_of (suc w.last))) (spelled (w.record_of (suc w.last)))
+    by true = found w.pending_v w.pending_pn (transaction_in (w.record_of (suc w.last))) (encoded (w.record_of (suc w.last)))
     by false = refl
 
 -- a value that may be begun is short

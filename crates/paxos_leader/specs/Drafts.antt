@@ -1,7 +1,7 @@
 -- What an event at a leader has done so far, and calls that go on with it.
 use Rattle.std.specs.List.{AllByRecursion}
 use Rattle.std.specs.Prelude.{◌≡◌, ℕ, ◌+◌, ◌^◌, min, Bool, true, List, Some, Result, Ok, Err, if◌then◌else◌, [], ◌∷◌, ◌++◌}
-use Rattle.mon_msg.specs.Protocol.Changes.{Change, spelled}
+use Rattle.mon_msg.specs.Protocol.Changes.{Change, encoded}
 use Rattle.mon_msg.specs.Protocol.Course.{Course, ◌▸◌, leader_is}
 use Rattle.mon_msg.specs.Protocol.Leader.{is_one_of}
 use Rattle.mon_msg.specs.Protocol.Learning.{learn}
@@ -37,7 +37,7 @@ under_way cs sends l x = x ▸ changed cs ▸ sending sends ▸ leader_is l
 abbrev pub GoesOn : Me → (now : ℕ) → (At : Course → Type 0) → Draft → (wanted : Course → Result Course Which)
     → Result (Plan Leader) RoleStop → Type 0
 GoesOn me now At d wanted result =
-    (cs : List Change) → AllByRecursion Fits cs → d.tx ≡ spelled cs
+    (cs : List Change) → AllByRecursion Fits cs → d.tx ≡ encoded cs
     → Plans me now leads (λ x. At (under_way cs d.out d.state x)) (λ x. x)
     (λ x. wanted (under_way cs d.out d.state x)) result
 
@@ -52,7 +52,7 @@ pub record IsCommitted (d : Draft) (v : ℕ) (value : List Op) (p : Plan Leader)
   pub learns : (x : Course) → learn v (value ∷ []) x ≡ Ok (changed (learned v (value ∷ [])) x)
   pub plan : p
       ≡ record {
-        tx = d.tx ++ spelled (learned v (value ∷ []));
+        tx = d.tx ++ encoded (learned v (value ∷ []));
         out = d.out;
         timers = [];
         state = record d.state { stage = stage.Active };

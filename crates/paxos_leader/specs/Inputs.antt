@@ -13,11 +13,11 @@ use Rattle.mon_wire.specs.declared.phase.Phase.{Phase}
 use Rattle.mon_wire.specs.declared.phase.Timer.TheVariants as timer
 use Rattle.mon_wire.specs.declared.phase.Timer.{Timer}
 
-abbrev pub is_told : Body → Bool
-is_told (body.Last pn first last whole from values pending) = true
-is_told (body.Accept pn version) = true
-is_told (body.LeaseAck last) = true
-is_told b = false
+abbrev pub is_role_message : Body → Bool
+is_role_message (body.Last pn first last whole from values pending) = true
+is_role_message (body.Accept pn version) = true
+is_role_message (body.LeaseAck last) = true
+is_role_message b = false
 
 -- the phases in which such a message is heard
 abbrev pub phases_for : Body → List Phase
@@ -34,7 +34,7 @@ is_own timer.LeaseAck = true
 is_own t = false
 
 abbrev pub is_input : Input → Bool
-is_input (input.Deliver m) = is_told m.body
+is_input (input.Deliver m) = is_role_message m.body
 is_input (input.Timer t) = is_own t
 is_input input.Start = false
 is_input (input.Client session r) = false

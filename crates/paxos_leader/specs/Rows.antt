@@ -36,9 +36,9 @@ pub record IsHeard (phases : List Phase) (f e : ℕ) (w : Readings) (l : Leader)
   pub stage : phase_of l.stage ≡ x.state.phase
   pub member : of_member phases f e x ≡ true
 
-abbrev pub may_begin_told : Option Told → Bool
-may_begin_told None = true
-may_begin_told (Some told) = may_begin told.value
+abbrev pub may_begin_pending : Option Told → Bool
+may_begin_pending None = true
+may_begin_pending (Some told) = may_begin told.value
 
 -- what is found after a member gave a pending value for the version after its last one, or the number that runs out
 abbrev pub NotesFound : (found : Option Found) → (last : ℕ) → Option Told → Result (Option Found) RoleStop → Type 0

@@ -11,7 +11,7 @@ ghost use Rattle.mon_msg.specs.declared.paxos.LeaderStage.TheVariants as stage;
 ghost use Rattle.mon_tx.specs.Text.{text, most};
 ghost use Rattle.paxos_leader.specs.Drafts.{ActsOn, CommitsAlone, IsHere};
 
-use crate::draft::{Draft, tell};
+use crate::draft::{Draft, send_to_members};
 use crate::seen::Act;
 use crate::sets::{is_alone, leads_alone, only};
 use crate::timers::{lease_timers, value_timers};
@@ -37,7 +37,7 @@ fn leasing(me: &Me, mut state: Leader, now: Moment) -> Leader
 }
 
 /// Appends a LEASE for each other member of the quorum to what was sent so far.
-fn tell_lease(
+fn send_lease(
     act: &Act<'_>,
     out: Items<Sent>,
     quorum: RankSet,
@@ -47,7 +47,7 @@ fn tell_lease(
         (members_of act.now.me.now quorum)) }
 {
     let lease = Body::Lease { last };
-    tell(act, out, quorum, lease)
+    send_to_members(act, out, quorum, lease)
 }
 
 /// The leader becomes active, and gives a lease to all other members of its quorum.
@@ -61,7 +61,7 @@ pub(crate) fn be_active(
     ensures stays { IfOk result (λ p. p.next ≡ Next.Stay) }
 {
     let Draft { tx, out, state } = draft;
-    let out = tell_lease(act, out, state.quorum, last)?;
+    let out = send_lease(act, out, state.quorum, last)?;
     let timers = lease_timers(act.alloc, is_alone(act.me, state.quorum), act.time)?;
     let state = leasing(act.me, state, act.time);
     Ok(Plan {
@@ -74,7 +74,7 @@ pub(crate) fn be_active(
 }
 
 /// The leader's state while its value awaits acceptances. The leader has accepted the value itself.
-fn valued(
+fn awaiting_votes(
     me: &Me,
     mut state: Leader,
     stage: LeaderStage,
@@ -112,7 +112,7 @@ fn ask(
         version,
         value: value.copy()?,
     };
-    tell(act, out, state.quorum, begin)
+    send_to_members(act, out, state.quorum, begin)
 }
 
 /// The leader votes for a value itself, and sends a BEGIN to each other member. Its state stays the same.
@@ -158,7 +158,7 @@ pub(crate) fn begin_with(
         tx,
         out,
         timers,
-        state: valued(act.me, state, stage, value, origin),
+        state: awaiting_votes(act.me, state, stage, value, origin),
         next: Next::Stay,
     })
 }

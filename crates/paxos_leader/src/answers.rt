@@ -2,7 +2,7 @@
 
 ghost use Rattle.std.specs.Prelude.{◌≡◌, ℕ, ◌+◌, ◌-◌, ◌≤◌, ◌^◌, ◌++◌, [], ◌∷◌, length, true, ◌&&◌, nat_lt, suc, Some, IfOk, OnOk};
 ghost use Rattle.std.specs.List.{AllByRecursion};
-ghost use Rattle.mon_msg.specs.Protocol.Changes.{spelled};
+ghost use Rattle.mon_msg.specs.Protocol.Changes.{encoded};
 ghost use Rattle.mon_msg.specs.Protocol.Found.{is_newer as newer};
 ghost use Rattle.mon_msg.specs.Protocol.Leader.{hear_last as last_row, hear_answer as answer_row, hear_whole as whole_row};
 ghost use Rattle.mon_msg.specs.Protocol.Learning.{news, news_from};
@@ -19,7 +19,7 @@ ghost use Rattle.mon_plan.specs.Learned.{Learns, learned};
 ghost use Rattle.paxos_leader.specs.Drafts.{ActsOn, GoesOn, IsAsking};
 ghost use Rattle.paxos_leader.specs.Inputs.{may_begin_found};
 ghost use Rattle.paxos_leader.specs.Parts.{with_answer};
-ghost use Rattle.paxos_leader.specs.Rows.{ByRow, IsHeard, Notes, NotesFound, may_begin_told, goes_on};
+ghost use Rattle.paxos_leader.specs.Rows.{ByRow, IsHeard, Notes, NotesFound, may_begin_pending, goes_on};
 
 use crate::collecting::{ask_again, settle, take_found};
 use crate::draft::Draft;
@@ -98,7 +98,7 @@ fn found_with_any(
     told: &Option<Told>,
 ) -> Result<Option<Found>, RoleStop>
     requires found { may_begin_found found ≡ true }
-    requires told { may_begin_told told.now ≡ true }
+    requires told { may_begin_pending told.now ≡ true }
     ensures notes { NotesFound found last told.now result }
     ensures short { IfOk result (λ new. may_begin_found new ≡ true) }
 {
@@ -121,7 +121,7 @@ fn answered(mut state: Leader, from: Rank, last: Version, found: Option<Found>) 
 /// The leader's state with a member's complete answer, by what the member reported.
 fn note(state: Leader, answer: &Answer<'_>) -> Result<Leader, RoleStop>
     requires found { may_begin_found state.found ≡ true }
-    requires told { may_begin_told answer.now.pending.now ≡ true }
+    requires told { may_begin_pending answer.now.pending.now ≡ true }
     ensures notes { Notes state answer.now.from answer.now.last answer.now.pending.now result }
     ensures short { IfOk result (λ new. may_begin_found new.found ≡ true) }
     ensures stage { IfOk result (λ new. new.stage ≡ state.stage) }
@@ -144,7 +144,7 @@ fn hear_whole(
     answer: &Answer<'_>,
 ) -> Result<Plan<Leader>, RoleStop>
     requires found { may_begin_found state.found ≡ true }
-    requires told { may_begin_told answer.now.pending.now ≡ true }
+    requires told { may_begin_pending answer.now.pending.now ≡ true }
     ensures goes { ActsOn act.now (IsAsking act.now.epoch (readings_of stored.now))
         (record { tx = []; out = []; state = state })
         (λ me now. whole_row me now answer.now.from answer.now.last answer.now.pending.now) result }
@@ -166,7 +166,7 @@ fn go_on(
     answer: &Answer<'_>,
 ) -> Result<Plan<Leader>, RoleStop>
     requires found { may_begin_found state.found ≡ true }
-    requires told { may_begin_told answer.now.pending.now ≡ true }
+    requires told { may_begin_pending answer.now.pending.now ≡ true }
     ensures goes { ActsOn act.now (IsAsking act.now.epoch (readings_of stored.now))
         (record { tx = []; out = []; state = state })
         (λ me now. goes_on me now answer.now.from answer.now.last answer.now.whole answer.now.pending.now) result }
@@ -189,7 +189,7 @@ fn go_on_after(
     answer: &Answer<'_>,
 ) -> Result<Plan<Leader>, RoleStop>
     requires found { may_begin_found state.found ≡ true }
-    requires told { may_begin_told answer.now.pending.now ≡ true }
+    requires told { may_begin_pending answer.now.pending.now ≡ true }
     ensures goes { GoesOn here.now.me.now here.now.time
         (IsAsking (epoch_of (readings_of (apply tx.now here.now.kv.now))) (readings_of (apply tx.now here.now.kv.now)))
         (record { tx = []; out = []; state = state })
@@ -203,7 +203,7 @@ fn go_on_after(
 }
 
 /// The plan with these changes before its own.
-fn behind(mut tx: Transaction, mut plan: Plan<Leader>) -> Result<Plan<Leader>, OutOfMemory>
+fn prepended(mut tx: Transaction, mut plan: Plan<Leader>) -> Result<Plan<Leader>, OutOfMemory>
     ensures { IfOk result (λ p. p ≡ record plan { tx = tx ++ plan.tx }) }
 {
     tx.append(&plan.tx)?;
@@ -216,7 +216,7 @@ fn learn_news(tx: &mut Transaction, own: Version, answer: &Answer<'_>) -> Result
     requires short { AllByRecursion (λ ops. length (text ops) ≤ most) answer.now.values.now }
     requires few { length answer.now.values.now ≤ MOST_ITEMS }
     ensures act { Learns (news_from own answer.now.start) (news own answer.now.start answer.now.values.now) result }
-    ensures changes { OnOk result (tx.new ≡ tx.old ++ spelled (learned (news_from own answer.now.start)
+    ensures changes { OnOk result (tx.new ≡ tx.old ++ encoded (learned (news_from own answer.now.start)
         (news own answer.now.start answer.now.values.now))) }
     ensures fit { OnOk result
         (AllByRecursion Fits (learned (news_from own answer.now.start)
@@ -237,7 +237,7 @@ fn hear_answer(
     requires short { AllByRecursion (λ ops. length (text ops) ≤ most) answer.now.values.now }
     requires few { length answer.now.values.now ≤ MOST_ITEMS }
     requires found { may_begin_found state.found ≡ true }
-    requires told { may_begin_told answer.now.pending.now ≡ true }
+    requires told { may_begin_pending answer.now.pending.now ≡ true }
     ensures plans { (e : ℕ) →
         ByRow here.now (IsHeard (phases.Collecting ∷ []) answer.now.from e (readings_of here.now.kv.now) state)
         (λ me now. answer_row me now answer.now.from answer.now.last answer.now.whole answer.now.start
@@ -254,14 +254,14 @@ fn hear_answer(
         }
     }
     match go_on_after(here, &tx, state, answer) {
-        Ok(plan) => Ok(behind(tx, plan)?),
+        Ok(plan) => Ok(prepended(tx, plan)?),
         Err(stop) => Err(stop),
     }
 }
 
 /// Whether a member no longer keeps the version after the leader's last one. Only a synchronization then helps the
 /// leader.
-fn is_behind(own: Version, answer: &Answer<'_>) -> bool
+fn needs_copy(own: Version, answer: &Answer<'_>) -> bool
     ensures { result ≡ (nat_lt (suc own) answer.now.first && nat_lt own answer.now.last) }
 {
     own.get() + 1 < answer.first.get() && own.get() < answer.last.get()
@@ -276,7 +276,7 @@ pub(crate) fn hear_last(
     requires short { AllByRecursion (λ ops. length (text ops) ≤ most) answer.now.values.now }
     requires few { length answer.now.values.now ≤ MOST_ITEMS }
     requires found { may_begin_found state.found ≡ true }
-    requires told { may_begin_told answer.now.pending.now ≡ true }
+    requires told { may_begin_pending answer.now.pending.now ≡ true }
     ensures plans { (e : ℕ) →
         ByRow here.now (IsHeard (phases.Collecting ∷ []) answer.now.from e (readings_of here.now.kv.now) state)
         (λ me now. last_row me now answer.now.from e answer.now.pn answer.now.first answer.now.last answer.now.whole
@@ -293,7 +293,7 @@ pub(crate) fn hear_last(
     if answer.pn.get() < state.pn.get() {
         return Ok(stay(here.alloc, state));
     }
-    if is_behind(here.own_last(), answer) {
+    if needs_copy(here.own_last(), answer) {
         return Ok(planned(here.alloc, state, Next::Bootstrap));
     }
     hear_answer(here, state, answer)

@@ -1,7 +1,7 @@
 //! The acts of a leader that collects what its quorum accepted.
 
 ghost use Rattle.std.specs.Prelude.{◌≡◌, ◌≤◌, ◌^◌, ◌↔◌, true, [], ◌∷◌, ◌++◌, Some, IfOk, IfSome, IsSome};
-ghost use Rattle.mon_msg.specs.Protocol.Changes.{Numbers, spelled};
+ghost use Rattle.mon_msg.specs.Protocol.Changes.{Numbers, encoded};
 ghost use Rattle.mon_msg.specs.Protocol.Collecting.{begin_found as begins_found, collect as collected, collector as collecting, settle as settled};
 ghost use Rattle.mon_msg.specs.Protocol.Readings.{readings_of, or_zero};
 ghost use Rattle.mon_msg.specs.Protocol.Sets.{only as only_one};
@@ -12,7 +12,7 @@ ghost use Rattle.paxos_leader.specs.Parts.{asked, made, without_found};
 
 use crate::acts::{be_active, begin_value};
 use crate::catch_up::send_missed;
-use crate::draft::{Draft, tell};
+use crate::draft::{Draft, send_to_members};
 use crate::seen::Act;
 use crate::sets::{is_alone, only};
 use mon_bytes::{Items, OutOfMemory};
@@ -129,7 +129,7 @@ fn made(stored: &Stored<'_>, me: &Me, above: Pn) -> Option<Pn>
 }
 
 /// Appends a COLLECT for each other member of the quorum to what was sent so far.
-fn tell_question(
+fn send_collect(
     act: &Act<'_>,
     stored: &Stored<'_>,
     out: Items<Sent>,
@@ -144,12 +144,12 @@ fn tell_question(
         first: stored.first(),
         last: stored.last(),
     };
-    tell(act, out, quorum, question)
+    send_to_members(act, out, quorum, question)
 }
 
 /// The transaction that notes a proposal number as the last one made and as promised.
 fn to_number(alloc: Global, pn: Pn) -> Result<Transaction, OutOfMemory>
-    ensures { IfOk result (λ tx. tx ≡ spelled (Numbers pn ∷ [])) }
+    ensures { IfOk result (λ tx. tx ≡ encoded (Numbers pn ∷ [])) }
 {
     let mut tx = Transaction::new(alloc);
     put_numbers(&mut tx, pn)?;
@@ -165,13 +165,13 @@ fn ask(
     pn: Pn,
 ) -> Result<Draft, OutOfMemory>
     ensures draft { IfOk result (λ d. d ≡ record {
-      tx = spelled (Numbers pn ∷ []);
+      tx = encoded (Numbers pn ∷ []);
       out = out ++ asked act.now.me.now quorum pn act.now.epoch (readings_of stored.now);
       state = collecting act.now.me.now quorum pn (readings_of stored.now);
     }) }
     ensures found { IfOk result (λ d. may_begin_found d.state.found ≡ true) }
 {
-    let out = tell_question(act, stored, out, quorum, pn)?;
+    let out = send_collect(act, stored, out, quorum, pn)?;
     let tx = to_number(act.alloc, pn)?;
     let found = stored.pending(act.alloc)?;
     let state = collector(act.me, quorum, pn, found);

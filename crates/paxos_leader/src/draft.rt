@@ -35,7 +35,7 @@ impl Draft {
 
 /// Appends a copy of a message for each other member of a quorum except the last one. Returns that last member too, if
 /// there is one.
-fn tell_all_but_last(
+fn send_to_all_but_last(
     act: &Act<'_>,
     mut out: Items<Sent>,
     quorum: RankSet,
@@ -60,7 +60,7 @@ fn tell_all_but_last(
 
 /// Appends a message for each other member of a quorum to what was sent so far. The body is copied for all of them but
 /// the last.
-pub(crate) fn tell(
+pub(crate) fn send_to_members(
     act: &Act<'_>,
     out: Items<Sent>,
     quorum: RankSet,
@@ -69,7 +69,7 @@ pub(crate) fn tell(
     ensures { IfOk result (λ sent.
         sent ≡ out ++ map (message_to act.now.me.now act.now.epoch body) (members_of act.now.me.now quorum)) }
 {
-    let told = tell_all_but_last(act, out, quorum, &body);
+    let told = send_to_all_but_last(act, out, quorum, &body);
     let (mut out, last) = match told {
         Ok(told) => told,
         Err(no_memory) => {

@@ -10,7 +10,7 @@ ghost use Rattle.mon_msg.specs.Protocol.Readings.{epoch_of, readings_of};
 ghost use Rattle.mon_msg.specs.Protocol.Records.{may_begin};
 ghost use Rattle.mon_msg.specs.Protocol.Sending.{answers_to, members as members_of, message_to};
 ghost use Rattle.mon_msg.specs.Protocol.Table.{timer_comes};
-ghost use Rattle.mon_plan.specs.Inputs.{may_come, row};
+ghost use Rattle.mon_plan.specs.Inputs.{input_is_short, row};
 ghost use Rattle.mon_plan.specs.Leaves.{Leaves};
 ghost use Rattle.mon_plan.specs.Plans.{Plans, PlansAct, PlansRow, leads};
 ghost use Rattle.mon_plan.specs.Seen.{IsMet};
@@ -19,13 +19,13 @@ ghost use Rattle.mon_tx.specs.Text.{text, most};
 ghost use Rattle.mon_types.specs.Ranks.{has};
 ghost use Rattle.mon_wire.specs.declared.phase.Phase.TheVariants as phases;
 ghost use Rattle.paxos_leader.specs.Drafts.{IsLed, IsWon};
-ghost use Rattle.paxos_leader.specs.Inputs.{is_input, is_own, is_told, may_begin_all, phases_for};
+ghost use Rattle.paxos_leader.specs.Inputs.{is_input, is_own, is_role_message, may_begin_all, phases_for};
 ghost use Rattle.paxos_leader.specs.Rows.{ByRow, Meets};
 
 use crate::acts::{be_active, begin_with, commit_alone};
 use crate::answers::{Answer, hear_last};
 use crate::collecting::collect;
-use crate::draft::{Draft, tell};
+use crate::draft::{Draft, send_to_members};
 use crate::seen::Act;
 use crate::sets::leads_alone;
 use crate::values::{hear_accept, hear_lease_ack};
@@ -65,7 +65,7 @@ fn is_active(phase: Phase) -> bool
 
 /// Whether a leader in this phase hears a LAST, ACCEPT or LEASE_ACK.
 fn is_for(phase: Phase, body: &Body) -> bool
-    requires { is_told body.now ≡ true }
+    requires { is_role_message body.now ≡ true }
     ensures { result ≡ is_one_of (phases_for body.now) phase }
 {
     match body {
@@ -78,7 +78,7 @@ fn is_for(phase: Phase, body: &Body) -> bool
 
 /// Whether a message is of this epoch, from a member of the leader's quorum, and is heard in the leader's phase.
 fn is_ours(epoch: Epoch, view: &View, state: &Leader, message: &Message) -> bool
-    requires { is_told message.now.body ≡ true }
+    requires { is_role_message message.now.body ≡ true }
     ensures { result ≡ (is_one_of (phases_for message.now.body) view.now.phase && message.now.epoch == epoch
         && has state.now.quorum message.now.from) }
 {
@@ -95,7 +95,7 @@ fn hear(
     state: Leader,
     message: &Message,
 ) -> Result<Plan<Leader>, RoleStop>
-    requires input { is_told message.now.body ≡ true }
+    requires input { is_role_message message.now.body ≡ true }
     requires fits { fits here.now.me.now.member.monitors message.now.body ≡ true }
     requires held { may_begin_all state ≡ true }
     ensures plans { (shared : List Entry) → ByRow here.now (Meets here.now view.now state)
@@ -176,7 +176,7 @@ pub fn step(
     now: Moment,
 ) -> Result<Plan<Leader>, RoleStop>
     requires input { is_input input.now ≡ true }
-    requires fits { may_come me.now.member.monitors input.now ≡ true }
+    requires fits { input_is_short me.now.member.monitors input.now ≡ true }
     requires held { may_begin_all state.now ≡ true }
     ensures plans { (shared : List Entry) → PlansRow me.now now leads (IsMet me.now now (readings_of kv.now) view.now
         (λ s. s.leader) state.now)
@@ -200,7 +200,7 @@ pub fn step_owned(
     input: &Input,
 ) -> Result<Plan<Leader>, RoleStop>
     requires input { is_input input.now ≡ true }
-    requires fits { may_come here.now.me.now.member.monitors input.now ≡ true }
+    requires fits { input_is_short here.now.me.now.member.monitors input.now ≡ true }
     requires held { may_begin_all state ≡ true }
     ensures plans { (shared : List Entry) →
         ByRow here.now (Meets here.now view.now state) (λ me now. row me shared now input.now) result }
@@ -214,12 +214,12 @@ pub fn step_owned(
 }
 
 /// A VICTORY for each other member of the quorum.
-fn tell_victory(act: &Act<'_>, quorum: RankSet) -> Result<Items<Sent>, OutOfMemory>
+fn send_victory(act: &Act<'_>, quorum: RankSet) -> Result<Items<Sent>, OutOfMemory>
     ensures { IfOk result (λ sent. sent ≡ map (message_to act.now.me.now act.now.epoch (Body.Victory quorum))
         (members_of act.now.me.now quorum)) }
 {
     let victory = Body::Victory { quorum };
-    tell(act, Items::new(act.alloc), quorum, victory)
+    send_to_members(act, Items::new(act.alloc), quorum, victory)
 }
 
 /// The monitor has won, and begins to lead this quorum. It announces its victory, and asks the quorum under a new
@@ -242,7 +242,7 @@ pub fn enter(
         epoch,
         time: now,
     };
-    let out = tell_victory(&act, quorum)?;
+    let out = send_victory(&act, quorum)?;
     let stored = Stored::of(alloc, kv);
     let above = Pn::known(0);
     collect(&act, &stored, out, quorum, above)

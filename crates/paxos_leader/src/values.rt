@@ -18,7 +18,7 @@ ghost use Rattle.paxos_leader.specs.Parts.{announced, without_value};
 ghost use Rattle.paxos_leader.specs.Rows.{ByRow, IsHeard};
 
 use crate::acts::be_active;
-use crate::draft::{Draft, tell};
+use crate::draft::{Draft, send_to_members};
 use crate::seen::Act;
 use crate::sets::are_within;
 use mon_bytes::{Items, OutOfMemory};
@@ -61,7 +61,7 @@ fn without_value(mut state: Leader) -> Leader
 }
 
 /// A COMMIT with these values for each other member of the quorum.
-fn tell_commit(
+fn send_commit(
     act: &Act<'_>,
     quorum: RankSet,
     from: Version,
@@ -71,7 +71,7 @@ fn tell_commit(
         (members_of act.now.me.now quorum)) }
 {
     let commit = Body::Commit { from, values };
-    tell(act, Items::new(act.alloc), quorum, commit)
+    send_to_members(act, Items::new(act.alloc), quorum, commit)
 }
 
 /// Sends committed values to the other members, gives them a lease, and answers the origin of the first value.
@@ -89,7 +89,7 @@ fn announce(
     ensures stays { IfOk result (λ p. p.next ≡ Next.Stay) }
 {
     let origin = state.origin;
-    let out = tell_commit(act, state.quorum, version, values)?;
+    let out = send_commit(act, state.quorum, version, values)?;
     let state = without_value(state);
     let draft = Draft { tx, out, state };
     let plan = be_active(act, last, draft)?;
@@ -110,15 +110,15 @@ fn announce_after(
         (record { tx = tx; out = []; state = state }) (announced here.now.me.now here.now.time version values) (Ok p)) }
     ensures stays { IfOk result (λ p. p.next ≡ Next.Stay) }
 {
-    let (epoch, last) = standing(here, &tx)?;
+    let (epoch, last) = epoch_and_last(here, &tx)?;
     let act = Act::of(here, epoch);
     announce(&act, last, tx, state, version, values)
 }
 
 /// The epoch and the last version after changes.
-fn standing(here: &Here<'_>, tx: &Transaction) -> Result<(Epoch, Version), OutOfMemory>
-    ensures { IfOk result (λ standing.
-        standing ≡ (
+fn epoch_and_last(here: &Here<'_>, tx: &Transaction) -> Result<(Epoch, Version), OutOfMemory>
+    ensures { IfOk result (λ epoch_and_last.
+        epoch_and_last ≡ (
           epoch_of (readings_of (apply tx.now here.now.kv.now)),
           (readings_of (apply tx.now here.now.kv.now)).last,
         )) }

@@ -2,7 +2,7 @@
 use Rattle.std.proofs.Common.{◌≡◌, ℕ, ◌+◌, ◌≤◌, ◌<◌, Bool, true, false, ◌&&◌, cond, leb, List, length, Option, None, refl, sym, ap, ◌∙◌, arith}
 use Rattle.std.specs.Prelude.{sum_by}
 use Rattle.std.proofs.lemmas.Bool.{le-leb, lt-ltb, le-ltb}
-use Rattle.mon_msg.specs.Protocol.Answers.{told_of, told_values, answer_with, answer_of}
+use Rattle.mon_msg.specs.Protocol.Answers.{told_of, sent_values, answer_with, answer_of}
 use Rattle.mon_msg.specs.Protocol.Length.{fits}
 use Rattle.mon_msg.specs.Protocol.Parts.{value_length, told_length}
 use Rattle.mon_msg.specs.Protocol.Readings.{Readings}
@@ -12,7 +12,7 @@ use Rattle.mon_wire.specs.declared.body.Body.TheVariants as body
 use Rattle.mon_wire.specs.declared.body.Body.{Body}
 use Rattle.mon_wire.specs.declared.parts.Told.{Told}
 
-module _ (n p : ℕ) (w : Readings) (from : ℕ) (values : List (List Op)) (is : values ≡ told_values n p w.first w.last w.record_of from) where
+module _ (n p : ℕ) (w : Readings) (from : ℕ) (values : List (List Op)) (is : values ≡ sent_values n p w.first w.last w.record_of from) where
   abbrev pub answered : Body
   answered = answer_of n p w.first w.last w.record_of (pending w) from
 

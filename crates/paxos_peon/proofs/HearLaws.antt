@@ -30,7 +30,7 @@ use Rattle.mon_wire.specs.declared.body.Body.TheVariants as body
 use Rattle.mon_wire.specs.declared.body.Body.{Body}
 use Rattle.mon_wire.specs.declared.phase.Timer.TheVariants as timer
 use Rattle.mon_wire.specs.declared.phase.Timer.{Timer}
-use Rattle.paxos_peon.specs.Rows.{is_told, is_rung, IsOurs}
+use Rattle.paxos_peon.specs.Rows.{is_role_message, is_rung, IsOurs}
 
 module _ (me : Me) (now : ℕ) (w : Readings) (v : View) (s : Peon) (f e : ℕ) where
   abbrev pub seems_ours : Bool
@@ -54,7 +54,7 @@ module _ (me : Me) (now : ℕ) (w : Readings) (v : View) (s : Peon) (f e : ℕ) 
       (λ x b. record { readings = b.readings; role = b.role; ours = heard x b ∙ h })
       (subst (λ (g : ℕ). PlansRow me now peon_is (IsOurs w s g e) (row g) r) (sym leads) p)
 
-pub hear-dropped : (me : Me) (shared : List Entry) (now f e : ℕ) (b : Body) → IsTrue (is_told b) → (x : Course) → of_leader f e x ≡ false → hear me shared now f e b x ≡ Ok x
+pub hear-dropped : (me : Me) (shared : List Entry) (now f e : ℕ) (b : Body) → IsTrue (is_role_message b) → (x : Course) → of_leader f e x ≡ false → hear me shared now f e b x ≡ Ok x
 unfolding hear_collect hear_begin hear_commit hear_lease
 hear-dropped me shared now f e (body.Collect pn first last) t x h = rw h refl
 hear-dropped me shared now f e (body.Begin pn v value) t x h = rw h refl

@@ -1,6 +1,6 @@
 -- What holds of an event under way at a peon also holds of what is known of the event.
 use Rattle.std.proofs.Common.{ℕ, List, subst}
-use Rattle.mon_msg.specs.Protocol.Changes.{Change, spelled}
+use Rattle.mon_msg.specs.Protocol.Changes.{Change, encoded}
 use Rattle.mon_msg.specs.Protocol.Course.{Course}
 use Rattle.mon_msg.specs.Protocol.Readings.{Readings}
 use Rattle.mon_msg.specs.declared.paxos.Peon.{Peon}
@@ -15,4 +15,4 @@ along w s f e x b P h = subst (λ (r : Peon). P w r) b.role (subst (λ (r : Read
 
 -- a plan of these parts, after which nothing is done
 abbrev pub plan_of : List Change → List Sent → List Arming → Peon → Plan Peon
-plan_of cs out timers s = record { tx = spelled cs; out = out; timers = timers; state = s; next = next.Stay }
+plan_of cs out timers s = record { tx = encoded cs; out = out; timers = timers; state = s; next = next.Stay }

@@ -18,12 +18,12 @@ use Rattle.mon_wire.specs.declared.phase.Timer.{Timer}
 use Rattle.paxos_peon.specs.declared.here.Here.{Here}
 
 -- what a leader sends its peons
-abbrev pub is_told : Body → Bool
-is_told (body.Collect pn first last) = true
-is_told (body.Begin pn v value) = true
-is_told (body.Commit from values) = true
-is_told (body.Lease last) = true
-is_told b = false
+abbrev pub is_role_message : Body → Bool
+is_role_message (body.Collect pn first last) = true
+is_role_message (body.Begin pn v value) = true
+is_role_message (body.Commit from values) = true
+is_role_message (body.Lease last) = true
+is_role_message b = false
 
 abbrev pub is_rung : Timer → Bool
 is_rung timer.Lease = true
@@ -32,7 +32,7 @@ is_rung t = false
 -- the inputs of a peon
 abbrev pub is_input : Input → Bool
 is_input input.Start = false
-is_input (input.Deliver m) = is_told m.body
+is_input (input.Deliver m) = is_role_message m.body
 is_input (input.Timer t) = is_rung t
 is_input (input.Client session r) = false
 

@@ -2,7 +2,7 @@
 
 ghost use Rattle.std.specs.Prelude.{◌≡◌, ℕ, ◌+◌, ◌-◌, ◌≤◌, ◌^◌, ◌||◌, nat_le, nat_lt, false, None, length, min, sum_by, IfOk};
 ghost use Rattle.mon_bytes.specs.declared.limits.TheConstants.{MOST_MESSAGE};
-ghost use Rattle.mon_msg.specs.Protocol.Answers.{answer_of, told_of, told_values};
+ghost use Rattle.mon_msg.specs.Protocol.Answers.{answer_of, told_of, sent_values};
 ghost use Rattle.mon_msg.specs.Protocol.Parts.{value_length, told_length};
 ghost use Rattle.mon_msg.specs.Protocol.Readings.{readings_of};
 ghost use Rattle.mon_msg.specs.Protocol.Records.{pending};
@@ -25,20 +25,20 @@ const BESIDES: usize = 47;
 const WITHOUT_PENDING: usize = 48;
 
 /// Whether no values are sent from a version on: the leader has them all, or they aren't kept any more.
-fn tells_none(stored: &Stored<'_>, from: Version) -> bool
+fn sends_none(stored: &Stored<'_>, from: Version) -> bool
     ensures { result ≡ (nat_lt (readings_of stored.now).last from || nat_lt from (readings_of stored.now).first) }
 {
     from.get() > stored.last().get() || stored.first().get() > from.get()
 }
 
 /// The committed values from a version on, as many as one answer takes.
-fn told_values(alloc: Global, stored: &Stored<'_>, from: Version) -> Result<Run, OutOfMemory>
+fn sent_values(alloc: Global, stored: &Stored<'_>, from: Version) -> Result<Run, OutOfMemory>
     ensures values { (n promise : ℕ) → let w = readings_of stored.now in
-        IfOk result (λ run. run.values ≡ told_values n promise w.first w.last w.record_of from) }
+        IfOk result (λ run. run.values ≡ sent_values n promise w.first w.last w.record_of from) }
     ensures bytes { IfOk result (λ run. run.bytes ≡ sum_by value_length run.values) }
     ensures few { IfOk result (λ run. length run.values ≤ MOST_ITEMS) }
 {
-    if tells_none(stored, from) {
+    if sends_none(stored, from) {
         return Ok(Run {
             values: Items::new(alloc),
             bytes: 0,
@@ -112,7 +112,7 @@ pub(crate) fn answer(
     ensures { (n : ℕ) → let w = readings_of stored.now in
         IfOk result (λ body. body ≡ answer_of n promise w.first w.last w.record_of (pending w) from) }
 {
-    let Run { values, bytes } = told_values(alloc, stored, from)?;
+    let Run { values, bytes } = sent_values(alloc, stored, from)?;
     let last = stored.last();
     if from.get() + values.as_slice().len() as u64 <= last.get() {
         return Ok(answer_in_part(stored, promise, from, values));

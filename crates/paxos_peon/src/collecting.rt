@@ -2,7 +2,7 @@
 
 ghost use Rattle.std.specs.Prelude.{◌≡◌, ℕ, ◌++◌, nat_lt, None, IfOk, OnOk, if◌then◌else◌};
 ghost use Rattle.std.specs.List.{AllByRecursion};
-ghost use Rattle.mon_msg.specs.Protocol.Changes.{spelled};
+ghost use Rattle.mon_msg.specs.Protocol.Changes.{encoded};
 ghost use Rattle.mon_msg.specs.Protocol.Peon.{hear_collect};
 ghost use Rattle.mon_msg.specs.Protocol.Played.{Fits};
 ghost use Rattle.mon_plan.specs.Leaves.{Leaves};
@@ -31,7 +31,7 @@ pub(crate) fn without_lease(state: &Peon) -> Peon
 /// Promises a number that is above the own one. Returns the number that is promised then.
 fn promised(tx: &mut Transaction, old: Pn, pn: Pn) -> Result<Pn, OutOfMemory>
     ensures number { IfOk result (λ n. n ≡ if nat_lt old pn then pn else old) }
-    ensures changes { OnOk result (tx.new ≡ tx.old ++ spelled (promised old pn)) }
+    ensures changes { OnOk result (tx.new ≡ tx.old ++ encoded (promised old pn)) }
     ensures fit { AllByRecursion Fits (promised old pn) }
 {
     if pn.get() > old.get() {

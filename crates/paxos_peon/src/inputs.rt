@@ -7,11 +7,11 @@ ghost use Rattle.mon_msg.specs.Protocol.Hearing.{hear};
 ghost use Rattle.mon_msg.specs.Protocol.Length.{fits};
 ghost use Rattle.mon_msg.specs.Protocol.Phases.{is_peon};
 ghost use Rattle.mon_msg.specs.Protocol.Readings.{epoch_of, readings_of};
-ghost use Rattle.mon_plan.specs.Inputs.{may_come, row};
+ghost use Rattle.mon_plan.specs.Inputs.{input_is_short, row};
 ghost use Rattle.mon_plan.specs.Leaves.{Leaves};
 ghost use Rattle.mon_plan.specs.Plans.{PlansRow};
 ghost use Rattle.mon_plan.specs.Seen.{IsMet};
-ghost use Rattle.paxos_peon.specs.Rows.{is_told, is_input};
+ghost use Rattle.paxos_peon.specs.Rows.{is_role_message, is_input};
 
 use crate::collecting::collect;
 use crate::here::Here;
@@ -37,7 +37,7 @@ fn is_ours(here: &Here<'_>, view: &View, message: &Message) -> bool
 
 /// Hears a COLLECT, BEGIN, COMMIT or LEASE. It is dropped if it isn't from the leader, or isn't of this epoch.
 fn hear(here: &Here<'_>, view: &View, message: &Message) -> Result<Plan<Peon>, RoleStop>
-    requires input { IsTrue (is_told message.now.body) }
+    requires input { IsTrue (is_role_message message.now.body) }
     requires fits { IsTrue (fits here.now.me.now.member.monitors message.now.body) }
     ensures plans { (shared : List Entry) → let me = here.now.me.now in let now = here.now.time in
         PlansRow me now peon_is
@@ -71,7 +71,7 @@ pub fn step(
     now: Moment,
 ) -> Result<Plan<Peon>, RoleStop>
     requires input { IsTrue (is_input input.now) }
-    requires fits { IsTrue (may_come me.now.member.monitors input.now) }
+    requires fits { IsTrue (input_is_short me.now.member.monitors input.now) }
     ensures plans { (shared : List Entry) → PlansRow me.now now peon_is
         (IsMet me.now now (readings_of kv.now) view.now (λ s. s.peon) state.now)
         (row me.now shared now input.now) result }

@@ -9,7 +9,7 @@ use Rattle.mon_bytes.specs.declared.command.CommandRefused.{CommandRefused}
 use Rattle.mon_bytes.specs.declared.entry.Entry.{Entry}
 use Rattle.mon_lease.specs.Lease as lease
 use Rattle.mon_lease.specs.Lease.{readable}
-use Rattle.mon_msg.specs.Protocol.Answers.{answer_of, last_answer, tells_all, told_of, told_values}
+use Rattle.mon_msg.specs.Protocol.Answers.{answer_of, last_answer, is_complete, told_of, sent_values}
 use Rattle.mon_msg.specs.Protocol.Changes.{Last, Learn}
 use Rattle.mon_msg.specs.Protocol.Chunks.{copy, hear_chunk, hear_last_chunk, is_ours, take, takes_chunks}
 use Rattle.mon_msg.specs.Protocol.Collecting.{begin_found, collect, collect_with, commits_to, commits_with, missed, reign, settle}
@@ -20,7 +20,7 @@ use Rattle.mon_msg.specs.Protocol.Elections.{election_ends, hear_ack, hear_propo
 use Rattle.mon_msg.specs.Protocol.Entering.{adopt, bootstrap, elect, in_next_epoch, in_odd_epoch, is_even, next_even, own_table, win}
 use Rattle.mon_msg.specs.Protocol.Found.{counts}
 use Rattle.mon_msg.specs.Protocol.Hearing.{hear, hear_client, is_heard}
-use Rattle.mon_msg.specs.Protocol.Leader.{all_accepted, all_answered, commit_any, hear_accept, hear_last, hear_lease_ack, hear_whole, is_one_of, note, note_told, of_member, renew}
+use Rattle.mon_msg.specs.Protocol.Leader.{all_accepted, all_answered, commit_any, hear_accept, hear_last, hear_lease_ack, hear_whole, is_one_of, note, note_pending, of_member, renew}
 use Rattle.mon_msg.specs.Protocol.Leading.{be_active, begin, begin_alone, begin_with, commit, extend, has_queue, is_alone}
 use Rattle.mon_msg.specs.Protocol.Learning.{learn, news, news_from}
 use Rattle.mon_msg.specs.Protocol.Peon.{cancel, hear_begin, hear_collect, hear_commit, hear_lease, of_leader, promise}
@@ -116,8 +116,8 @@ refusal_plain refused.OutOfMemory = tt
 answer_plain : (n : ℕ) (r : Readings) (from : ℕ) → IsPlainBody (last_answer n r from)
 unfolding answer_of
 answer_plain n r from =
-    let told = told_values n (promise_of r) r.first r.last r.record_of from in
-    cond_both (tells_all n (promise_of r) r.first r.last from told (told_of (pending r))) (body.Last (promise_of r) r.first r.last true from told (told_of (pending r))) (body.Last (promise_of r) r.first r.last false from told None) IsPlainBody (λ t. tt) (λ t. tt)
+    let told = sent_values n (promise_of r) r.first r.last r.record_of from in
+    cond_both (is_complete n (promise_of r) r.first r.last from told (told_of (pending r))) (body.Last (promise_of r) r.first r.last true from told (told_of (pending r))) (body.Last (promise_of r) r.first r.last false from told None) IsPlainBody (λ t. tt) (λ t. tt)
 
 chunk_plain : (last : ℕ) (c : Cookie) (p : ChunkPlace) (left : List Entry) (n : ℕ) (records : ℕ → Cell) → IsPlainBody (chunk last c p left n records)
 unfolding chunk
@@ -455,7 +455,7 @@ module _ (me : Me) (now : ℕ) (w : Readings) (s : State) (From : ℕ → Comman
         gives_none : s.phase ≡ phase.Collecting → s.leader.lease ≡ None
         gives_none e = subst (λ (p : Phase). Lead p s.leader (epoch_of w)) e L
 
-        notes : (o : Option Told) (y : Course) → y.state.phase ≡ phase.Collecting → y.state.leader.lease ≡ None → AllPlain y.out → Then Noted (note_told f last o y)
+        notes : (o : Option Told) (y : Course) → y.state.phase ≡ phase.Collecting → y.state.leader.lease ≡ None → AllPlain y.out → Then Noted (note_pending f last o y)
         notes None y p l O = done (record { out = O; in_phase = p; lease = l })
         notes (Some t) y p l O = where_fits Noted which.Version (suc last) _ (λ _. done (record { out = O; in_phase = p; lease = l }))
 

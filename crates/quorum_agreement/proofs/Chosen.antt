@@ -1,5 +1,5 @@
 -- What is chosen, and a log of what was chosen.
-use Rattle.log_model.proofs.Logs.{entry_push, entry_stays, fronts_push}
+use Rattle.log_model.proofs.Logs.{entry_push, entry_stays, log_prefix_push}
 use Rattle.log_model.proofs.Lists.{length_push}
 use Rattle.log_model.proofs.Records.{IsVersion, read_version}
 use Rattle.log_model.specs.LogOfValues.{AllValues}
@@ -69,13 +69,13 @@ chosen_lasts n i g h E v x a = record { pn = a.pn; by = a.by; major = a.major; b
 pub record IsEntry (n : ℕ) (g : Ghost) (log : List (List ℕ)) (v : ℕ) : Type 0 where
   pub x : List Op
   pub chosen : Chosen n g v x
-  pub spells : entry log v ≡ text x
+  pub encodes : entry log v ≡ text x
 
 abbrev pub AllChosen : ℕ → Ghost → List (List ℕ) → Type 0
 AllChosen n g log = (v : ℕ) → v < length log → IsEntry n g log (suc v)
 
 pub all_last : (n i : ℕ) (g h : Ghost) → Ext i g h → (log : List (List ℕ)) → AllChosen n g log → AllChosen n h log
-all_last n i g h E log A v lt = let e = A v lt in record { x = e.x; chosen = chosen_lasts n i g h E (suc v) e.x e.chosen; spells = e.spells }
+all_last n i g h E log A v lt = let e = A v lt in record { x = e.x; chosen = chosen_lasts n i g h E (suc v) e.x e.chosen; encodes = e.encodes }
 
 module _ (n : ℕ) (g : Ghost) (T : TriplesHold n g.signs g.accepts) (log : List (List ℕ)) (A : AllChosen n g log) where
   -- what is chosen for a version that the log has is the log's
@@ -83,14 +83,14 @@ module _ (n : ℕ) (g : Ghost) (T : TriplesHold n g.signs g.accepts) (log : List
   is_version fits all v lt x a =
       let e = A v lt in
       let same = one_chosen n g T (suc v) e.x x e.chosen a in
-      let spells : entry log (suc v) ≡ text x = e.spells ∙ ap text same in
-      read_version log fits all v lt x (ap (λ (t : List ℕ). transaction_in (Some t)) spells ∙ reads n g T (suc v) x a)
+      let encodes : entry log (suc v) ≡ text x = e.encodes ∙ ap text same in
+      read_version log fits all v lt x (ap (λ (t : List ℕ). transaction_in (Some t)) encodes ∙ reads n g T (suc v) x a)
 
   -- a value that is chosen for the next version may be the log's next entry
   pub chosen_push : (x : List Op) → Chosen n g (suc (length log)) x → AllChosen n g (log ++ text x ∷ [])
   chosen_push x a v lt = by (cases_order v (length log))
     where
       by : (v ≡ length log) ⊎ ((v < length log) ⊎ (length log < v)) → IsEntry n g (log ++ text x ∷ []) (suc v)
-      by (inl e) = record { x = x; chosen = subst (λ (z : ℕ). Chosen n g (suc z) x) (sym e) a; spells = ap (λ (z : ℕ). entry (log ++ text x ∷ []) (suc z)) e ∙ entry_push log (text x) }
-      by (inr (inl low)) = let E = A v low in record { x = E.x; chosen = E.chosen; spells = entry_stays (fronts_push log (text x)) (suc v) (omega arith) ∙ E.spells }
+      by (inl e) = record { x = x; chosen = subst (λ (z : ℕ). Chosen n g (suc z) x) (sym e) a; encodes = ap (λ (z : ℕ). entry (log ++ text x ∷ []) (suc z)) e ∙ entry_push log (text x) }
+      by (inr (inl low)) = let E = A v low in record { x = E.x; chosen = E.chosen; encodes = entry_stays (log_prefix_push log (text x)) (suc v) (omega arith) ∙ E.encodes }
       by (inr (inr high)) = let l = length_push log (text x) in absurd (omega arith)

@@ -1,6 +1,6 @@
 -- What one event makes of the log, given what a monitor's history says of that monitor.
-use Rattle.log_copies.proofs.Standing.{Agrees, BodyStands, InputTells, TakesCopy, crashed}
-use Rattle.log_copies.proofs.Telling.{monitor_keeps, read_last}
+use Rattle.log_copies.proofs.Standing.{Agrees, BodyStands, InputMatches, TakesCopy, crashed}
+use Rattle.log_copies.proofs.Matching.{monitor_keeps, read_last}
 use Rattle.log_copies.proofs.Unmarked.{OnLog, Situated}
 use Rattle.log_copies.specs.Synchronizing.{written}
 use Rattle.log_model.specs.Windows.{Keeps}
@@ -16,7 +16,7 @@ use Rattle.mon_tx.specs.Map.{Store}
 use Rattle.mon_tx.specs.declared.op.Op.{Op}
 use Rattle.mon_wire.specs.declared.body.Body.TheVariants as body
 use Rattle.mon_wire.specs.declared.body.Body.{Body}
-use Rattle.quorum_agreement.proofs.Invariant.{EnvelopeTells, OfLog, remembers}
+use Rattle.quorum_agreement.proofs.Invariant.{EnvelopeMatches, OfLog, remembers}
 use Rattle.quorum_agreement.proofs.Made.{MadeOver}
 use Rattle.quorum_agreement.proofs.Premises.{ack_others, elects_others, last_follows, leads_others, place_reached, recent}
 use Rattle.quorum_agreement.proofs.Step.{Next, accept_event, copy_marked, other_event}
@@ -32,11 +32,11 @@ use Rattle.quorum_walk.proofs.Lists.{Among}
 use Rattle.std.proofs.Common.{List, Ok, Some, ap, arith, false, inl, inr, length, refl, subst, sym, true, ℕ, ◌<◌, ◌∙◌, ◌≡◌, ◌≤◌, ◌⊎◌}
 use Rattle.std.proofs.lemmas.Bool.{false≢true, ltb-true}
 
-pub input_tells : (log : List (List ℕ)) (rank : ℕ) (came : Input) → ToldOf (EnvelopeTells log) rank came → InputTells log came
+pub input_tells : (log : List (List ℕ)) (rank : ℕ) (came : Input) → ToldOf (EnvelopeMatches log) rank came → InputMatches log came
 input_tells log rank (input.Deliver m) t = t
 input_tells log rank other t = tt
 
-module _ (ms : Monitors) (w : World) (asked : List Asked) (J : InvWith ms w asked) (O : OfLog ms w asked J) (several : 1 < ms.count) (d : Does ms w (EnvelopeTells w.log) asked J) where
+module _ (ms : Monitors) (w : World) (asked : List Asked) (J : InvWith ms w asked) (O : OfLog ms w asked J) (several : 1 < ms.count) (d : Does ms w (EnvelopeMatches w.log) asked J) where
   abbrev rank : ℕ
   rank = d.by.rank
 
@@ -114,7 +114,7 @@ module _ (ms : Monitors) (w : World) (asked : List Asked) (J : InvWith ms w aske
       recent = recent me J.g (readings_of m) d.by.state J.glob several d.by.on V.unmarked;
     }
 
-    unmarked_then : (came : Input) → InputHolds me J.g came → InputTells w.log came → (y : Course) → react me (shared_entries m) d.by.at (readings_of m) d.by.state came ≡ Ok y
+    unmarked_then : (came : Input) → InputHolds me J.g came → InputMatches w.log came → (y : Course) → react me (shared_entries m) d.by.at (readings_of m) d.by.state came ≡ Ok y
         → (readings_of (written m y)).last ≡ y.readings.last → ((readings_of (written m y)).marked ≡ true → (readings_of (written m y)).last ≡ 0) → Then y
     unmarked_then (input.Deliver e) h t y is tells none = by e.body refl
       where

@@ -3,12 +3,12 @@ use Rattle.log_model.specs.LogOfValues.{AllValues}
 use Rattle.log_model.proofs.Lists.{of_all}
 use Rattle.mon_kv.specs.Readers.{is_marked}
 use Rattle.mon_msg.specs.Fold.{entry}
-use Rattle.quorum_agreement.proofs.Invariant.{EnvelopeTells}
+use Rattle.quorum_agreement.proofs.Invariant.{EnvelopeMatches}
 use Rattle.quorum_agreement.proofs.Result.{OneLog, agree, copying as copies, entries_chosen, lone_log, marked_if_full, several_log, tells}
 use Rattle.quorum_agreement.proofs.Runs.{lone_grow, lone_run, several_grow, several_run}
 use Rattle.quorum_agreement.specs.Copying.{IsCopying, MarkedIfFull}
 use Rattle.quorum_agreement.specs.Growing.{GrowsBy}
-use Rattle.quorum_agreement.specs.Telling.{TellsLog}
+use Rattle.quorum_agreement.specs.Matching.{MatchesLog}
 use Rattle.quorum_laws.proofs.Events.{all_runs}
 use Rattle.quorum_laws.specs.Values.{IsChosen}
 use Rattle.quorum_model.specs.Agree.{Agree}
@@ -45,8 +45,8 @@ all_values ms events F = let L = one_log ms events F in (L.short, L.values)
 pub chosen : (ms : Monitors) (events : List Event) → AllFit ms.count events → 1 < ms.count → (v : ℕ) → v < length (run ms events).log → IsChosen ms.count (run ms events) (suc v) (entry (run ms events).log (suc v))
 chosen ms events F several v lt = let h = several_run ms (λ i k. several) events F in entries_chosen ms (run ms events) h.0 h.1 v lt
 
-pub told : (ms : Monitors) (events : List Event) → AllFit ms.count events → (e : Envelope) → Contains (run ms events).messages e → TellsLog (run ms events).log e.message.body
-told ms events F e c = let L = one_log ms events F in tells (run ms events).log e.message.body (of_all (EnvelopeTells (run ms events).log) (run ms events).messages L.sent e c)
+pub told : (ms : Monitors) (events : List Event) → AllFit ms.count events → (e : Envelope) → Contains (run ms events).messages e → MatchesLog (run ms events).log e.message.body
+told ms events F e c = let L = one_log ms events F in tells (run ms events).log e.message.body (of_all (EnvelopeMatches (run ms events).log) (run ms events).messages L.sent e c)
 
 pub copying : (ms : Monitors) (events : List Event) → AllFit ms.count events → (i : ℕ) → i < ms.count → is_marked ((run ms events).store i) ≡ true → IsCopying (run ms events).log ((run ms events).store i) ((run ms events).state i)
 copying ms events F i lt t = copies ms (run ms events) (one_log ms events F) (all_runs ms events F) i lt t

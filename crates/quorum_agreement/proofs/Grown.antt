@@ -4,27 +4,27 @@ use Rattle.mon_tx.specs.Keys.{cell, number}
 use Rattle.mon_tx.specs.Map.{Store}
 use Rattle.mon_tx.specs.declared.key.Area.TheVariants as area
 use Rattle.mon_tx.specs.declared.key.Key.TheVariants as key
-use Rattle.quorum_model.specs.Growth.{grown, last_of, records_behind}
+use Rattle.quorum_model.specs.Growth.{grown, last_of, records_after}
 use Rattle.std.proofs.Common.{List, Some, [], ap, append-nil, arith, cond, false, length, refl, suc, true, unwrap_or, ℕ, ◌++◌, ◌-◌, ◌∙◌, ◌∷◌, ◌≡◌, ◌≤◌, ◌⊎◌}
 
 -- a marked monitor adds nothing
 pub grown_marked : (log : List (List ℕ)) (m : Store) → (readings_of m).marked ≡ true → grown log m ≡ log
 unfolding grown readings_of
-grown_marked log m t = ap (λ b. cond b log (log ++ records_behind m (length log) (last_of m - length log))) t
+grown_marked log m t = ap (λ b. cond b log (log ++ records_after m (length log) (last_of m - length log))) t
 
 -- nor does one with no further versions
 pub grown_none : (log : List (List ℕ)) (m : Store) → (readings_of m).marked ≡ false → (readings_of m).last ≤ length log → grown log m ≡ log
 unfolding grown readings_of
 grown_none log m t le =
     let none : last_of m - length log ≡ 0 = omega arith in
-    ap (λ b. cond b log (log ++ records_behind m (length log) (last_of m - length log))) t ∙ ap (λ k. log ++ records_behind m (length log) k) none ∙ append-nil log
+    ap (λ b. cond b log (log ++ records_after m (length log) (last_of m - length log))) t ∙ ap (λ k. log ++ records_after m (length log) k) none ∙ append-nil log
 
 -- one with one version more adds its record
 pub grown_one : (log : List (List ℕ)) (m : Store) (bytes : List ℕ) → (readings_of m).marked ≡ false → (readings_of m).last ≡ suc (length log) → cell m area.Paxos (key.Version (suc (length log))) ≡ Some bytes → grown log m ≡ log ++ bytes ∷ []
 unfolding grown readings_of
 grown_one log m bytes t last there =
     let one : last_of m - length log ≡ 1 = omega arith in
-    ap (λ b. cond b log (log ++ records_behind m (length log) (last_of m - length log))) t ∙ ap (λ k. log ++ records_behind m (length log) k) one ∙ ap (λ c. log ++ unwrap_or c [] ∷ []) there
+    ap (λ b. cond b log (log ++ records_after m (length log) (last_of m - length log))) t ∙ ap (λ k. log ++ records_after m (length log) k) one ∙ ap (λ c. log ++ unwrap_or c [] ∷ []) there
 
 pub first_is : (m : Store) → (readings_of m).first ≡ number m area.Paxos key.FirstCommitted
 unfolding readings_of

@@ -1,6 +1,6 @@
 -- What is known of each version that was acknowledged, that it lasts, and what follows: every later active leader has it, and nobody shows
 -- less in the same epoch.
-use Rattle.log_model.proofs.Logs.{Fronts, entry_stays}
+use Rattle.log_model.proofs.Logs.{IsPrefixOf, entry_stays}
 use Rattle.mon_lease.specs.Lease.{readable, stands}
 use Rattle.mon_msg.specs.Fold.{entry, put_in}
 use Rattle.mon_msg.specs.Protocol.Phases.{is_leading, is_member, is_peon, votes}
@@ -67,7 +67,7 @@ pub record IsHeld (n : ℕ) (w : World) (g : Ghost) (a : Acknowledged) : Type 0 
 
 pub record Onward (w next : World) (g h : Ghost) : Type 0 where
   pub further : Further g h
-  pub fronts : Fronts w.log next.log
+  pub log_prefix : IsPrefixOf w.log next.log
   pub events : w.events ≤ next.events
   pub later : Later w next
   pub levels : (i : ℕ) → level_at w i ≤ level_at next i
@@ -82,7 +82,7 @@ held_lasts n w next g h O a k = record {
   own = k.own;
   event = let e = k.event in let f = O.events in omega arith;
   some = k.some;
-  within = let e = k.within in let f = O.fronts in let s = f.short in omega arith;
+  within = let e = k.within in let f = O.log_prefix in let s = f.short in omega arith;
   put = subst (λ (e : List ℕ). Contains (put_in a.what.service (ops_in e)) a.what.incremental) (sym same) k.put;
   led = (let F = O.further in (k.led.0, F.roles _ k.led.1, λ m lt t. let j = k.led.2 m lt t in (j.0, F.roles _ j.1)));
   level = let l = k.level in let m = O.levels k.rank in omega arith;
@@ -91,7 +91,7 @@ held_lasts n w next g h O a k = record {
 }
   where
     same : entry next.log a.what.version ≡ entry w.log a.what.version
-    same = entry_stays O.fronts a.what.version k.within
+    same = entry_stays O.log_prefix a.what.version k.within
 
 -- ---- what follows
 

@@ -1,6 +1,6 @@
 -- Which values were accepted is read off the kept transactions, so that no history goes from one event to the next.
 use Rattle.mon_msg.specs.Joined.{joined}
-use Rattle.mon_msg.specs.Protocol.Changes.{Change, Vote, spelled}
+use Rattle.mon_msg.specs.Protocol.Changes.{Change, Vote, encoded}
 use Rattle.mon_msg.specs.Protocol.Records.{transaction_in}
 use Rattle.mon_tx.specs.Text.{text}
 use Rattle.mon_tx.specs.declared.op.Op.{Op}
@@ -23,28 +23,28 @@ use Rattle.std.specs.List.{AllByRecursion}
 -- Two histories, of which the later has the same transactions but for those that were added.
 module _ (n : ℕ) (g h : Ghost) (before after : ℕ → List (List Op)) (T : TriplesHold n g.signs g.accepts) (U : TriplesHold n h.signs h.accepts) (K : TriplesKept g before) (L : TriplesKept h after) where
   -- values that are encoded alike are the same
-  spelled_alike : (i j v w p q : ℕ) (x y : List Op) → Accepted g i v p x → Accepted h j w q y → text x ≡ text y → x ≡ y
-  spelled_alike i j v w p q x y a b e =
+  encoded_alike : (i j v w p q : ℕ) (x y : List Op) → Accepted g i v p x → Accepted h j w q y → text x ≡ text y → x ≡ y
+  encoded_alike i j v w p q x y a b e =
       let z : Some x ≡ Some y = sym (T.fine i v p x a).reads ∙ ap (λ (t : List ℕ). transaction_in (Some t)) e ∙ (U.fine j w q y b).reads in cc
 
   -- what was accepted still is
   pub still_accepted : ((i v p : ℕ) (bytes : List ℕ) → AcceptedIn (before i) v p bytes → AcceptedIn (after i) v p bytes) → (i v p : ℕ) (x : List Op) → Accepted g i v p x → Accepted h i v p x
   still_accepted keeps i v p x a =
       let k = L.known i v p (text x) (keeps i v p (text x) (K.kept i v p x a)) in
-      subst (Accepted h i v p) (sym (spelled_alike i i v v p p x k.0 a k.2 k.1)) k.2
+      subst (Accepted h i v p) (sym (encoded_alike i i v v p p x k.0 a k.2 k.1)) k.2
 
   pub still_chosen : ((i v p : ℕ) (bytes : List ℕ) → AcceptedIn (before i) v p bytes → AcceptedIn (after i) v p bytes) → (log : List (List ℕ)) → AllChosen n g log → AllChosen n h log
   still_chosen keeps log A v lt =
       let e = A v lt in
       let c = e.chosen in
-      record { x = e.x; chosen = record { pn = c.pn; by = c.by; major = c.major; below = c.below; all = λ m k. still_accepted keeps m (suc v) c.pn e.x (c.all m k) }; spells = e.spells }
+      record { x = e.x; chosen = record { pn = c.pn; by = c.by; major = c.major; below = c.below; all = λ m k. still_accepted keeps m (suc v) c.pn e.x (c.all m k) }; encodes = e.encodes }
 
   -- and what is accepted now was before, or is a vote of the event
   pub all_made_again : (asked : List Asked) (log : List (List ℕ)) (cs : List Change)
       → ((i v p : ℕ) (bytes : List ℕ) → AcceptedIn (after i) v p bytes → AcceptedIn (before i) v p bytes ⊎ ((x : List Op) × (bytes ≡ text x) × Among (Vote v p x) cs))
       → ((v p : ℕ) (x : List Op) → Among (Vote v p x) cs → Val x × MadeOver n asked log v x) → AllMade n g asked log → AllMade n h asked log
   all_made_again asked log cs added votes M j v p x a = elim (added j v p (text x) (L.kept j v p x a)) [
-    | inl o ↦ (let k = K.known j v p (text x) o in subst (MadeOver n asked log v) (spelled_alike j j v v p p k.0 x k.2 a (sym k.1)) (M j v p k.0 k.2))
+    | inl o ↦ (let k = K.known j v p (text x) o in subst (MadeOver n asked log v) (encoded_alike j j v v p p k.0 x k.2 a (sym k.1)) (M j v p k.0 k.2))
     | inr s ↦ (let made = votes v p s.0 s.2 in subst (MadeOver n asked log v) (same s.0 made.0 s.1) made.1)
   ]
     where
@@ -66,7 +66,7 @@ accepted_keeps txs i tx j v p bytes a = by (eqb j i) refl
 
 module _ (cs : List Change) (S : Shaped cs) (F : AllByRecursion Fit cs) (txs : ℕ → List (List Op)) (i : ℕ) where
   abbrev tx : List Op
-  tx = joined (spelled cs)
+  tx = joined (encoded cs)
 
   abbrev after_txs : ℕ → List (List Op)
   after_txs = put_at txs i (txs i ++ tx ∷ [])

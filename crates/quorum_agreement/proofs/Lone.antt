@@ -1,6 +1,6 @@
 -- A monitor that is alone in its map changes its own numbers, or commits the value of a command that was asked. It
 -- never hears a message, and says nothing of the log.
-use Rattle.log_copies.proofs.Sending.{BodyTells}
+use Rattle.log_copies.proofs.Sending.{BodyMatches}
 use Rattle.log_copies.specs.Versions.{IsOwnChange}
 use Rattle.election_rules.specs.Ranking.{allows}
 use Rattle.mon_bytes.specs.declared.command.Command.TheVariants as command
@@ -97,7 +97,7 @@ active_is phase.Peon t = no t
 
 -- a message that says nothing of any log, or a reply
 abbrev pub SaysNothing : Sent → Type 0
-SaysNothing (sent.Message to m) = (log : List (List ℕ)) → BodyTells log m.body
+SaysNothing (sent.Message to m) = (log : List (List ℕ)) → BodyMatches log m.body
 SaysNothing (sent.Reply s r) = Unit {0}
 
 module _ (me : Me) (one : me.member.monitors ≡ 1) (now : ℕ) (g : Ghost) (G : Glob me.member.monitors g) (w : Readings) where
@@ -147,7 +147,7 @@ module _ (me : Me) (one : me.member.monitors ≡ 1) (now : ℕ) (g : Ghost) (G :
   remembers_quiet : (state : State) (x : Course) → Quiet x → Quiet (record x { state = state })
   remembers_quiet state x Q = record { changes = Q.changes; last = Q.last; marked = Q.marked; pending = Q.pending; out = Q.out }
 
-  to_each : (e : ℕ) (b : Body) → ((log : List (List ℕ)) → BodyTells log b) → (tos : List ℕ) → AllByRecursion SaysNothing (map (message_to me e b) tos)
+  to_each : (e : ℕ) (b : Body) → ((log : List (List ℕ)) → BodyMatches log b) → (tos : List ℕ) → AllByRecursion SaysNothing (map (message_to me e b) tos)
   to_each e b k [] = tt
   to_each e b k (to ∷ tos) = (k, to_each e b k tos)
 
@@ -160,7 +160,7 @@ module _ (me : Me) (one : me.member.monitors ≡ 1) (now : ℕ) (g : Ghost) (G :
   alone_in : (q : List Bool) → is_alone me q ≡ true
   alone_in q = ap is_empty (no_members q)
 
-  answers_nothing : (e : ℕ) (o : Option Origin) (r : Reply) → ((log : List (List ℕ)) → BodyTells log (body.Route 0 r)) → AllByRecursion SaysNothing (answers_to me e o r)
+  answers_nothing : (e : ℕ) (o : Option Origin) (r : Reply) → ((log : List (List ℕ)) → BodyMatches log (body.Route 0 r)) → AllByRecursion SaysNothing (answers_to me e o r)
   answers_nothing e None r k = tt
   answers_nothing e (Some (origin.Session s)) r k = (tt, tt)
   answers_nothing e (Some (origin.Forwarded f seq)) r k = (k, tt)
@@ -243,11 +243,11 @@ module _ (me : Me) (one : me.member.monitors ≡ 1) (now : ℕ) (g : Ghost) (G :
     rests : (s : State) → Quiet (at_rest w s)
     rests s = record { changes = tt; last = refl; marked = refl; pending = zero; out = tt }
 
-    answered : (s t : State) (o : Origin) (r : Reply) → ((log : List (List ℕ)) → BodyTells log (body.Route 0 r)) → Then Outcome (Ok (record (answer me o r (at_rest w s)) { state = t }))
+    answered : (s t : State) (o : Origin) (r : Reply) → ((log : List (List ℕ)) → BodyMatches log (body.Route 0 r)) → Then Outcome (Ok (record (answer me o r (at_rest w s)) { state = t }))
     answered s t (origin.Session z) r k = quietly _ (says_quiet t (sent.Reply z r ∷ []) (at_rest w s) (tt, tt) (rests s))
     answered s t (origin.Forwarded f seq) r k = quietly _ (says_quiet t (message_to me (epoch_of w) (body.Route seq r) f ∷ []) (at_rest w s) (k, tt) (rests s))
 
-    refused_told : (e : CommandRefused) (log : List (List ℕ)) → BodyTells log (body.Route 0 (refusal e))
+    refused_told : (e : CommandRefused) (log : List (List ℕ)) → BodyMatches log (body.Route 0 (refusal e))
     refused_told refused.NoSuch log = tt
     refused_told (refused.TooLong len most) log = tt
     refused_told (refused.MapFull would_be) log = tt

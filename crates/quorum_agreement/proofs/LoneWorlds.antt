@@ -1,12 +1,12 @@
 -- A monitor that is alone in its map keeps the log, whatever the events and the rule.
 use Rattle.log_copies.proofs.Growing.{committed}
 use Rattle.log_copies.proofs.Leaving.{still_has}
-use Rattle.log_copies.proofs.Telling.{monitor_keeps, read_last, record_there}
+use Rattle.log_copies.proofs.Matching.{monitor_keeps, read_last, record_there}
 use Rattle.log_copies.specs.Synchronizing.{written}
-use Rattle.log_copies.specs.Versions.{HasVersions, IsOwnChange, behind}
+use Rattle.log_copies.specs.Versions.{HasVersions, IsOwnChange, store_after}
 use Rattle.log_model.proofs.Holds.{holds_nothing}
 use Rattle.log_model.proofs.Lists.{length_push}
-use Rattle.log_model.proofs.Logs.{Fronts, entry_push, fronts_itself, fronts_push}
+use Rattle.log_model.proofs.Logs.{IsPrefixOf, entry_push, log_prefix_itself, log_prefix_push}
 use Rattle.log_model.proofs.RowReadings.{read_some}
 use Rattle.log_model.proofs.RuleCells.{log_high}
 use Rattle.log_model.specs.LogOfValues.{AllValues}
@@ -23,7 +23,7 @@ use Rattle.mon_msg.specs.declared.view.Me.{Me}
 use Rattle.mon_tx.specs.Map.{Store}
 use Rattle.mon_tx.specs.Text.{text}
 use Rattle.quorum_agreement.proofs.Grown.{GrowsByOne, first_is, grown_none, grown_one}
-use Rattle.quorum_agreement.proofs.Invariant.{EnvelopeTells, envelopes_stay}
+use Rattle.quorum_agreement.proofs.Invariant.{EnvelopeMatches, envelopes_stay}
 use Rattle.quorum_agreement.proofs.Lone.{Commits, Outcome, Quiet, SaysNothing, lone_reacts}
 use Rattle.quorum_agreement.proofs.Made.{AllAsked, MadeOver, asked_again, is_value, values_again, version_asked}
 use Rattle.quorum_agreement.proofs.Worlds.{still_among}
@@ -59,7 +59,7 @@ pub record OfLone (ms : Monitors) (w : World) (asked : List Asked) : Type 0 wher
   pub values : AllValues w.log
   pub asks : AllAsked ms.count asked w.log
   pub stores : (i : ℕ) → i < ms.count → IsWhole w.log (w.store i)
-  pub sent : AllByRecursion (EnvelopeTells w.log) w.messages
+  pub sent : AllByRecursion (EnvelopeMatches w.log) w.messages
 
 abbrev pub LoneHolds : Monitors → World → Type 0
 LoneHolds ms w = InvOf ms w × OfLone ms w w.asked
@@ -76,7 +76,7 @@ lone_at_first ms = (
   },
 )
 
-says_nothing : (log : List (List ℕ)) (sends : List Sent) → AllByRecursion SaysNothing sends → AllByRecursion (EnvelopeTells log) (messages_of sends)
+says_nothing : (log : List (List ℕ)) (sends : List Sent) → AllByRecursion SaysNothing sends → AllByRecursion (EnvelopeMatches log) (messages_of sends)
 says_nothing log [] k = tt
 says_nothing log (sent.Message to m ∷ sends) k = (k.0 log, says_nothing log sends k.1)
 says_nothing log (sent.Reply to r ∷ sends) k = says_nothing log sends k.1
@@ -89,7 +89,7 @@ LoneFollows ms w next = LoneHolds ms next × GrowsByOne w.log next.log
 -- the log after an event, all of which the monitor's store then has
 record Next (n : ℕ) (asked : List Asked) (log : List (List ℕ)) (m : Store) (out : List Sent) : Type 0 where
   more : List (List ℕ)
-  fronts : Fronts log more
+  log_prefix : IsPrefixOf log more
   grows : GrowsByOne log more
   short : length more ≤ 2 ^ 62
   values : AllValues more
@@ -98,7 +98,7 @@ record Next (n : ℕ) (asked : List Asked) (log : List (List ℕ)) (m : Store) (
   tells : AllByRecursion SaysNothing out
   is : grown log m ≡ more
 
-module _ (ms : Monitors) (one : ms.count ≡ 1) (w : World) (asked : List Asked) (J : InvWith ms w asked) (O : OfLone ms w asked) (d : Does ms w (EnvelopeTells w.log) asked J) where
+module _ (ms : Monitors) (one : ms.count ≡ 1) (w : World) (asked : List Asked) (J : InvWith ms w asked) (O : OfLone ms w asked) (d : Does ms w (EnvelopeMatches w.log) asked J) where
   abbrev rank : ℕ
   rank = d.by.rank
 
@@ -129,7 +129,7 @@ module _ (ms : Monitors) (one : ms.count ≡ 1) (w : World) (asked : List Asked)
   quiet_next : Quiet me one d.by.at J.g J.glob w0 d.y → Next ms.count asked w.log after d.y.out
   quiet_next Q = record {
     more = w.log;
-    fronts = fronts_itself w.log;
+    log_prefix = log_prefix_itself w.log;
     grows = inl refl;
     short = O.short;
     values = O.values;
@@ -181,7 +181,7 @@ module _ (ms : Monitors) (one : ms.count ≡ 1) (w : World) (asked : List Asked)
 
     has : HasVersions more (length more) after
     has = subst (λ (c : ℕ). HasVersions more c after) (sym long)
-        (subst (λ (cs : List Change). HasVersions more (suc (length w.log)) (behind cs m)) (sym changes) (committed w.log room O.values w0 keeps last_is C.ops (is_value ms.count ms.most asked w.log room O.values C.ops made) m H.versions))
+        (subst (λ (cs : List Change). HasVersions more (suc (length w.log)) (store_after cs m)) (sym changes) (committed w.log room O.values w0 keeps last_is C.ops (is_value ms.count ms.most asked w.log room O.values C.ops made) m H.versions))
 
     E : Ended (begun me w0 d.by.state d.by.came) d.y
     E = ended w.store w.state w.transactions w.messages w.active asked me J d.by.at d.by.state d.by.came d.by.on d.by.fits d.by.holds (d.by.fine (shares w.store w.state w.transactions w.messages w.active asked me J d.by.at)) d.y d.is
@@ -210,7 +210,7 @@ module _ (ms : Monitors) (one : ms.count ≡ 1) (w : World) (asked : List Asked)
     commits_next : Next ms.count asked w.log after d.y.out
     commits_next = record {
       more = more;
-      fronts = fronts_push w.log (text C.ops);
+      log_prefix = log_prefix_push w.log (text C.ops);
       grows = inr (text C.ops, refl);
       short = short;
       values = values;
@@ -249,19 +249,19 @@ module _ (ms : Monitors) (one : ms.count ≡ 1) (w : World) (asked : List Asked)
 -- ---- every event
 
 module _ (ms : Monitors) (w : World) (asked : List Asked) (log : List (List ℕ)) (e : w.log ≡ log) where
-  of_lone : length log ≤ 2 ^ 62 → AllValues log → AllAsked ms.count asked log → ((i : ℕ) → i < ms.count → IsWhole log (w.store i)) → AllByRecursion (EnvelopeTells log) w.messages → OfLone ms w asked
+  of_lone : length log ≤ 2 ^ 62 → AllValues log → AllAsked ms.count asked log → ((i : ℕ) → i < ms.count → IsWhole log (w.store i)) → AllByRecursion (EnvelopeMatches log) w.messages → OfLone ms w asked
   of_lone short values asks stores sent = record {
     short = subst (λ (l : List (List ℕ)). length l ≤ 2 ^ 62) (sym e) short;
     values = subst AllValues (sym e) values;
     asks = subst (AllAsked ms.count asked) (sym e) asks;
     stores = subst (λ (l : List (List ℕ)). (i : ℕ) → i < ms.count → IsWhole l (w.store i)) (sym e) stores;
-    sent = subst (λ (l : List (List ℕ)). AllByRecursion (EnvelopeTells l) w.messages) (sym e) sent;
+    sent = subst (λ (l : List (List ℕ)). AllByRecursion (EnvelopeMatches l) w.messages) (sym e) sent;
   }
 
 pub lone_asking : (ms : Monitors) (w : World) (p : Plain) → OfLone ms w w.asked → OfLone ms w (with_asked p w.asked)
 lone_asking ms w p O = record { short = O.short; values = O.values; asks = λ v lt. version_asked ms.count w.asked (with_asked p w.asked) w.log v (still_among p w.asked) (O.asks v lt); stores = O.stores; sent = O.sent }
 
-pub lone_follows : (ms : Monitors) → ms.count ≡ 1 → (w : World) (p : Plain) (J : InvWith ms w (with_asked p w.asked)) → OfLone ms w (with_asked p w.asked) → events.Keeps ms w (EnvelopeTells w.log) p J (LoneFollows ms w)
+pub lone_follows : (ms : Monitors) → ms.count ≡ 1 → (w : World) (p : Plain) (J : InvWith ms w (with_asked p w.asked)) → OfLone ms w (with_asked p w.asked) → events.Keeps ms w (EnvelopeMatches w.log) p J (LoneFollows ms w)
 unfolding unmoved lost moved kept_only
 lone_follows ms one w p J O = record {
   nothing = ((J, record { short = O.short; values = O.values; asks = O.asks; stores = O.stores; sent = O.sent }), inl refl);
@@ -270,14 +270,14 @@ lone_follows ms one w p J O = record {
     (
       goes_on_holds w.store w.state w.transactions w.messages w.active asked (member_of ms a.rank a.lt) J a.at a.state a.came a.on a.fits a.holds (a.fine (shares w.store w.state w.transactions w.messages w.active asked (member_of ms a.rank a.lt) J a.at)) d.y d.is,
       of_lone ms (moved w p a.rank (reaction_of d.y)) asked N.more N.is N.short N.values N.asks (stores_then d N.more N.whole)
-          (all_append (EnvelopeTells N.more) w.messages (messages_of d.y.out) (envelopes_stay N.fronts w.messages O.sent) (says_nothing N.more d.y.out N.tells)),
+          (all_append (EnvelopeMatches N.more) w.messages (messages_of d.y.out) (envelopes_stay N.log_prefix w.messages O.sent) (says_nothing N.more d.y.out N.tells)),
     ),
     subst (GrowsByOne w.log) (sym N.is) N.grows,
   );
   goes_down = λ d. let N = next ms one w asked J O d in let a = d.by in (
     (
       goes_down_holds w.store w.state w.transactions w.messages w.active asked (member_of ms a.rank a.lt) J a.at a.state a.came a.on a.fits a.holds (a.fine (shares w.store w.state w.transactions w.messages w.active asked (member_of ms a.rank a.lt) J a.at)) d.y d.is,
-      of_lone ms (kept_only w p a.rank (reaction_of d.y)) asked N.more N.is N.short N.values N.asks (stores_then d N.more N.whole) (envelopes_stay N.fronts w.messages O.sent),
+      of_lone ms (kept_only w p a.rank (reaction_of d.y)) asked N.more N.is N.short N.values N.asks (stores_then d N.more N.whole) (envelopes_stay N.log_prefix w.messages O.sent),
     ),
     subst (GrowsByOne w.log) (sym N.is) N.grows,
   );
@@ -287,7 +287,7 @@ lone_follows ms one w p J O = record {
     asked = with_asked p w.asked
 
     -- it is the only monitor
-    stores_then : (d : Does ms w (EnvelopeTells w.log) asked J) (more : List (List ℕ)) → IsWhole more (written (w.store d.by.rank) d.y) → (j : ℕ) → j < ms.count → IsWhole more (put_at w.store d.by.rank (written (w.store d.by.rank) d.y) j)
+    stores_then : (d : Does ms w (EnvelopeMatches w.log) asked J) (more : List (List ℕ)) → IsWhole more (written (w.store d.by.rank) d.y) → (j : ℕ) → j < ms.count → IsWhole more (put_at w.store d.by.rank (written (w.store d.by.rank) d.y) j)
     stores_then d more h =
         at_put (λ (j : ℕ) (u : Store) (s : ℕ). j < ms.count → IsWhole more u) w.store (λ j. 0) d.by.rank (written (w.store d.by.rank) d.y) 0 (λ lt. h)
         (λ j ne lt. let k = ltb-true d.by.rank ms.count d.by.lt in absurd (ne (omega arith)))

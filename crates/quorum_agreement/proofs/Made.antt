@@ -1,7 +1,7 @@
 -- Accepted values are made over the log, of commands that clients asked; so the log is one of values.
 use Rattle.log_copies.proofs.Growing as growing
 use Rattle.log_model.proofs.Committed.{texts, value_told}
-use Rattle.log_model.proofs.Logs.{Fronts, entry_push, entry_stays, fold_stays, fronts_push, incrementals_stay}
+use Rattle.log_model.proofs.Logs.{IsPrefixOf, entry_push, entry_stays, fold_stays, log_prefix_push, incrementals_stay}
 use Rattle.log_model.proofs.Older.{older_itself}
 use Rattle.log_model.proofs.Lists.{length_push}
 use Rattle.log_model.proofs.Records.{IsVersion}
@@ -68,11 +68,11 @@ made_asked n asked more log v x still M = record {
 }
 
 pub version_asked : (n : ℕ) (asked more : List Asked) (log : List (List ℕ)) (v : ℕ) → ((a : Asked) → Contains asked a → Contains more a) → IsAsked n asked log v → IsAsked n more log v
-version_asked n asked more log v still A = record { by = A.by; was_asked = still A.by A.was_asked; rank = A.rank; command = A.command; is = A.is; form = A.form; ops = A.ops; made = A.made; has_text = A.has_text; spells = A.spells }
+version_asked n asked more log v still A = record { by = A.by; was_asked = still A.by A.was_asked; rank = A.rank; command = A.command; is = A.is; form = A.form; ops = A.ops; made = A.made; has_text = A.has_text; encodes = A.encodes }
 
 -- ---- the log grows
 
-module _ {log more : List (List ℕ)} (F : Fronts log more) where
+module _ {log more : List (List ℕ)} (F : IsPrefixOf log more) where
   pub keeps_stay : (c : ℕ) → c ≤ length log → (w : Readings) → Keeps log c w → Keeps more c w
   keeps_stay c le w K = record {
     first = K.first;
@@ -106,7 +106,7 @@ module _ {log more : List (List ℕ)} (F : Fronts log more) where
     ops = A.ops;
     made = ap (λ (w : Readings). value w A.command A.by.rank) view ∙ A.made;
     has_text = A.has_text;
-    spells = entry_stays F (suc v) (omega arith) ∙ A.spells;
+    encodes = entry_stays F (suc v) (omega arith) ∙ A.encodes;
   }
     where
       view : view_at more v ≡ view_at log v
@@ -125,7 +125,7 @@ module _ (n : ℕ) (few : n ≤ 15) (asked : List Asked) (log : List (List ℕ))
   keeps = subst (λ (c : ℕ). Keeps log c M.over) whole M.keeps
 
   pub is_value : IsValue M.over x
-  is_value = record { command = M.command; form = M.of.form; asked = M.rank; rank = (let b = M.of.below in omega arith); newer = x; made = M.made; spelled = older_itself x }
+  is_value = record { command = M.command; form = M.of.form; asked = M.rank; rank = (let b = M.of.below in omega arith); newer = x; made = M.made; encoded = older_itself x }
 
   pub values_again : AllValues more
   values_again = growing.more_values log room all M.over keeps (M.last ∙ whole) x is_value
@@ -144,16 +144,16 @@ module _ (n : ℕ) (few : n ≤ 15) (asked : List Asked) (log : List (List ℕ))
     ops = x;
     made = ap (λ (r : ℕ). value (view_at more (length log)) M.command r) M.of.at ∙ ap (λ (w : Readings). value w M.command M.rank) view ∙ value_told log (omega arith) all M.over keeps (M.last ∙ whole) M.command M.rank ∙ M.made;
     has_text = texts log room all M.over keeps (M.last ∙ whole) x is_value;
-    spells = entry_push log (text x);
+    encodes = entry_push log (text x);
   }
     where
       view : view_at more (length log) ≡ view_at log (length log)
-      view = ap (λ (m : Store). readings_of (apply_op (put_number area.Paxos key.LastCommitted (length log)) m)) (fold_stays (fronts_push log (text x)) (length log) (omega arith))
+      view = ap (λ (m : Store). readings_of (apply_op (put_number area.Paxos key.LastCommitted (length log)) m)) (fold_stays (log_prefix_push log (text x)) (length log) (omega arith))
 
   pub asked_again : AllAsked n asked log → AllAsked n asked more
   asked_again A v lt = by (cases_order v (length log))
     where
       by : (v ≡ length log) ⊎ ((v < length log) ⊎ (length log < v)) → IsAsked n asked more v
       by (inl e) = subst (IsAsked n asked more) (sym e) next_asked
-      by (inr (inl low)) = version_asked_stays (fronts_push log (text x)) n asked v low (A v low)
+      by (inr (inl low)) = version_asked_stays (log_prefix_push log (text x)) n asked v low (A v low)
       by (inr (inr high)) = let l = length_push log (text x) in absurd (omega arith)

@@ -1,7 +1,7 @@
 -- What follows from the one log: no two monitors disagree, and what is sent and copied is the log's.
-use Rattle.log_copies.proofs.Sending.{BodyTells}
+use Rattle.log_copies.proofs.Sending.{BodyMatches}
 use Rattle.log_copies.proofs.Standing.{Agrees, TakesCopy}
-use Rattle.log_copies.proofs.Telling.{one_within, record_there}
+use Rattle.log_copies.proofs.Matching.{one_within, record_there}
 use Rattle.log_copies.proofs.UnderWay.{InStage, Marked}
 use Rattle.log_copies.proofs.Unmarked.{OnLog}
 use Rattle.log_model.proofs.Records.{AreVersions, IsVersion}
@@ -22,12 +22,12 @@ use Rattle.mon_wire.specs.declared.body.Body.{Body}
 use Rattle.mon_wire.specs.declared.parts.Place.{Place as ChunkPlace}
 use Rattle.mon_wire.specs.declared.phase.Phase.TheVariants as phase
 use Rattle.quorum_agreement.proofs.Chosen.{Chosen}
-use Rattle.quorum_agreement.proofs.Invariant.{EnvelopeTells, LogHolds, OfLog, remembers}
+use Rattle.quorum_agreement.proofs.Invariant.{EnvelopeMatches, LogHolds, OfLog, remembers}
 use Rattle.quorum_agreement.proofs.LoneWorlds.{LoneHolds}
 use Rattle.quorum_agreement.proofs.Made.{AllAsked}
 use Rattle.quorum_agreement.proofs.Step.{copy_marked}
 use Rattle.quorum_agreement.specs.Copying.{HasCopied, IsCopying, MarkedIfFull}
-use Rattle.quorum_agreement.specs.Telling.{AreItsEntries, AreItsValues, TellsLog}
+use Rattle.quorum_agreement.specs.Matching.{AreItsEntries, AreItsValues, MatchesLog}
 use Rattle.quorum_history.proofs.History.{Ghost}
 use Rattle.quorum_history.proofs.Holds.{InPhase, RequestsIn, StageHolds, core_of}
 use Rattle.quorum_laws.proofs.Invariant.{InvOf}
@@ -47,7 +47,7 @@ pub record OneLog (ms : Monitors) (w : World) : Type 0 where
   pub values : AllValues w.log
   pub asks : AllAsked ms.count w.asked w.log
   pub stores : (i : ℕ) → i < ms.count → Agrees w.log (w.store i) (remembers i (w.state i))
-  pub sent : AllByRecursion (EnvelopeTells w.log) w.messages
+  pub sent : AllByRecursion (EnvelopeMatches w.log) w.messages
 
 pub several_log : (ms : Monitors) (w : World) → LogHolds ms w → OneLog ms w
 several_log ms w h = let O = h.1 in record { short = O.short; values = O.values; asks = O.asks; stores = O.stores; sent = O.sent }
@@ -145,13 +145,13 @@ module _ (ms : Monitors) (w : World) (L : OneLog ms w) where
 
 its_values : (log : List (List ℕ)) (xs : List (List Op)) (v : ℕ) → AreVersions log v xs → AreItsValues log v xs
 its_values log [] v h = tt
-its_values log (x ∷ xs) v h = (low v h.0, h.0.spells, its_values log xs (suc v) h.1)
+its_values log (x ∷ xs) v h = (low v h.0, h.0.encodes, its_values log xs (suc v) h.1)
   where
     low : (v : ℕ) → IsVersion log v x → v ≤ length log
     low zero V = omega arith
     low (suc v) V = one_within log v x V
 
-pub tells : (log : List (List ℕ)) (b : Body) → BodyTells log b → TellsLog log b
+pub tells : (log : List (List ℕ)) (b : Body) → BodyMatches log b → MatchesLog log b
 tells log (body.Last pn first last whole from values pending) h = (h.0, its_values log values from h.1)
 tells log (body.Commit from values) h = its_values log values from h
 tells log (body.ProbeReply quorum first last) h = h
@@ -172,4 +172,4 @@ module _ (ms : Monitors) (w : World) (J : InvOf ms w) (L : OfLog ms w w.asked J)
   accepted v x a = record { pn = a.pn; by = a.by; major = record { below = a.below; major = a.major }; all = λ m k. J.triples.kept m v a.pn x (a.all m k) }
 
   pub entries_chosen : (v : ℕ) → v < length w.log → IsChosen ms.count w (suc v) (entry w.log (suc v))
-  entries_chosen v lt = let e = L.chosen v lt in subst (IsChosen ms.count w (suc v)) (sym e.spells) (accepted (suc v) e.x e.chosen)
+  entries_chosen v lt = let e = L.chosen v lt in subst (IsChosen ms.count w (suc v)) (sym e.encodes) (accepted (suc v) e.x e.chosen)

@@ -1,7 +1,7 @@
 -- What holds of the log holds after every list of events, and the log only grows.
 use Rattle.quorum_agreement.proofs.Beginning.{at_first}
 use Rattle.quorum_agreement.proofs.Grown.{GrowsByOne}
-use Rattle.quorum_agreement.proofs.Invariant.{EnvelopeTells, LogHolds}
+use Rattle.quorum_agreement.proofs.Invariant.{EnvelopeMatches, LogHolds}
 use Rattle.quorum_agreement.proofs.LoneWorlds.{LoneFollows, LoneHolds, lone_asking, lone_at_first, lone_follows}
 use Rattle.quorum_agreement.proofs.Worlds.{Follows, all_follow, asking}
 use Rattle.quorum_agreement.specs.Growing.{GrowsBy}
@@ -60,7 +60,7 @@ module _ (ms : Monitors) (P : World → Type 0) (follows : (w : World) (e : Even
 
 module _ (ms : Monitors) (several : (i : ℕ) → i < ms.count → 1 < ms.count) where
   follows : (w : World) (e : Event) → PlainFits ms.count (plain_of e) → LogHolds ms w → IfOk (happens ms w e) (Follows ms w)
-  follows w e F h = each_event ms w (EnvelopeTells w.log) h.0 (Follows ms w) h.1.sent e F (λ J up. all_follow ms several w (plain_of e) J (asking ms w (plain_of e) h.0 h.1 J))
+  follows w e F h = each_event ms w (EnvelopeMatches w.log) h.0 (Follows ms w) h.1.sent e F (λ J up. all_follow ms several w (plain_of e) J (asking ms w (plain_of e) h.0 h.1 J))
 
   pub several_run : (events : List Event) → AllFit ms.count events → LogHolds ms (run ms events)
   several_run events F = runs_hold ms (LogHolds ms) follows first_world events F (at_first ms)
@@ -70,7 +70,7 @@ module _ (ms : Monitors) (several : (i : ℕ) → i < ms.count → 1 < ms.count)
 
 module _ (ms : Monitors) (one : ms.count ≡ 1) where
   lone_then : (w : World) (e : Event) → PlainFits ms.count (plain_of e) → LoneHolds ms w → IfOk (happens ms w e) (LoneFollows ms w)
-  lone_then w e F h = each_event ms w (EnvelopeTells w.log) h.0 (LoneFollows ms w) h.1.sent e F (λ J up. lone_follows ms one w (plain_of e) J (lone_asking ms w (plain_of e) h.1))
+  lone_then w e F h = each_event ms w (EnvelopeMatches w.log) h.0 (LoneFollows ms w) h.1.sent e F (λ J up. lone_follows ms one w (plain_of e) J (lone_asking ms w (plain_of e) h.1))
 
   pub lone_run : (events : List Event) → AllFit ms.count events → LoneHolds ms (run ms events)
   lone_run events F = runs_hold ms (LoneHolds ms) lone_then first_world events F (lone_at_first ms)

@@ -1,5 +1,5 @@
 -- What holds of the versions that were acknowledged and of the replies, and that it still holds after further events.
-use Rattle.log_copies.proofs.Telling.{IsTold, told_stays}
+use Rattle.log_copies.proofs.Matching.{IsTold, told_stays}
 use Rattle.mon_msg.specs.Protocol.Readings.{epoch_of, readings_of}
 use Rattle.mon_msg.specs.Protocol.Reads.{shown}
 use Rattle.mon_msg.specs.Protocol.State.{State}
@@ -52,8 +52,8 @@ asked_lasts w next keeps r other k = tt
 shown_lasts : (w next : World) (g h : Ghost) → Onward w next g h → (r : Replied) → IsShownIn w r → IsShownIn next r
 shown_lasts w next g h O r k = record {
   event = let e = k.event in let f = O.events in omega arith;
-  last = let e = k.last in let f = O.fronts in let s = f.short in omega arith;
-  shows = shows_told next r r.reply (told_stays O.fronts r.last k.last r.reply (told_of w r r.reply k.shows));
+  last = let e = k.last in let f = O.log_prefix in let s = f.short in omega arith;
+  shows = shows_told next r r.reply (told_stays O.log_prefix r.last k.last r.reply (told_of w r r.reply k.shows));
   asked = asked_lasts w next O.asked r r.reply k.asked;
 }
 

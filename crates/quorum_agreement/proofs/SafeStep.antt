@@ -1,6 +1,6 @@
 -- Every event keeps what is known of the versions that were acknowledged, and of what was replied.
 use Rattle.log_copies.proofs.Standing.{Agrees}
-use Rattle.log_copies.proofs.Telling.{IsTold, monitor_keeps, read_last, record_there, shown_told, since_told, told_stays}
+use Rattle.log_copies.proofs.Matching.{IsTold, monitor_keeps, read_last, record_there, shown_told, since_told, told_stays}
 use Rattle.log_copies.proofs.Unmarked.{OnLog}
 use Rattle.log_copies.specs.Synchronizing.{written}
 use Rattle.log_model.proofs.Committed.{ops_again}
@@ -350,7 +350,7 @@ module _ (ms : Monitors) (w next : World) (I : InvOf ms w) (K : InvOf ms next) (
         by (inr k) = subst (WasAskedFor next answer) (sym k.3) (since_asked next answer w0 k.0 k.1 (asked_there (request.Since k.0 k.1) k.2))
 
     is_shown : IsShownIn next answer
-    is_shown = record { event = omega arith; last = last_then; shows = shows_told next answer R.reply (subst (λ (c : ℕ). IsTold next.log c R.reply) last_same (told_stays O.fronts stands.last (let h = stands.versions in h.within) R.reply tells)); asked = asked_for }
+    is_shown = record { event = omega arith; last = last_then; shows = shows_told next answer R.reply (subst (λ (c : ℕ). IsTold next.log c R.reply) last_same (told_stays O.log_prefix stands.last (let h = stands.versions in h.within) R.reply tells)); asked = asked_for }
 
     fenced : (a : Acknowledged) → IsHeld count w I.g a → IsFenced a answer R.reply
     fenced a h = fenced_by a answer R.reply (λ lt e. let v = shows_it ms w I a h rank below s there_before d.by.at R.readable still_before (e ∙ ap epoch_of same) R.member in let l = last_is m in let q = ap (λ (r : Readings). r.last) same in omega arith)
@@ -467,12 +467,12 @@ module _ (ms : Monitors) (w next : World) (I : InvOf ms w) (K : InvOf ms next) (
     abbrev values_then : AllValues next.log
     values_then u lt = let q = N.asks u lt in record {
       changes = q.ops;
-      value = record { command = q.command; form = q.form; asked = q.by.rank; rank = (let r = q.rank in let k = ms.most in omega arith); newer = q.ops; made = q.made; spelled = older_itself q.ops };
-      spells = q.spells;
+      value = record { command = q.command; form = q.form; asked = q.by.rank; rank = (let r = q.rank in let k = ms.most in omega arith); newer = q.ops; made = q.made; encoded = older_itself q.ops };
+      encodes = q.encodes;
     }
 
     ops_are : ops_in (entry next.log v) ≡ asked_then.ops
-    ops_are = ap ops_in asked_then.spells ∙ ops_again asked_then.ops (value_has_text next.log N.short values_then w0.last within)
+    ops_are = ap ops_in asked_then.encodes ∙ ops_again asked_then.ops (value_has_text next.log N.short values_then w0.last within)
 
     there : cell m area.Paxos (key.Version v) ≡ Some (entry next.log v)
     there =
@@ -530,8 +530,8 @@ module _ (ms : Monitors) (w next : World) (I : InvOf ms w) (K : InvOf ms next) (
       majority : IsMajorityOf count s.leader.quorum
       majority = let D = done.chosen in record { below = subst (λ (q : List Bool). (i : ℕ) → has q i ≡ true → i < count) done.quorum D.below; major = subst (λ (q : List Bool). is_majority count q ≡ true) done.quorum D.major }
 
-      spells : text done.x ≡ entry next.log v
-      spells = chosen_once ms next K v (text done.x) (entry next.log v) (record { pn = s.leader.pn; by = s.leader.quorum; major = majority; all = λ i t. O.accepted i v s.leader.pn (text done.x) (all_accepted i t) }) (chosen_then several w0.last within)
+      encodes : text done.x ≡ entry next.log v
+      encodes = chosen_once ms next K v (text done.x) (entry next.log v) (record { pn = s.leader.pn; by = s.leader.quorum; major = majority; all = λ i t. O.accepted i v s.leader.pn (text done.x) (all_accepted i t) }) (chosen_then several w0.last within)
 
       nothing_below : (lower : ℕ) (q : List Bool) → lower < s.leader.pn → IsMajorityOf count q → AcceptedNothing w q v lower
       nothing_below lower q lt Q = nothing_lower ms w I rank s lower q was_up updating lt Q
@@ -547,7 +547,7 @@ module _ (ms : Monitors) (w next : World) (I : InvOf ms w) (K : InvOf ms next) (
       put = put;
       led = led;
       level = let l : level_at next rank ≡ (readings_at next rank).last = level_is (own_of (readings_at next rank)) acts.0.reigns.unmarked in omega (arith, last_now);
-      chosen = λ several i t. subst (HasAccepted next i v d.y.state.leader.pn) (spells several) (subst (λ (p : ℕ). HasAccepted next i v p (text (done several).x)) (sym A.number) (O.accepted i v s.leader.pn (text (done several).x) (all_accepted several i (subst (λ (q : List Bool). has q i ≡ true) quorum_is t))));
+      chosen = λ several i t. subst (HasAccepted next i v d.y.state.leader.pn) (encodes several) (subst (λ (p : ℕ). HasAccepted next i v p (text (done several).x)) (sym A.number) (O.accepted i v s.leader.pn (text (done several).x) (all_accepted several i (subst (λ (q : List Bool). has q i ≡ true) quorum_is t))));
       fresh = λ several lower q lt Q. stays_nothing w next O.later q v lower (nothing_below several lower q (let e = A.number in omega arith) Q);
     }
 
@@ -577,7 +577,7 @@ module _ (ms : Monitors) (w next : World) (I : InvOf ms w) (K : InvOf ms next) (
             let value : Some D.x ≡ Some A.ops = sym D.is ∙ C.proposed in
             let same : D.x ≡ A.ops = cc in
             let V : Val A.ops = subst (λ (o : Option (List Op)). IfSome o Val) C.proposed (let f = d.by.fits in f.value) in
-            let R = read_version next.log N.short values_then w0.last within A.ops (subst (λ (b : List ℕ). transaction_in (Some b) ≡ Some A.ops) (ap text (sym same) ∙ spells several) V.reads) in R.reads
+            let R = read_version next.log N.short values_then w0.last within A.ops (subst (λ (b : List ℕ). transaction_in (Some b) ≡ Some A.ops) (ap text (sym same) ∙ encodes several) V.reads) in R.reads
         by (inr (inr none)) = let b = below in absurd (omega arith)
 
     made_here : changed (asker rank A.origin) source.command ≡ (ack.what.service, ack.what.incremental)

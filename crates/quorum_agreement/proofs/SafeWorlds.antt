@@ -1,9 +1,9 @@
 -- In every run what is acknowledged is held, and what is shown is the log's.
 use Rattle.log_copies.specs.Synchronizing.{written}
-use Rattle.log_model.proofs.Logs.{Fronts, fronts_itself, fronts_push}
+use Rattle.log_model.proofs.Logs.{IsPrefixOf, log_prefix_itself, log_prefix_push}
 use Rattle.mon_msg.specs.Fold.{entry}
 use Rattle.mon_msg.specs.Joined.{joined}
-use Rattle.mon_msg.specs.Protocol.Changes.{Last, Learn, spelled}
+use Rattle.mon_msg.specs.Protocol.Changes.{Last, Learn, encoded}
 use Rattle.mon_msg.specs.Protocol.Reaction.{reaction_of}
 use Rattle.mon_msg.specs.Protocol.Readings.{epoch_of, readings_of, shared_entries}
 use Rattle.mon_msg.specs.Protocol.State.{State}
@@ -12,7 +12,7 @@ use Rattle.mon_msg.specs.declared.input.Input.{Input}
 use Rattle.mon_tx.specs.Map.{Store}
 use Rattle.quorum_agreement.proofs.Grown.{GrowsByOne}
 use Rattle.quorum_agreement.proofs.Held.{Onward, is_kept}
-use Rattle.quorum_agreement.proofs.Invariant.{EnvelopeTells, LogHolds}
+use Rattle.quorum_agreement.proofs.Invariant.{EnvelopeMatches, LogHolds}
 use Rattle.quorum_agreement.proofs.Kept.{accepted_keeps}
 use Rattle.quorum_agreement.proofs.LoneWorlds.{LoneHolds, lone_asking, lone_at_first, lone_follows, lone_reads}
 use Rattle.quorum_agreement.proofs.Beginning.{at_first}
@@ -66,15 +66,15 @@ put_cases f h i a u j b = by (eqb j i) refl
     by true q e = inl (eqb-true j i q, e)
     by false q e = inr (e, refl)
 
-pub grown_fronts : (old new : List (List ℕ)) → GrowsByOne old new → Fronts old new
-grown_fronts old new (inl e) = subst (Fronts old) (sym e) (fronts_itself old)
-grown_fronts old new (inr x) = subst (Fronts old) (sym x.1) (fronts_push old x.0)
+pub grown_log_prefix : (old new : List (List ℕ)) → GrowsByOne old new → IsPrefixOf old new
+grown_log_prefix old new (inl e) = subst (IsPrefixOf old) (sym e) (log_prefix_itself old)
+grown_log_prefix old new (inr x) = subst (IsPrefixOf old) (sym x.1) (log_prefix_push old x.0)
 
 -- what is known of a message that comes: what it says of the log, and the acknowledgement of a ROUTE
 abbrev Told : World → Ghost → Envelope → Type 0
-Told w g e = EnvelopeTells w.log e × Routes w g e
+Told w g e = EnvelopeMatches w.log e × Routes w g e
 
-first_told : (w : World) (g : Ghost) (rank : ℕ) (came : Input) → ToldOf (Told w g) rank came → ToldOf (EnvelopeTells w.log) rank came
+first_told : (w : World) (g : Ghost) (rank : ℕ) (came : Input) → ToldOf (Told w g) rank came → ToldOf (EnvelopeMatches w.log) rank came
 first_told w g rank (input.Deliver m) t = t.0
 first_told w g rank other t = tt
 
@@ -97,8 +97,8 @@ record SafeFacts (ms : Monitors) (w : World) : Type 0 where
 -- ---- one event, over whatever is known of the log
 
 module _ (ms : Monitors) (Base : World → Type 0) (one : (w : World) → Base w → OneLog ms w) (chosen : (w : World) → Base w → 1 < ms.count → (v : ℕ) → v < length w.log → IsChosen ms.count w (suc v) (entry w.log (suc v)))
-    (goes : (w : World) (p : Plain) (J : InvWith ms w (with_asked p w.asked)) → Base w → events.Keeps ms w (EnvelopeTells w.log) p J (λ next. Base next × GrowsByOne w.log next.log))
-    (alone : (w : World) (p : Plain) (J : InvWith ms w (with_asked p w.asked)) → Base w → (d : Does ms w (EnvelopeTells w.log) (with_asked p w.asked) J) → AloneReads ms w (with_asked p w.asked) J (EnvelopeTells w.log) d) where
+    (goes : (w : World) (p : Plain) (J : InvWith ms w (with_asked p w.asked)) → Base w → events.Keeps ms w (EnvelopeMatches w.log) p J (λ next. Base next × GrowsByOne w.log next.log))
+    (alone : (w : World) (p : Plain) (J : InvWith ms w (with_asked p w.asked)) → Base w → (d : Does ms w (EnvelopeMatches w.log) (with_asked p w.asked) J) → AloneReads ms w (with_asked p w.asked) J (EnvelopeMatches w.log) d) where
   abbrev pub SafeHolds : World → Type 0
   SafeHolds w = Base w × (I : InvOf ms w) × IsSafe ms w I
 
@@ -116,7 +116,7 @@ module _ (ms : Monitors) (Base : World → Type 0) (one : (w : World) → Base w
         → ((a : Acknowledged) → Contains w.acknowledged a → Contains next.acknowledged a) → next.asked ≡ asked → Onward w next I.g A.0.g
     onward next A G events accepted acks asks = record {
       further = further_trans I.g J.g A.0.g up A.1;
-      fronts = grown_fronts w.log next.log G;
+      log_prefix = grown_log_prefix w.log next.log G;
       events = events;
       later = A.2;
       levels = λ i. let L = A.2 in (L.each i).level;
@@ -143,7 +143,7 @@ module _ (ms : Monitors) (Base : World → Type 0) (one : (w : World) → Base w
         down j s e = elim (put_cases w.state w.store i None (w.store i) j (Some s) e) [ inl z ↦ (let q : None ≡ Some s = z.1 in absurd cc) | inr z ↦ (z.0, refl) ]
 
     module _ (d : Does ms w Said asked J) where
-      abbrev d1 : Does ms w (EnvelopeTells w.log) asked J
+      abbrev d1 : Does ms w (EnvelopeMatches w.log) asked J
       d1 = let a = d.by in record {
         by = record { rank = a.rank; lt = a.lt; at = a.at; state = a.state; remembers = a.remembers; came = a.came; on = a.on; fits = a.fits; holds = a.holds; fine = a.fine; told = first_told w I.g a.rank a.came a.told; noted = a.noted };
         y = d.y;
@@ -159,7 +159,7 @@ module _ (ms : Monitors) (Base : World → Type 0) (one : (w : World) → Base w
           let next = kept_only w p d.by.rank (reaction_of d.y) in
           let b = (goes w p J B).goes_down d1 in
           let A = (each_keeps ms w Said p J).goes_down d in
-          ((b.0, A.0, safe_same ms w next I A.0 (onward next A b.1 (omega arith) (accepted_keeps w.transactions d.by.rank (joined (spelled d.y.changes))) (λ a k. k) refl) S down refl refl refl), b.1)
+          ((b.0, A.0, safe_same ms w next I A.0 (onward next A b.1 (omega arith) (accepted_keeps w.transactions d.by.rank (joined (encoded d.y.changes))) (λ a k. k) refl) S down refl refl refl), b.1)
         where
           down : (j : ℕ) (s : State) → put_at w.state d.by.rank None j ≡ Some s → (w.state j ≡ Some s) × (put_at w.store d.by.rank m j ≡ w.store j)
           down j s e = elim (put_cases w.state w.store d.by.rank None m j (Some s) e) [ inl z ↦ (let q : None ≡ Some s = z.1 in absurd cc) | inr z ↦ z ]
@@ -177,7 +177,7 @@ module _ (ms : Monitors) (Base : World → Type 0) (one : (w : World) → Base w
           let b = (goes w p J B).goes_on d1 in
           let A = (each_keeps ms w Said p J).goes_on d in
           let acks = acknowledgements_of (suc w.events) m d.y.state d.y.out in
-          let O = onward next A b.1 (omega arith) (accepted_keeps w.transactions d.by.rank (joined (spelled d.y.changes))) (λ a k. Contains-append_left w.acknowledged acks a k) refl in (
+          let O = onward next A b.1 (omega arith) (accepted_keeps w.transactions d.by.rank (joined (encoded d.y.changes))) (λ a k. Contains-append_left w.acknowledged acks a k) refl in (
             (
               b.0,
               A.0,
@@ -212,7 +212,7 @@ module _ (ms : Monitors) (Base : World → Type 0) (one : (w : World) → Base w
       let O = one w h.0 in
       let I = h.1 in
       let S = h.2 in
-      each_event ms w (Told w I.g) I (Next w) (all_both (EnvelopeTells w.log) (Routes w I.g) w.messages O.sent S.routes) e F (λ J up. all_next w (plain_of e) h.0 I S J up)
+      each_event ms w (Told w I.g) I (Next w) (all_both (EnvelopeMatches w.log) (Routes w I.g) w.messages O.sent S.routes) e F (λ J up. all_next w (plain_of e) h.0 I S J up)
 
   facts : (w : World) → SafeHolds w → SafeFacts ms w
   facts w h = let S = h.2 in record {

@@ -1,12 +1,12 @@
 -- What one event makes of the log and of its monitor's store, if all that was accepted is made over the log and all of the
 -- log was chosen.
-use Rattle.log_copies.proofs.Sending.{AllTell, BodyTells}
-use Rattle.log_copies.proofs.Standing.{Agrees, Allowed, BodyStands, InputStands, InputTells, TakesCopy, agrees_stays, event}
-use Rattle.log_copies.proofs.Telling.{monitor_keeps, read_last, record_there}
+use Rattle.log_copies.proofs.Sending.{AllMatch, BodyMatches}
+use Rattle.log_copies.proofs.Standing.{Agrees, Allowed, BodyStands, InputStands, InputMatches, TakesCopy, agrees_stays, event}
+use Rattle.log_copies.proofs.Matching.{monitor_keeps, read_last, record_there}
 use Rattle.log_copies.proofs.UnderWay.{Marked}
 use Rattle.log_copies.proofs.Unmarked.{OnLog, Situated}
 use Rattle.log_copies.specs.Synchronizing.{written}
-use Rattle.log_model.proofs.Logs.{Fronts, entry_push, fronts_itself, fronts_push}
+use Rattle.log_model.proofs.Logs.{IsPrefixOf, entry_push, log_prefix_itself, log_prefix_push}
 use Rattle.log_model.proofs.Lists.{length_push}
 use Rattle.log_model.proofs.Records.{IsVersion}
 use Rattle.log_model.proofs.RowReadings.{read_some}
@@ -16,7 +16,7 @@ use Rattle.log_model.specs.Windows.{log_from}
 use Rattle.mon_msg.proofs.Joining.{apply-joined}
 use Rattle.mon_msg.specs.Fold.{entry}
 use Rattle.mon_msg.specs.Joined.{joined}
-use Rattle.mon_msg.specs.Protocol.Changes.{Change, spelled}
+use Rattle.mon_msg.specs.Protocol.Changes.{Change, encoded}
 use Rattle.mon_msg.specs.Protocol.Course.{Course}
 use Rattle.mon_msg.specs.Protocol.Readings.{Readings, readings_of, shared_entries}
 use Rattle.mon_msg.specs.Protocol.State.{State}
@@ -55,14 +55,14 @@ copy_marked log m s T = by T.marked
 -- The monitor agrees with this log, what it sends is this log's, and the world's log grows to it.
 pub record Next (n : ℕ) (g : Ghost) (asked : List Asked) (log : List (List ℕ)) (m : Store) (s : State) (out : List Sent) : Type 0 where
   pub more : List (List ℕ)
-  pub fronts : Fronts log more
+  pub log_prefix : IsPrefixOf log more
   pub grows : GrowsByOne log more
   pub short : length more ≤ 2 ^ 62
   pub values : AllValues more
   pub chosen : AllChosen n g more
   pub asks : AllAsked n asked more
   pub agrees : Agrees more m s
-  pub tells : AllTell more out
+  pub tells : AllMatch more out
   pub is : grown log m ≡ more
 
 module _ (log : List (List ℕ)) (fits : length log ≤ 2 ^ 62) (all : AllValues log) (me : Me) (several : 1 < me.member.monitors) (g : Ghost) (asked : List Asked)
@@ -75,12 +75,12 @@ module _ (log : List (List ℕ)) (fits : length log ≤ 2 ^ 62) (all : AllValues
   nothing_new m s (inl V) = grown_none log m V.unmarked (let h = V.versions in let w = h.within in omega (arith, read_last log fits all V.last m h))
   nothing_new m s (inr T) = grown_marked log m (copy_marked log m s T)
 
-  same_log : (m : Store) (s : State) (out : List Sent) → Agrees log m s → AllTell log out → Next n g asked log m s out
-  same_log m s out h t = record { more = log; fronts = fronts_itself log; grows = inl refl; short = fits; values = all; chosen = C; asks = A; agrees = h; tells = t; is = nothing_new m s h }
+  same_log : (m : Store) (s : State) (out : List Sent) → Agrees log m s → AllMatch log out → Next n g asked log m s out
+  same_log m s out h t = record { more = log; log_prefix = log_prefix_itself log; grows = inl refl; short = fits; values = all; chosen = C; asks = A; agrees = h; tells = t; is = nothing_new m s h }
 
   -- ---- an event that commits nothing
 
-  pub other_event : (now : ℕ) (m : Store) (s : State) → Agrees log m s → (came : Input) → InputTells log came → Allowed log fits all me several m s came → (y : Course)
+  pub other_event : (now : ℕ) (m : Store) (s : State) → Agrees log m s → (came : Input) → InputMatches log came → Allowed log fits all me several m s came → (y : Course)
       → react me (shared_entries m) now (readings_of m) s came ≡ Ok y → Next n g asked log (written m y) y.state y.out
   other_event now m s h came t allowed y e =
       let E = event log fits all me several now m s h came t allowed y e in
@@ -102,10 +102,10 @@ module _ (log : List (List ℕ)) (fits : length log ≤ 2 ^ 62) (all : AllValues
     last_within = let h = V.versions in let l = h.within in omega (arith, last_is)
 
     rests : Rests me now d.from d.epoch pn v (at_rest w s) y → Next n g asked log (written m y) y.state y.out
-    rests R = same_log (written m y) y.state y.out (inl (subst (OnLog log) (sym same) V)) (subst (AllTell log) (sym R.sends) tt)
+    rests R = same_log (written m y) y.state y.out (inl (subst (OnLog log) (sym same) V)) (subst (AllMatch log) (sym R.sends) tt)
       where
         same : written m y ≡ m
-        same = ap (λ (cs : List Change). apply (joined (spelled cs)) m) R.changes ∙ apply-joined [] m
+        same = ap (λ (cs : List Change). apply (joined (encoded cs)) m) R.changes ∙ apply-joined [] m
 
     module _ (R : Commits me now d.from d.epoch pn v (at_rest w s) y) where
       done : Completed me g w s T several K d.from
@@ -120,8 +120,8 @@ module _ (log : List (List ℕ)) (fits : length log ≤ 2 ^ 62) (all : AllValues
           stands : InputStands l me w s (input.Deliver d)
           stands = subst (BodyStands l me w s d.from) (sym came) (λ _. value_is)
 
-      told : (l : List (List ℕ)) → InputTells l (input.Deliver d)
-      told l = subst (BodyTells l) (sym came) tt
+      told : (l : List (List ℕ)) → InputMatches l (input.Deliver d)
+      told l = subst (BodyMatches l) (sym came) tt
 
       -- a version that the log has
       again : suc w.last ≤ length log → Next n g asked log (written m y) y.state y.out
@@ -131,7 +131,7 @@ module _ (log : List (List ℕ)) (fits : length log ≤ 2 ^ 62) (all : AllValues
       grows : w.last ≡ length log → Next n g asked log (written m y) y.state y.out
       grows whole = record {
         more = more;
-        fronts = fronts_push log (text done.x);
+        log_prefix = log_prefix_push log (text done.x);
         grows = inr (text done.x, refl);
         short = short;
         values = values;
@@ -169,8 +169,8 @@ module _ (log : List (List ℕ)) (fits : length log ≤ 2 ^ 62) (all : AllValues
           is_now : IsVersion more (suc w.last) done.x
           is_now = subst (λ (z : ℕ). IsVersion more (suc z) done.x) (sym whole) (is_next n few asked log room all done.x made)
 
-          E : Agrees more (written m y) y.state × AllTell more y.out
-          E = event more short values me several now m s (agrees_stays (fronts_push log (text done.x)) m s (inl V)) (input.Deliver d) (told more) (stands_with more short values is_now) y e
+          E : Agrees more (written m y) y.state × AllMatch more y.out
+          E = event more short values me several now m s (agrees_stays (log_prefix_push log (text done.x)) m s (inl V)) (input.Deliver d) (told more) (stands_with more short values is_now) y e
 
           last_now : (readings_of (written m y)).last ≡ suc (length log)
           last_now = let l = R.last in omega (arith, tells, whole)

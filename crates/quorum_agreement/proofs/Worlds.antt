@@ -3,7 +3,7 @@ use Rattle.log_copies.proofs.Standing.{Agrees, agrees_stays, crashed}
 use Rattle.log_copies.specs.Synchronizing.{written}
 use Rattle.log_model.specs.LogOfValues.{AllValues}
 use Rattle.mon_msg.specs.Joined.{joined}
-use Rattle.mon_msg.specs.Protocol.Changes.{spelled}
+use Rattle.mon_msg.specs.Protocol.Changes.{encoded}
 use Rattle.mon_msg.specs.Protocol.Reaction.{reaction_of}
 use Rattle.mon_msg.specs.Protocol.State.{State}
 use Rattle.mon_tx.specs.Map.{Store}
@@ -11,7 +11,7 @@ use Rattle.mon_tx.specs.declared.op.Op.{Op}
 use Rattle.quorum_agreement.proofs.Chosen.{AllChosen}
 use Rattle.quorum_agreement.proofs.Event.{after, fine_then, votes}
 use Rattle.quorum_agreement.proofs.Grown.{GrowsByOne}
-use Rattle.quorum_agreement.proofs.Invariant.{EnvelopeTells, LogHolds, OfLog, envelopes_stay, envelopes_tell, remembers}
+use Rattle.quorum_agreement.proofs.Invariant.{EnvelopeMatches, LogHolds, OfLog, envelopes_stay, envelopes_tell, remembers}
 use Rattle.quorum_agreement.proofs.Kept.{accepted_added, accepted_keeps, all_made_again, still_chosen}
 use Rattle.quorum_agreement.proofs.Made.{AllAsked, AllMade, StillAsked, made_asked, made_stays, version_asked}
 use Rattle.quorum_agreement.proofs.Step.{Next}
@@ -62,7 +62,7 @@ asking ms w p I O J = record {
 
 -- the invariant holds of a world, if its parts hold of a log that is the world's
 of_log : (ms : Monitors) (w : World) (asked : List Asked) (J : InvWith ms w asked) (log : List (List ℕ)) → w.log ≡ log → length log ≤ 2 ^ 62 → AllValues log → AllChosen ms.count J.g log → AllMade ms.count J.g asked log → AllAsked ms.count asked log
-    → ((i : ℕ) → i < ms.count → Agrees log (w.store i) (remembers i (w.state i))) → AllByRecursion (EnvelopeTells log) w.messages → OfLog ms w asked J
+    → ((i : ℕ) → i < ms.count → Agrees log (w.store i) (remembers i (w.state i))) → AllByRecursion (EnvelopeMatches log) w.messages → OfLog ms w asked J
 of_log ms w asked J log e short values chosen made asks stores sent = record {
   short = subst (λ (l : List (List ℕ)). length l ≤ 2 ^ 62) (sym e) short;
   values = subst AllValues (sym e) values;
@@ -70,7 +70,7 @@ of_log ms w asked J log e short values chosen made asks stores sent = record {
   made = subst (AllMade ms.count J.g asked) (sym e) made;
   asks = subst (AllAsked ms.count asked) (sym e) asks;
   stores = subst (λ (l : List (List ℕ)). (i : ℕ) → i < ms.count → Agrees l (w.store i) (remembers i (w.state i))) (sym e) stores;
-  sent = subst (λ (l : List (List ℕ)). AllByRecursion (EnvelopeTells l) w.messages) (sym e) sent;
+  sent = subst (λ (l : List (List ℕ)). AllByRecursion (EnvelopeMatches l) w.messages) (sym e) sent;
 }
 
 -- the invariant holds of the next world, whose log grew by at most one entry
@@ -109,7 +109,7 @@ module _ (ms : Monitors) (w : World) (p : Plain) (J : InvWith ms w (with_asked p
         by j below true e = crashed w.log O.short O.values (member_of ms j (lt-ltb j ms.count below)) several (w.store j) (remembers j (w.state j)) (O.stores j below)
         by j below false e = O.stores j below
 
-    module _ (d : Does ms w (EnvelopeTells w.log) asked J) where
+    module _ (d : Does ms w (EnvelopeMatches w.log) asked J) where
       abbrev rank : ℕ
       rank = d.by.rank
 
@@ -117,18 +117,18 @@ module _ (ms : Monitors) (w : World) (p : Plain) (J : InvWith ms w (with_asked p
       N = after ms w asked J O several d
 
       abbrev txs : ℕ → List (List Op)
-      txs = put_at w.transactions rank (w.transactions rank ++ joined (spelled d.y.changes) ∷ [])
+      txs = put_at w.transactions rank (w.transactions rank ++ joined (encoded d.y.changes) ∷ [])
 
       -- what was chosen still is, and what was accepted was made
       module _ (next : World) (K : InvWith ms next asked) (T : TriplesKept K.g txs) where
         chosen_then : AllChosen ms.count K.g N.more
         chosen_then = let F = fine_then ms w asked J O several d in
-            still_chosen ms.count J.g K.g w.transactions txs J.glob.triples K.glob.triples J.triples T (accepted_keeps w.transactions rank (joined (spelled d.y.changes))) N.more N.chosen
+            still_chosen ms.count J.g K.g w.transactions txs J.glob.triples K.glob.triples J.triples T (accepted_keeps w.transactions rank (joined (encoded d.y.changes))) N.more N.chosen
 
         made_then : AllMade ms.count K.g asked N.more
         made_then i v q x a =
             let F = fine_then ms w asked J O several d in
-            made_stays N.fronts ms.count asked v x
+            made_stays N.log_prefix ms.count asked v x
             (all_made_again ms.count J.g K.g w.transactions txs J.glob.triples K.glob.triples J.triples T asked w.log d.y.changes (accepted_added d.y.changes F.shape F.fits w.transactions rank) (votes ms w asked J O several d) O.made i v q x a)
 
       -- each monitor's store and what it remembers
@@ -136,7 +136,7 @@ module _ (ms : Monitors) (w : World) (p : Plain) (J : InvWith ms w (with_asked p
           → Agrees N.more (put_at w.store rank (written (w.store rank) d.y) j) (remembers j (put_at w.state rank state j))
       stores_then state new =
           at_put (λ (j : ℕ) (u : Store) (s : Option State). j < ms.count → Agrees N.more u (remembers j s)) w.store w.state rank (written (w.store rank) d.y) state (λ lt. new)
-          (λ j ne lt. agrees_stays N.fronts (w.store j) (remembers j (w.state j)) (O.stores j lt))
+          (λ j ne lt. agrees_stays N.log_prefix (w.store j) (remembers j (w.state j)) (O.stores j lt))
 
       goes_on_follows : Follows ms w (moved w p rank (reaction_of d.y))
       unfolding moved
@@ -146,7 +146,7 @@ module _ (ms : Monitors) (w : World) (p : Plain) (J : InvWith ms w (with_asked p
             (
               K,
               of_log ms next asked K N.more N.is N.short N.values (chosen_then next K K.triples) (made_then next K K.triples) N.asks (stores_then (Some d.y.state) N.agrees)
-                  (all_append (EnvelopeTells N.more) w.messages (messages_of d.y.out) (envelopes_stay N.fronts w.messages O.sent) (envelopes_tell N.more d.y.out N.tells)),
+                  (all_append (EnvelopeMatches N.more) w.messages (messages_of d.y.out) (envelopes_stay N.log_prefix w.messages O.sent) (envelopes_tell N.more d.y.out N.tells)),
             ),
             subst (GrowsByOne w.log) (sym N.is) N.grows,
           )
@@ -159,13 +159,13 @@ module _ (ms : Monitors) (w : World) (p : Plain) (J : InvWith ms w (with_asked p
             (
               K,
               of_log ms next asked K N.more N.is N.short N.values (chosen_then next K K.triples) (made_then next K K.triples) N.asks
-                  (stores_then None (crashed N.more N.short N.values (member_of ms d.by.rank d.by.lt) several (written (w.store rank) d.y) d.y.state N.agrees)) (envelopes_stay N.fronts w.messages O.sent),
+                  (stores_then None (crashed N.more N.short N.values (member_of ms d.by.rank d.by.lt) several (written (w.store rank) d.y) d.y.state N.agrees)) (envelopes_stay N.log_prefix w.messages O.sent),
             ),
             subst (GrowsByOne w.log) (sym N.is) N.grows,
           )
 
 -- whatever the event, if a monitor is one of several
-pub all_follow : (ms : Monitors) → ((i : ℕ) → i < ms.count → 1 < ms.count) → (w : World) (p : Plain) (J : InvWith ms w (with_asked p w.asked)) → OfLog ms w (with_asked p w.asked) J → Keeps ms w (EnvelopeTells w.log) p J (Follows ms w)
+pub all_follow : (ms : Monitors) → ((i : ℕ) → i < ms.count → 1 < ms.count) → (w : World) (p : Plain) (J : InvWith ms w (with_asked p w.asked)) → OfLog ms w (with_asked p w.asked) J → Keeps ms w (EnvelopeMatches w.log) p J (Follows ms w)
 all_follow ms several w p J O = record {
   nothing = nothing_follows ms w p J O;
   loses = λ i lt. lost_follows ms w p J O (several i (ltb-true i ms.count lt)) i lt;

@@ -1,4 +1,4 @@
 pub mod Copying
 pub mod Growing
 pub mod Serving
-pub mod Telling
+pub mod Matching

@@ -13,7 +13,7 @@ ghost use Rattle.quorum_model.specs.World.{Envelope, Event};
 ghost use Rattle.quorum_agreement.specs.Copying.{IsCopying, MarkedIfFull};
 ghost use Rattle.quorum_agreement.specs.Growing.{GrowsBy};
 ghost use Rattle.quorum_agreement.specs.Serving.{Fenced, KeptAndShown};
-ghost use Rattle.quorum_agreement.specs.Telling.{TellsLog};
+ghost use Rattle.quorum_agreement.specs.Matching.{MatchesLog};
 
 /// No two monitors disagree on what is committed, in any run of any monitors under any rule, whenever monitors crash.
 /// The committed versions of each are entries of one log. The log only grows, by at most one entry per event. Each
@@ -35,7 +35,7 @@ pub fn law_agree()
 /// looks for a monitor to copy from. A monitor that takes a copy is marked if and only if the copy is a full one.
 pub fn law_marked()
     ensures told { (ms : Monitors) (events : List Event) → AllFit ms.count events → (e : Envelope) → Contains (run ms events).messages e
-        → TellsLog (run ms events).log e.message.body }
+        → MatchesLog (run ms events).log e.message.body }
     ensures copied { (ms : Monitors) (events : List Event) → AllFit ms.count events → (i : ℕ) → i < ms.count
         → is_marked ((run ms events).store i) ≡ true → IsCopying (run ms events).log ((run ms events).store i) ((run ms events).state i) }
     ensures full { (ms : Monitors) (events : List Event) → AllFit ms.count events → (i : ℕ)

@@ -1,7 +1,7 @@
 -- An event keeps the marks of each epoch.
 use Rattle.mon_bytes.specs.declared.command.Command.{Command}
 use Rattle.mon_msg.specs.Joined.{joined}
-use Rattle.mon_msg.specs.Protocol.Changes.{spelled}
+use Rattle.mon_msg.specs.Protocol.Changes.{encoded}
 use Rattle.mon_msg.specs.Protocol.Phases.{is_peon}
 use Rattle.mon_msg.specs.Protocol.Readings.{Readings, epoch_of, readings_of}
 use Rattle.mon_msg.specs.Protocol.State.{State}
@@ -53,7 +53,7 @@ AnyRoute f e seq r = Unit {0}
 module _ (ms : Monitors) (several : 1 < ms.count) (w : World) (I : InvOf ms w) (asked : List Asked) (J : InvWith ms w asked) (On : Envelope → Type 0) (d : Does ms w On asked J)
     (up : Further I.g J.g) (marks : (i : ℕ) (z : State) → w.state i ≡ Some z → StateMark ms.count w I.g i z) (on_way : ToldOf (λ x. SentMark ms.count w I.g x × Among x w.messages) d.by.rank d.by.came)
     (next : World) (K : InvOf ms next) (ahead : Further J.g K.g) (F : Further I.g K.g) (T : Later w next) (accepted : (i v pn : ℕ) (bytes : List ℕ) → HasAccepted w i v pn bytes → HasAccepted next i v pn bytes)
-    (store : next.store d.by.rank ≡ apply (joined (spelled d.y.changes)) (w.store d.by.rank)) (state : next.state d.by.rank ≡ Some d.y.state) (messages : next.messages ≡ w.messages ++ messages_of d.y.out)
+    (store : next.store d.by.rank ≡ apply (joined (encoded d.y.changes)) (w.store d.by.rank)) (state : next.state d.by.rank ≡ Some d.y.state) (messages : next.messages ≡ w.messages ++ messages_of d.y.out)
     (others : (i : ℕ) (z : State) → (i ≡ d.by.rank → ⊥) → next.state i ≡ Some z → (w.state i ≡ Some z) × (next.store i ≡ w.store i)) where
   abbrev n : ℕ
   n = ms.count

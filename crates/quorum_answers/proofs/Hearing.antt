@@ -1,14 +1,14 @@
 -- What a monitor does as it hears of elections, as a peon and as a leader, as `Saying` has it.
 use Rattle.election_rules.specs.declared.scores.Scores.{Scores}
 use Rattle.mon_bytes.specs.declared.command.Command.{Command}
-use Rattle.mon_msg.specs.Protocol.Answers.{answer_of, last_answer, tells_all, told_of, told_values}
+use Rattle.mon_msg.specs.Protocol.Answers.{answer_of, last_answer, is_complete, told_of, sent_values}
 use Rattle.mon_msg.specs.Protocol.Changes.{Change}
 use Rattle.mon_msg.specs.Protocol.Collecting.{collect, settle}
 use Rattle.mon_msg.specs.Protocol.Course.{Course, disarm, leader_is, ◌▸◌}
 use Rattle.mon_msg.specs.Protocol.Elections.{election_ends, hear_ack, hear_propose, hear_victory, is_allowed, is_whole, merge, table_or, weigh}
 use Rattle.mon_msg.specs.Protocol.Entering.{adopt, bootstrap, elect, is_even, win}
 use Rattle.mon_msg.specs.Protocol.Found.{counts}
-use Rattle.mon_msg.specs.Protocol.Leader.{all_accepted, all_answered, commit_any, hear_accept, hear_last, hear_lease_ack, hear_whole, is_one_of, note, note_told, of_member, renew}
+use Rattle.mon_msg.specs.Protocol.Leader.{all_accepted, all_answered, commit_any, hear_accept, hear_last, hear_lease_ack, hear_whole, is_one_of, note, note_pending, of_member, renew}
 use Rattle.mon_msg.specs.Protocol.Leading.{be_active, commit, extend}
 use Rattle.mon_msg.specs.Protocol.Learning.{learn, news, news_from}
 use Rattle.mon_msg.specs.Protocol.Peon.{cancel, hear_begin, hear_collect, hear_commit, hear_lease, of_leader, promise}
@@ -113,8 +113,8 @@ module _ (me : Me) (now : ℕ) (w : Readings) (s : State) (came : Input) (From :
   answer_plain : (to e n : ℕ) (r : Readings) (from : ℕ) → saying.IsPlainBody me now w s came From Routed Voted to e (last_answer n r from)
   unfolding answer_of
   answer_plain to e n r from =
-      let told = told_values n (promise_of r) r.first r.last r.record_of from in
-      cond_both (tells_all n (promise_of r) r.first r.last from told (told_of (pending r))) (body.Last (promise_of r) r.first r.last true from told (told_of (pending r))) (body.Last (promise_of r) r.first r.last false from told None) (saying.IsPlainBody me now w s came From Routed Voted to e) (λ t. tt) (λ t. tt)
+      let told = sent_values n (promise_of r) r.first r.last r.record_of from in
+      cond_both (is_complete n (promise_of r) r.first r.last from told (told_of (pending r))) (body.Last (promise_of r) r.first r.last true from told (told_of (pending r))) (body.Last (promise_of r) r.first r.last false from told None) (saying.IsPlainBody me now w s came From Routed Voted to e) (λ t. tt) (λ t. tt)
 
   abbrev x0 : Course
   x0 = at_rest w s
@@ -243,7 +243,7 @@ module _ (me : Me) (now : ℕ) (w : Readings) (s : State) (came : Input) (From :
       let G : GathersAt y = inl (g, learned_same (news_from w.last from) (news w.last from values) x0 y k (λ F. refl)) in
       by_test whole (λ _. heard_whole y p G k.state k.out) (λ _. collects y.state.leader.quorum 0 y G (subst AllPlain (sym k.out) tt)))))))
     where
-      notes : (o : Option Told) (y : Course) → y.state.phase ≡ phase.Collecting → GathersAt y → AllPlain y.out → Then Noted (note_told f last o y)
+      notes : (o : Option Told) (y : Course) → y.state.phase ≡ phase.Collecting → GathersAt y → AllPlain y.out → Then Noted (note_pending f last o y)
       notes None y p l O = done (record { out = O; in_phase = p; gathers = l })
       notes (Some t) y p l O = where_fits Noted which.Version (suc last) _ (λ _. done (record { out = O; in_phase = p; gathers = l }))
 

@@ -2,7 +2,7 @@
 use Rattle.log_model.proofs.Committed as committed
 use Rattle.log_model.proofs.Committed.{holds, keeps_shared, value_told}
 use Rattle.log_model.proofs.FoldWindows.{keeps_view}
-use Rattle.log_model.proofs.Logs.{Fronts, entry_stays, fold_stays, incrementals_stay}
+use Rattle.log_model.proofs.Logs.{IsPrefixOf, entry_stays, fold_stays, incrementals_stay}
 use Rattle.log_model.proofs.RowReadings.{map_is}
 use Rattle.log_model.proofs.Windows.{row_of}
 use Rattle.log_model.specs.LogOfValues.{AllValues, IsValue, view_at}
@@ -28,7 +28,7 @@ use Rattle.quorum_model.specs.Growth.{last_of}
 use Rattle.std.proofs.Common.{Err, List, None, Some, [], ap, arith, cond, get_or-take, length, length-take-le, refl, subst, suc, sym, take, true, ℕ, ◌^◌, ◌∙◌, ◌≡◌, ◌≤◌}
 
 -- what a log's first versions make stays when it grows
-pub view_stays : (log more : List (List ℕ)) → Fronts log more → (c : ℕ) → c ≤ length log → view_at more c ≡ view_at log c
+pub view_stays : (log more : List (List ℕ)) → IsPrefixOf log more → (c : ℕ) → c ≤ length log → view_at more c ≡ view_at log c
 view_stays log more F c le = ap (λ (m : Store). readings_of (apply_op (put_number area.Paxos key.LastCommitted c) m)) (fold_stays F c le)
 
 module _ (log : List (List ℕ)) (fits : length log ≤ 2 ^ 62) (all : AllValues log) where
@@ -36,7 +36,7 @@ module _ (log : List (List ℕ)) (fits : length log ≤ 2 ^ 62) (all : AllValues
     long : length (take c log) ≡ c
     long = length-take-le c log h
 
-    begins : Fronts (take c log) log
+    begins : IsPrefixOf (take c log) log
     begins = record { short = omega (arith, long); same = λ i lt. sym (get_or-take c log i [] (omega (arith, long))) }
 
     begun_values : AllValues (take c log)
@@ -45,7 +45,7 @@ module _ (log : List (List ℕ)) (fits : length log ≤ 2 ^ 62) (all : AllValues
         record {
           changes = S.changes;
           value = subst (λ (r : Readings). IsValue r S.changes) (view_stays (take c log) log begins v (omega arith)) S.value;
-          spells = sym (entry_stays begins (suc v) lt) ∙ S.spells;
+          encodes = sym (entry_stays begins (suc v) lt) ∙ S.encodes;
         }
 
     begun_keeps : (w : Readings) → Keeps log c w → Keeps (take c log) (length (take c log)) w

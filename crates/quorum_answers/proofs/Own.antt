@@ -1,7 +1,7 @@
 -- What one monitor shows and acknowledges isn't above what it has, and not below what it showed before.
 use Rattle.mon_bytes.specs.declared.command.Command.{Command}
 use Rattle.mon_msg.specs.Joined.{joined}
-use Rattle.mon_msg.specs.Protocol.Changes.{Change, spelled}
+use Rattle.mon_msg.specs.Protocol.Changes.{Change, encoded}
 use Rattle.mon_msg.specs.Protocol.Course.{Course}
 use Rattle.mon_msg.specs.Protocol.Phases.{is_leading, is_member, same_phase, votes}
 use Rattle.mon_msg.specs.Protocol.Played.{played}
@@ -215,7 +215,7 @@ module _ (ms : Monitors) (w : World) (I : InvOf ms w) (O : Onward ms.count w) (a
   w0 = readings_of (w.store d.by.rank)
 
   abbrev pub m : Store
-  m = apply (joined (spelled d.y.changes)) (w.store d.by.rank)
+  m = apply (joined (encoded d.y.changes)) (w.store d.by.rank)
 
   abbrev Says : Course → Type 0
   Says = Outcome me d.by.at w0 s AnyFrom NoRoute AnyVote AnyLook

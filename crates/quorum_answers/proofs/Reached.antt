@@ -1,5 +1,5 @@
 -- Worlds that runs reach, so that what holds of every run holds of them.
-use Rattle.log_model.proofs.Logs.{Fronts}
+use Rattle.log_model.proofs.Logs.{IsPrefixOf}
 use Rattle.quorum_agreement.proofs.Every.{grows}
 use Rattle.quorum_agreement.specs.Growing.{GrowsBy}
 use Rattle.quorum_model.specs.Events.{AllFit, PlainFits}
@@ -41,24 +41,24 @@ module _ (ms : Monitors) where
   pub world_is : (w : World) (R : Reached ms w) → run ms R.events ≡ w
   world_is w R = ap (λ (r : Ran). r.world) R.is
 
-  grown_fronts : (old new : List (List ℕ)) (most : ℕ) → GrowsBy most old new → Fronts old new
-  grown_fronts old new most G = subst (Fronts old) (sym G.is) (record { short = omega (arith, length-append old G.more); same = λ i lt. get_or_append_left old G.more [] i lt })
+  grown_log_prefix : (old new : List (List ℕ)) (most : ℕ) → GrowsBy most old new → IsPrefixOf old new
+  grown_log_prefix old new most G = subst (IsPrefixOf old) (sym G.is) (record { short = omega (arith, length-append old G.more); same = λ i lt. get_or_append_left old G.more [] i lt })
 
   -- the log goes on
-  pub fronts_next : (w next : World) (e : Event) → PlainFits ms.count (plain_of e) → happens ms w e ≡ Ok next → Reached ms w → Fronts w.log next.log
-  fronts_next w next e F q R =
+  pub log_prefix_next : (w next : World) (e : Event) → PlainFits ms.count (plain_of e) → happens ms w e ≡ Ok next → Reached ms w → IsPrefixOf w.log next.log
+  log_prefix_next w next e F q R =
       let N = reached_next w next e F q R in
-      subst (λ (v : World). Fronts v.log next.log) (world_is w R) (subst (λ (v : World). Fronts (run ms R.events).log v.log) (world_is next N) (grown_fronts _ _ 1 (grows ms R.events (e ∷ []) N.fit)))
+      subst (λ (v : World). IsPrefixOf v.log next.log) (world_is w R) (subst (λ (v : World). IsPrefixOf (run ms R.events).log v.log) (world_is next N) (grown_log_prefix _ _ 1 (grows ms R.events (e ∷ []) N.fit)))
 
   -- what each event keeps, in a run from a world that is reached
-  module _ (P : World → Type 0) (follows : (w : World) (e : Event) → Reached ms w → PlainFits ms.count (plain_of e) → P w → IfOk (happens ms w e) (λ next. Fronts w.log next.log → P next)) where
+  module _ (P : World → Type 0) (follows : (w : World) (e : Event) → Reached ms w → PlainFits ms.count (plain_of e) → P w → IfOk (happens ms w e) (λ next. IsPrefixOf w.log next.log → P next)) where
     pub runs_on : (w : World) (events : List Event) → AllFit ms.count events → Reached ms w → P w → P (run_from ms w events)
     unfolding ran_from
     runs_on w [] F R h = h
     runs_on w (e ∷ es) F R h = by (happens ms w e) refl (follows w e R F.0 h) (λ next S. runs_on next es F.1 S)
       where
-        by : (r : Result World Stop) → happens ms w e ≡ r → IfOk r (λ next. Fronts w.log next.log → P next) → ((next : World) → Reached ms next → P next → P (run_from ms next es)) → P (goes_on w (λ next. ran_from ms next es) r).world
-        by (Ok next) q k ih = ih next (reached_next w next e F.0 q R) (k (fronts_next w next e F.0 q R))
+        by : (r : Result World Stop) → happens ms w e ≡ r → IfOk r (λ next. IsPrefixOf w.log next.log → P next) → ((next : World) → Reached ms next → P next → P (run_from ms next es)) → P (goes_on w (λ next. ran_from ms next es) r).world
+        by (Ok next) q k ih = ih next (reached_next w next e F.0 q R) (k (log_prefix_next w next e F.0 q R))
         by (Err stop) q k ih = h
 
   pub reached_first : Reached ms first_world

@@ -1,11 +1,11 @@
 -- Each refusal is the service's, over the log.
-use Rattle.log_model.proofs.Logs.{Fronts}
+use Rattle.log_model.proofs.Logs.{IsPrefixOf}
 use Rattle.log_model.specs.LogOfValues.{AllValues}
 use Rattle.mon_bytes.specs.declared.command.Command.{Command}
 use Rattle.mon_bytes.specs.declared.command.CommandRefused.TheVariants as because
 use Rattle.mon_kv.specs.Readers.{is_marked}
 use Rattle.mon_msg.specs.Joined.{joined}
-use Rattle.mon_msg.specs.Protocol.Changes.{spelled}
+use Rattle.mon_msg.specs.Protocol.Changes.{encoded}
 use Rattle.mon_msg.specs.Protocol.Commands.{most_text, text_length}
 use Rattle.mon_msg.specs.Protocol.Phases.{same_phase, votes}
 use Rattle.mon_msg.specs.Protocol.Reaction.{reaction_of}
@@ -33,11 +33,11 @@ use Rattle.quorum_agreement.proofs.Worlds.{still_among}
 use Rattle.quorum_answers.proofs.Event as event
 use Rattle.quorum_answers.proofs.Ordering.{Covered, all_there}
 use Rattle.quorum_answers.proofs.Over.{long_refused, value_stored, view_stays}
-use Rattle.quorum_answers.proofs.Reached.{Reached, fronts_next, reached_first, reached_next, runs_on, world_is}
+use Rattle.quorum_answers.proofs.Reached.{Reached, log_prefix_next, reached_first, reached_next, runs_on, world_is}
 use Rattle.quorum_answers.proofs.Saying as saying
 use Rattle.quorum_answers.proofs.Saying.{NoRefusal}
 use Rattle.quorum_answers.proofs.Whole as whole
-use Rattle.quorum_answers.specs.Refused.{AllRefused, CoversAll, IsRefused, Refuses}
+use Rattle.quorum_answers.specs.Refused.{AllRefused, CoversAll, IsRefused, IsRefusalReply}
 use Rattle.quorum_history.proofs.History.{Ghost, Handed, hand}
 use Rattle.quorum_history.proofs.Holds.{FollowsIn, InPhase, IsHanded, core_of}
 use Rattle.quorum_history.proofs.Phases.{no, peon_is_peon, votes_unmarked}
@@ -71,7 +71,7 @@ pub record IsHandedBack (before w : World) (g : Ghost) (to e seq : ℕ) (r : Rep
   pub refused : IsRefused before w to session e r
 
 abbrev pub MayBring : (before w : World) → Ghost → (to e seq : ℕ) → Reply → Type 0
-MayBring before w g to e seq r = Refuses r → IsHandedBack before w g to e seq r
+MayBring before w g to e seq r = IsRefusalReply r → IsHandedBack before w g to e seq r
 
 abbrev pub Brings : (before w : World) → Ghost → (to e : ℕ) → Body → Type 0
 Brings before w g to e (body.Route seq r) = MayBring before w g to e seq r
@@ -81,7 +81,7 @@ abbrev pub Back : (before w : World) → Ghost → Envelope → Type 0
 Back before w g x = Brings before w g x.to x.message.epoch x.message.body
 
 abbrev pub IsKnown : (before w : World) → Replied → Type 0
-IsKnown before w r = Refuses r.reply → IsRefused before w r.rank r.session r.epoch r.reply
+IsKnown before w r = IsRefusalReply r.reply → IsRefused before w r.rank r.session r.epoch r.reply
 
 pub record Refusals (before w : World) (g : Ghost) : Type 0 where
   pub known : AllByRecursion (λ (a : Acknowledged). Among a w.acknowledged) before.acknowledged
@@ -90,7 +90,7 @@ pub record Refusals (before w : World) (g : Ghost) : Type 0 where
 
 -- ---- what lasts
 
-module _ (before w next : World) (asked : (a : Asked) → Contains w.asked a → Contains next.asked a) (fronts : Fronts w.log next.log) where
+module _ (before w next : World) (asked : (a : Asked) → Contains w.asked a → Contains next.asked a) (log_prefix : IsPrefixOf w.log next.log) where
   refusal_lasts : (i : ℕ) (t : Session) (e : ℕ) (r : Reply) → IsRefused before w i t e r → IsRefused before next i t e r
   refusal_lasts i t e r k = record {
     asked = k.asked;
@@ -100,9 +100,9 @@ module _ (before w next : World) (asked : (a : Asked) → Contains w.asked a →
     command = k.command;
     is = k.is;
     version = k.version;
-    within = (let h = k.within in let f = fronts.short in omega arith);
+    within = (let h = k.within in let f = log_prefix.short in omega arith);
     why = k.why;
-    refused = ap (λ (v : Readings). value v k.command i) (view_stays w.log next.log fronts k.version k.within) ∙ k.refused;
+    refused = ap (λ (v : Readings). value v k.command i) (view_stays w.log next.log log_prefix k.version k.within) ∙ k.refused;
     says = k.says;
     since = k.since;
   }
@@ -187,7 +187,7 @@ module _ (ms : Monitors) (before w : World) (R : Reached ms w) (I : InvOf ms w) 
   w0 = readings_of (w.store d.by.rank)
 
   abbrev m : Store
-  m = apply (joined (spelled d.y.changes)) (w.store d.by.rank)
+  m = apply (joined (encoded d.y.changes)) (w.store d.by.rank)
 
   abbrev From : ℕ → Command → Origin → Type 0
   From = event.From ms w asked J (Back before w I.g) d
@@ -235,9 +235,9 @@ module _ (ms : Monitors) (before w : World) (R : Reached ms w) (I : InvOf ms w) 
         not_marked : (z : Store) → (readings_of z).marked ≡ false → ¬ (is_marked z ≡ true)
         not_marked z e t = no (sym e ∙ there_marked z t)
 
-  module _ (next : World) (h : Ghost) (F : Further J.g h) (asked_are : next.asked ≡ asked) (fronts : Fronts w.log next.log) where
+  module _ (next : World) (h : Ghost) (F : Further J.g h) (asked_are : next.asked ≡ asked) (log_prefix : IsPrefixOf w.log next.log) where
     short : length w.log ≤ length next.log
-    short = fronts.short
+    short = log_prefix.short
 
     refused_by : (i : ℕ) (t : Session) (c : Command) (r : Reply) → WasAsked ms.count asked i t c → WhyOf i c r → IsRefused before next i t (epoch_of w0) r
     refused_by i t c r W (inl long) = record {
@@ -250,7 +250,7 @@ module _ (ms : Monitors) (before w : World) (R : Reached ms w) (I : InvOf ms w) 
       version = length w.log;
       within = short;
       why = because.TooLong (text_length c) (most_text c);
-      refused = ap (λ (v : Readings). value v c i) (view_stays w.log next.log fronts (length w.log) (omega arith)) ∙ (let V = valued ms w R in long_refused w.log V.0 V.1 c i long.0);
+      refused = ap (λ (v : Readings). value v c i) (view_stays w.log next.log log_prefix (length w.log) (omega arith)) ∙ (let V = valued ms w R in long_refused w.log V.0 V.1 c i long.0);
       says = long.1;
       since = inr (covers_before (epoch_of w0) (length w.log) (all_map (λ (a : Acknowledged). a.what.version ≤ length w.log) (λ (a : Acknowledged). a.what.epoch ≡ epoch_of w0 → a.what.version ≤ length w.log) (λ a k e. k) w.acknowledged (in_log ms w R)));
     }
@@ -264,7 +264,7 @@ module _ (ms : Monitors) (before w : World) (R : Reached ms w) (I : InvOf ms w) 
       version = last_of (w.store rank);
       within = (let A = stored active in let a = A.within in let b = short in omega arith);
       why = e;
-      refused = (let A = stored active in let V = valued ms w R in ap (λ (v : Readings). value v c i) (view_stays w.log next.log fronts (last_of (w.store rank)) A.within) ∙ value_stored w.log V.0 V.1 (w.store rank) A c i ∙ q);
+      refused = (let A = stored active in let V = valued ms w R in ap (λ (v : Readings). value v c i) (view_stays w.log next.log log_prefix (last_of (w.store rank)) A.within) ∙ value_stored w.log V.0 V.1 (w.store rank) A c i ∙ q);
       says = is;
       since = inr (covers_before (epoch_of w0) (last_of (w.store rank)) (subst (CoversAll w (epoch_of w0)) (last_is (w.store rank)) (let C = leads ms w R rank s (ltb-true rank ms.count d.by.lt) (there active) active in C.writes)));
     }
@@ -288,7 +288,7 @@ module _ (ms : Monitors) (before w : World) (R : Reached ms w) (I : InvOf ms w) 
         })
 
     -- what a peon hands on
-    brought : (t : Session) (r : Reply) → Refuses r → Hands t r → IsRefused before next rank t (epoch_of w0) r
+    brought : (t : Session) (r : Reply) → IsRefusalReply r → Hands t r → IsRefused before next rank t (epoch_of w0) r
     brought t r u H =
         let z = H.known u in
         let follows : FollowsIn J.g rank (core_of (own_of w0) s) = subst (InPhase ms.count J.g rank (core_of (own_of w0) s)) (peon_is_peon s.phase H.peon) d.by.on in
@@ -298,7 +298,7 @@ module _ (ms : Monitors) (before w : World) (R : Reached ms w) (I : InvOf ms w) 
         let both = hands.once rank (epoch_of w0) H.waits.seq H.waits.session z.session k.0 z.command k.1 theirs in
         let mine : z.session ≡ t = sym both.0 ∙ H.session in
         subst (λ (e : ℕ). IsRefused before next rank t e r) H.now_is (subst (λ (v : Session). IsRefused before next rank v H.epoch r) mine
-        (refusal_lasts before w next (λ a c. subst (λ (xs : List Asked). Contains xs a) (sym asked_are) (still_asked a c)) fronts rank z.session H.epoch r z.refused))
+        (refusal_lasts before w next (λ a c. subst (λ (xs : List Asked). Contains xs a) (sym asked_are) (still_asked a c)) log_prefix rank z.session H.epoch r z.refused))
 
     abbrev Founded : Sent → Type 0
     Founded = saying.Founded me d.by.at w0 s d.by.came From Routed Voted
@@ -341,7 +341,7 @@ Holds ms before w = (I : InvOf ms w) × Refusals before w I.g
 
 -- refusals hold in `next`, if the log of w goes on there
 abbrev GoesOn : Monitors → (before w next : World) → Type 0
-GoesOn ms before w next = Fronts w.log next.log → Holds ms before next
+GoesOn ms before w next = IsPrefixOf w.log next.log → Holds ms before next
 
 keeps : (ms : Monitors) (before w : World) (R : Reached ms w) (I : InvOf ms w) (O : Refusals before w I.g) (p : Plain) (J : InvWith ms w (with_asked p w.asked)) → Further I.g J.g → Keeps ms w (Back before w I.g) p J (GoesOn ms before w)
 unfolding unmoved moved kept_only lost
@@ -384,7 +384,7 @@ module _ (ms : Monitors) where
   both w (e ∷ es) later F R h = by (happens ms w e) refl (follows ms first_world w e R F.0 h) (λ next S. both next es later F.1 S)
     where
       by : (r : Result World Stop) → happens ms w e ≡ r → IfOk r (GoesOn ms first_world w) → ((next : World) → Reached ms next → Holds ms first_world next → AllRefused (run_from ms next es) (run_from ms next (es ++ later))) → AllRefused (goes_on w (λ next. ran_from ms next es) r).world (goes_on w (λ next. ran_from ms next (es ++ later)) r).world
-      by (Ok next) q k ih = ih next (reached_next ms w next e F.0 q R) (k (fronts_next ms w next e F.0 q R))
+      by (Ok next) q k ih = ih next (reached_next ms w next e F.0 q R) (k (log_prefix_next ms w next e F.0 q R))
       by (Err stop) q k ih = let O = (refusals_now first_world w h.0.g h.1) in O.refused
 
   pub all_refused : (earlier later : List Event) → AllFit ms.count (earlier ++ later) → AllRefused (run ms earlier) (run ms (earlier ++ later))

@@ -8,7 +8,7 @@ use Rattle.mon_wire.specs.declared.reply.Reply.{Reply}
 use Rattle.mon_wire.specs.declared.request.Service.{Service}
 use Rattle.quorum_agreement.proofs.Acknowledging.{NoShow}
 use Rattle.quorum_answers.specs.Reads.{Shows}
-use Rattle.quorum_answers.specs.Refused.{Refuses}
+use Rattle.quorum_answers.specs.Refused.{IsRefusalReply}
 use Rattle.quorum_model.specs.Acknowledging.{done_in}
 use Rattle.std.proofs.Common.{None, leb, map, refl, suc, ℕ, ◌-◌, ◌≡◌}
 use Rattle.std.proofs.lemmas.Bool.{cond_both}
@@ -24,7 +24,7 @@ shows_not reply.Unavailable k t = t
 shows_not (reply.NotReadable has lease) k t = t
 shows_not (reply.Busy waiting) k t = t
 
-pub shows_no_refusal : (y : Reply) → Shows y → Refuses y → ⊥
+pub shows_no_refusal : (y : Reply) → Shows y → IsRefusalReply y → ⊥
 shows_no_refusal (reply.Shown s paxos version map) k t = t
 shows_no_refusal (reply.Since s from told more) k t = t
 shows_no_refusal (reply.Done v) k t = t

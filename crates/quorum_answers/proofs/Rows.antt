@@ -69,7 +69,7 @@ use Rattle.quorum_answers.proofs.Replies.{shows_no_refusal, since_shows}
 use Rattle.quorum_answers.proofs.Saying as saying
 use Rattle.quorum_answers.proofs.Saying.{learns}
 use Rattle.quorum_answers.specs.Reads.{Shows}
-use Rattle.quorum_answers.specs.Refused.{Refuses}
+use Rattle.quorum_answers.specs.Refused.{IsRefusalReply}
 use Rattle.quorum_model.specs.Happens.{is_active}
 use Rattle.quorum_walk.proofs.Lists.{Among}
 use Rattle.quorum_walk.proofs.Walk.{Then, and_then, and_three, by_test, done, where_fits}
@@ -137,7 +137,7 @@ module _ (me : Me) (now : ℕ) (w : Readings) (s : State) (came : Input) (From :
   long_is o c F t = record { command = c; from = F; epoch = refl; why = inl (t, refl) }
 
   -- an answer that refuses is so known why
-  answer_known : (o : Origin) (r : Reply) → (Refuses r → Decides o (epoch_of w) r) → AllByRecursion IsAnswer (answer_to me (epoch_of w) o r ∷ [])
+  answer_known : (o : Origin) (r : Reply) → (IsRefusalReply r → Decides o (epoch_of w) r) → AllByRecursion IsAnswer (answer_to me (epoch_of w) o r ∷ [])
   answer_known (origin.Session t) r k = ((λ u. inl (k u)), tt)
   answer_known (origin.Forwarded f seq) r k = (k, tt)
 
@@ -162,7 +162,7 @@ module _ (me : Me) (now : ℕ) (w : Readings) (s : State) (came : Input) (From :
         by_test (may_propose me now (at_rest w z) && not (has_queue (at_rest w z))) (λ t. proposes (and_three (same_phase z.phase phase.Active) (is_standing me now z) (not (has_queue (at_rest w z))) t).0) (λ _.
         by_test (leb MOST_WAITING (length z.clients.queue)) (λ _. answers _ (answer_known o (reply.Busy MOST_WAITING) (λ u. absurd u)) refl Z) (λ _. quiet _ tt Z)))
 
-  replies : (t : Session) (r : Reply) → (Refuses r → Decides (origin.Session t) (epoch_of w) r) → Then Outcome (Ok (reply_to t r x0))
+  replies : (t : Session) (r : Reply) → (IsRefusalReply r → Decides (origin.Session t) (epoch_of w) r) → Then Outcome (Ok (reply_to t r x0))
   replies t r k = answers _ ((λ u. inl (k u)), tt) refl L
 
   at_peons : (c : Command) (t : Session) → From (epoch_of w) c (origin.Session t) → Then Outcome (at_peon me c t x0)

@@ -31,7 +31,7 @@ use Rattle.mon_wire.specs.declared.phase.Phase.TheVariants as phase
 use Rattle.mon_wire.specs.declared.phase.Phase.{Phase}
 use Rattle.mon_wire.specs.declared.reply.Reply.{Reply}
 use Rattle.mon_wire.specs.declared.request.Session.{Session}
-use Rattle.quorum_answers.specs.Refused.{Refuses}
+use Rattle.quorum_answers.specs.Refused.{IsRefusalReply}
 use Rattle.quorum_history.proofs.Holds.{epoch_in}
 use Rattle.quorum_history.proofs.Phases.{no, peon_is_peon}
 use Rattle.quorum_model.specs.Happens.{is_active}
@@ -92,7 +92,7 @@ learns v (value ∷ values) x = where_fits (Learned v (value ∷ values) x) whic
 -- no session is refused a command
 abbrev pub NoRefusal : Sent → Type 0
 NoRefusal (sent.Message to m) = Unit {0}
-NoRefusal (sent.Reply t r) = Refuses r → ⊥
+NoRefusal (sent.Reply t r) = IsRefusalReply r → ⊥
 
 -- ---- an event, from what the store's readers returned and what was remembered before it
 
@@ -124,13 +124,13 @@ module _ (me : Me) (now : ℕ) (w : Readings) (s : State) (came : Input) (From :
   -- ---- what is sent
 
   abbrev pub FoundedBody : (to f : ℕ) → Body → Type 0
-  FoundedBody to f (body.Route seq r) = Refuses r → Decides (origin.Forwarded to seq) f r
+  FoundedBody to f (body.Route seq r) = IsRefusalReply r → Decides (origin.Forwarded to seq) f r
   FoundedBody to f other = Unit {0}
 
   -- if a reply refuses a command, it is so decided, or passed on by a peon
   abbrev pub Founded : Sent → Type 0
   Founded (sent.Message to m) = FoundedBody to m.epoch m.body
-  Founded (sent.Reply t r) = Refuses r → Decides (origin.Session t) (epoch_of w) r ⊎ Hands t r
+  Founded (sent.Reply t r) = IsRefusalReply r → Decides (origin.Session t) (epoch_of w) r ⊎ Hands t r
 
   -- A LEASE has the last version of an active leader, and a COMMIT has no version above it.
   abbrev pub SaysBody : Phase → (e v to f : ℕ) → Body → Type 0
@@ -150,7 +150,7 @@ module _ (me : Me) (now : ℕ) (w : Readings) (s : State) (came : Input) (From :
 
   abbrev pub Short : (e v : ℕ) → Sent → Type 0
   Short e v (sent.Message to m) = ShortBody e v to m.epoch m.body
-  Short e v (sent.Reply t r) = Refuses r → ⊥
+  Short e v (sent.Reply t r) = IsRefusalReply r → ⊥
 
   -- neither a LEASE nor a COMMIT, and no refusal to a session
   abbrev pub IsPlainBody : (to f : ℕ) → Body → Type 0
@@ -160,7 +160,7 @@ module _ (me : Me) (now : ℕ) (w : Readings) (s : State) (came : Input) (From :
 
   abbrev pub IsPlain : Sent → Type 0
   IsPlain (sent.Message to m) = IsPlainBody to m.epoch m.body
-  IsPlain (sent.Reply t r) = Refuses r → ⊥
+  IsPlain (sent.Reply t r) = IsRefusalReply r → ⊥
 
   -- neither a LEASE nor a COMMIT, and refusals only as `Founded` has them
   abbrev pub IsAnswer : Sent → Type 0

@@ -1,6 +1,6 @@
 -- What is shown and acknowledged in one epoch is in the order of its events, after every event of a run.
 use Rattle.mon_msg.specs.Joined.{joined}
-use Rattle.mon_msg.specs.Protocol.Changes.{spelled}
+use Rattle.mon_msg.specs.Protocol.Changes.{encoded}
 use Rattle.mon_msg.specs.Protocol.Phases.{votes}
 use Rattle.mon_msg.specs.Protocol.Reaction.{reaction_of}
 use Rattle.mon_msg.specs.Protocol.Readings.{Readings, epoch_of, readings_of}
@@ -169,7 +169,7 @@ module _ (ms : Monitors) where
       s = d.by.state
 
       abbrev m : Store
-      m = apply (joined (spelled d.y.changes)) (w.store d.by.rank)
+      m = apply (joined (encoded d.y.changes)) (w.store d.by.rank)
 
       abbrev w0 : Readings
       w0 = readings_of (w.store d.by.rank)
@@ -284,7 +284,7 @@ module _ (ms : Monitors) where
           let next = moved w p d.by.rank (reaction_of d.y) in
           let A = K.goes_on d in
           let F = further_trans I.g J.g A.0.g up A.1 in
-          let acc = accepted_keeps w.transactions d.by.rank (joined (spelled d.y.changes)) in
+          let acc = accepted_keeps w.transactions d.by.rank (joined (encoded d.y.changes)) in
           let store = put_same w.store d.by.rank m in
           let state = put_same w.state d.by.rank (Some d.y.state) in
           let others = λ (i : ℕ) (z : State) (ne : i ≡ d.by.rank → ⊥) (e : put_at w.state d.by.rank (Some d.y.state) i ≡ Some z). apart d.by.rank i m d.y.state z ne e in
@@ -313,7 +313,7 @@ module _ (ms : Monitors) where
           let A = K.goes_down d in (
             A.0,
             same_replies ms.count w next (omega arith) A.2 (nobody d.by.rank) refl refl refl O,
-            (λ several. silent ms.count w next I.g A.0.g (further_trans I.g J.g A.0.g up A.1) A.2 (accepted_keeps w.transactions d.by.rank (joined (spelled d.y.changes))) refl refl refl (λ i s e. down d.by.rank i m s e) (M several)),
+            (λ several. silent ms.count w next I.g A.0.g (further_trans I.g J.g A.0.g up A.1) A.2 (accepted_keeps w.transactions d.by.rank (joined (encoded d.y.changes))) refl refl refl (λ i s e. down d.by.rank i m s e) (M several)),
             ordered_same w next refl refl R,
           )
 

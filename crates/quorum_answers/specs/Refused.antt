@@ -14,16 +14,16 @@ use Rattle.quorum_model.specs.World.{World, Asked}
 
 -- A reply by which a service refuses a command. Each kind of reply is named, so that whoever adds one decides what is
 -- promised of it.
-abbrev pub Refuses : Reply → Type 0
-Refuses reply.NoSuch = Unit {0}
-Refuses (reply.TooLong len most) = Unit {0}
-Refuses (reply.MapFull would_be) = Unit {0}
-Refuses (reply.Done v) = ⊥
-Refuses (reply.Shown s paxos version map) = ⊥
-Refuses (reply.Since s from told more) = ⊥
-Refuses reply.Unavailable = ⊥
-Refuses (reply.NotReadable has lease) = ⊥
-Refuses (reply.Busy waiting) = ⊥
+abbrev pub IsRefusalReply : Reply → Type 0
+IsRefusalReply reply.NoSuch = Unit {0}
+IsRefusalReply (reply.TooLong len most) = Unit {0}
+IsRefusalReply (reply.MapFull would_be) = Unit {0}
+IsRefusalReply (reply.Done v) = ⊥
+IsRefusalReply (reply.Shown s paxos version map) = ⊥
+IsRefusalReply (reply.Since s from told more) = ⊥
+IsRefusalReply reply.Unavailable = ⊥
+IsRefusalReply (reply.NotReadable has lease) = ⊥
+IsRefusalReply (reply.Busy waiting) = ⊥
 
 -- no version above this one was acknowledged in the epoch, in this world
 abbrev pub CoversAll : World → (epoch version : ℕ) → Type 0
@@ -49,4 +49,4 @@ pub record IsRefused (before w : World) (i : ℕ) (t : Session) (e : ℕ) (r : R
 -- Each reply in w that refuses a command is such a refusal. World `before` is an earlier one of the same run.
 abbrev pub AllRefused : (before w : World) → Type 0
 AllRefused before w =
-    AllByRecursion (λ r. Refuses r.reply → IsRefused before w r.rank r.session r.epoch r.reply) w.replied
+    AllByRecursion (λ r. IsRefusalReply r.reply → IsRefused before w r.rank r.session r.epoch r.reply) w.replied

@@ -1,7 +1,7 @@
 -- The acts of a monitor hand no command on, refuse none, and leave its clients as they were or forget them.
 use Rattle.election_rules.specs.Ranking.{allows}
 use Rattle.mon_bytes.specs.declared.entry.Entry.{Entry}
-use Rattle.mon_msg.specs.Protocol.Answers.{answer_of, last_answer, tells_all, told_of, told_values}
+use Rattle.mon_msg.specs.Protocol.Answers.{answer_of, last_answer, is_complete, told_of, sent_values}
 use Rattle.mon_msg.specs.Protocol.Collecting.{begin_found, collect, collect_with, commits_to, commits_with, missed, reign, settle}
 use Rattle.mon_msg.specs.Protocol.Course.{Course}
 use Rattle.mon_msg.specs.Protocol.Entering.{bootstrap, elect, in_next_epoch, in_odd_epoch, is_even, next_even, own_table, win}
@@ -79,8 +79,8 @@ others_calm sends k = all_map IsOther IsCalm by sends k
 pub answer_none : (n : ℕ) (r : Readings) (from : ℕ) → HandsNone (last_answer n r from)
 unfolding answer_of
 answer_none n r from =
-    let told = told_values n (promise_of r) r.first r.last r.record_of from in
-    cond_both (tells_all n (promise_of r) r.first r.last from told (told_of (pending r))) (body.Last (promise_of r) r.first r.last true from told (told_of (pending r))) (body.Last (promise_of r) r.first r.last false from told None) HandsNone (λ t. tt) (λ t. tt)
+    let told = sent_values n (promise_of r) r.first r.last r.record_of from in
+    cond_both (is_complete n (promise_of r) r.first r.last from told (told_of (pending r))) (body.Last (promise_of r) r.first r.last true from told (told_of (pending r))) (body.Last (promise_of r) r.first r.last false from told None) HandsNone (λ t. tt) (λ t. tt)
 
 pub chunk_none : (last : ℕ) (c : Cookie) (p : ChunkPlace) (left : List Entry) (n : ℕ) (records : ℕ → Cell) → HandsNone (chunk last c p left n records)
 unfolding chunk

@@ -2,7 +2,7 @@
 use Rattle.mon_msg.specs.Fold.{entry}
 use Rattle.quorum_agreement.proofs.Beginning.{at_first}
 use Rattle.quorum_agreement.proofs.Grown.{GrowsByOne}
-use Rattle.quorum_agreement.proofs.Invariant.{EnvelopeTells, LogHolds}
+use Rattle.quorum_agreement.proofs.Invariant.{EnvelopeMatches, LogHolds}
 use Rattle.quorum_agreement.proofs.LoneWorlds.{IsWhole, LoneHolds, lone_asking, lone_at_first, lone_follows}
 use Rattle.quorum_agreement.proofs.Result.{OneLog, entries_chosen, lone_log, several_log}
 use Rattle.quorum_agreement.proofs.Worlds.{all_follow, asking}
@@ -40,7 +40,7 @@ module _ (ms : Monitors) where
     one = several_log ms;
     whole = λ w b one i lt. (let m = more i lt in absurd (omega arith));
     somebody = λ w b m v lt. accepted w (suc v) (entry w.log (suc v)) (entries_chosen ms w b.0 b.1 v lt);
-    step = λ w e fits b. laws.each_event ms w (EnvelopeTells w.log) b.0 (λ next. LogHolds ms next × GrowsByOne w.log next.log) b.1.sent e fits (λ J up. all_follow ms more w (plain_of e) J (asking ms w (plain_of e) b.0 b.1 J));
+    step = λ w e fits b. laws.each_event ms w (EnvelopeMatches w.log) b.0 (λ next. LogHolds ms next × GrowsByOne w.log next.log) b.1.sent e fits (λ J up. all_follow ms more w (plain_of e) J (asking ms w (plain_of e) b.0 b.1 J));
     first = at_first ms;
   }
 
@@ -51,7 +51,7 @@ module _ (ms : Monitors) where
     one = lone_log ms;
     whole = λ w b one. b.1.stores;
     somebody = λ w b m v lt. absurd (omega arith);
-    step = λ w e fits b. laws.each_event ms w (EnvelopeTells w.log) b.0 (λ next. LoneHolds ms next × GrowsByOne w.log next.log) b.1.sent e fits (λ J up. lone_follows ms is w (plain_of e) J (lone_asking ms w (plain_of e) b.1));
+    step = λ w e fits b. laws.each_event ms w (EnvelopeMatches w.log) b.0 (λ next. LoneHolds ms next × GrowsByOne w.log next.log) b.1.sent e fits (λ J up. lone_follows ms is w (plain_of e) J (lone_asking ms w (plain_of e) b.1));
     first = lone_at_first ms;
   }
 

@@ -1,10 +1,10 @@
 -- The input that an event brings to a monitor, and what the monitor does with it.
 use Rattle.log_copies.proofs.Standing.{Agrees}
-use Rattle.log_copies.proofs.Telling.{monitor_keeps, read_last}
+use Rattle.log_copies.proofs.Matching.{monitor_keeps, read_last}
 use Rattle.log_model.specs.Windows.{Keeps}
 use Rattle.mon_msg.proofs.Changed.{readings-joined}
 use Rattle.mon_msg.specs.Joined.{joined}
-use Rattle.mon_msg.specs.Protocol.Changes.{spelled}
+use Rattle.mon_msg.specs.Protocol.Changes.{encoded}
 use Rattle.mon_msg.specs.Protocol.Course.{Course}
 use Rattle.mon_msg.specs.Protocol.Phases.{is_leading}
 use Rattle.mon_msg.specs.Protocol.Reaction.{any_reaction, reaction_of}
@@ -31,7 +31,7 @@ use Rattle.quorum_model.specs.Events.{PlainFits, RequestFits}
 use Rattle.quorum_model.specs.Happens.{after_meeting, happens, kept_only, lost, moved, unmoved}
 use Rattle.quorum_model.specs.Meets.{Down, Meeting, NoMessage, Reacts, meeting, meeting_at, meets, state_at}
 use Rattle.quorum_model.specs.Monitors.{Monitors, me_if}
-use Rattle.quorum_model.specs.World.{Client, Comes, Crash, Deliver, Envelope, Event, Plain, Ring, Start, World, plain_of}
+use Rattle.quorum_model.specs.World.{Client, Arrives, Crash, Deliver, Envelope, Event, Plain, Ring, Start, World, plain_of}
 use Rattle.quorum_walk.proofs.FineCourses.{begun, still, Ended, EntryFine, Fine, RequestFine, fit_fits}
 use Rattle.quorum_walk.proofs.FineTable.{ComesFine, react_fine}
 use Rattle.quorum_walk.proofs.Lists.{all_get}
@@ -64,7 +64,7 @@ module _ (ms : Monitors) (w : World) (p : Plain) where
 
   -- it comes, or with it a crash that keeps or loses what is written
   abbrev event_of : Option Bool → Event
-  event_of None = Comes p
+  event_of None = Arrives p
   event_of (Some kept) = Crash p kept
 
   -- P holds of each world that an event can lead to
@@ -114,7 +114,7 @@ module _ (ms : Monitors) (w : World) (p : Plain) where
 
 pub each_event : (ms : Monitors) (w : World) (P : World → Type 0) (e : Event) → PlainFits ms.count (plain_of e) → P (unmoved w (plain_of e)) → ((i : ℕ) → P (lost w (plain_of e) i)) → ((d : Does ms w (plain_of e)) → P (moved w (plain_of e) d.rank (reaction_of d.y)))
     → ((d : Does ms w (plain_of e)) → P (kept_only w (plain_of e) d.rank (reaction_of d.y))) → IfOk (happens ms w e) P
-each_event ms w P (Comes p) F nothing loses goes_on goes_down = comes ms w p P nothing loses goes_on goes_down None p refl F
+each_event ms w P (Arrives p) F nothing loses goes_on goes_down = comes ms w p P nothing loses goes_on goes_down None p refl F
 each_event ms w P (Crash p kept) F nothing loses goes_on goes_down = comes ms w p P nothing loses goes_on goes_down (Some kept) p refl F
 
 -- ---- what a monitor does, by what holds of it
@@ -134,7 +134,7 @@ module _ (ms : Monitors) (w : World) (I : InvOf ms w) (p : Plain) (d : Does ms w
   m = w.store d.rank
 
   abbrev pub next : Store
-  next = apply (joined (spelled d.y.changes)) m
+  next = apply (joined (encoded d.y.changes)) m
 
   pub phase_holds : InPhase ms.count I.g d.rank (core_of (own_of (readings_of m)) d.state) d.state.phase
   phase_holds = by d.remembers

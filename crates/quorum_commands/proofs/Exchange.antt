@@ -74,7 +74,7 @@ module _ (n : ℕ) (x y : Asked) (A : Alike x y) where
         ops = I.ops;
         made = subst (λ (r : ℕ). value (view_at log v) I.command r ≡ Ok I.ops) rank I.made;
         has_text = I.has_text;
-        spells = I.spells;
+        encodes = I.encodes;
       }
 
 -- ---- places are exchanged
@@ -152,7 +152,7 @@ module _ (n : ℕ) (asked : List Asked) (a b : ℕ) (x y : Asked) (ax : slice_ge
     forwarded m o f to e other h = tt
 
     made_there : (log : List (List ℕ)) (k v : ℕ) (bytes : List ℕ) → MadeAt n asked log k v bytes → MadeAt n asked log (exchange a b k) v bytes
-    made_there log k v bytes h = let M = h.of in let o = partner k M.by M.at in record { x = h.x; spells = h.spells; of = record { by = o.by; at = o.at; made = made_alike n M.by o.by o.alike log v h.x M.made } }
+    made_there log k v bytes h = let M = h.of in let o = partner k M.by M.at in record { x = h.x; encodes = h.encodes; of = record { by = o.by; at = o.at; made = made_alike n M.by o.by o.alike log v h.x M.made } }
 
     pub tickets_exchanged : (store : ℕ → Store) (state : ℕ → Option State) (txs : ℕ → List (List Op)) (messages : List Envelope) (log : List (List ℕ)) → Tickets n places store state txs messages asked log → Tickets n after store state txs messages asked log
     tickets_exchanged store state txs messages log T = record {

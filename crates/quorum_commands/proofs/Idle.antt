@@ -11,7 +11,7 @@ use Rattle.mon_msg.specs.Protocol.Elections.{election_ends, hear_ack, hear_propo
 use Rattle.mon_msg.specs.Protocol.Entering.{adopt, bootstrap, elect, is_even, own_table, scores_count, win}
 use Rattle.mon_msg.specs.Protocol.Found.{counts}
 use Rattle.mon_msg.specs.Protocol.Hearing.{hear}
-use Rattle.mon_msg.specs.Protocol.Leader.{all_accepted, all_answered, commit_any, hear_accept, hear_last, hear_lease_ack, hear_whole, is_one_of, note, note_told, of_member, renew}
+use Rattle.mon_msg.specs.Protocol.Leader.{all_accepted, all_answered, commit_any, hear_accept, hear_last, hear_lease_ack, hear_whole, is_one_of, note, note_pending, of_member, renew}
 use Rattle.mon_msg.specs.Protocol.Leading.{be_active, commit, extend}
 use Rattle.mon_msg.specs.Protocol.Learning.{learn, news, news_from}
 use Rattle.mon_msg.specs.Protocol.Peon.{cancel, hear_begin, hear_collect, hear_commit, hear_lease, of_leader, promise}
@@ -327,7 +327,7 @@ module _ (me : Me) (now : ℕ) (w : Readings) (s : State) (Settled : Session →
         collects_on : is_leading s.phase ≡ true → (q : List Bool) (above : ℕ) (x : Course) → x.state.clients ≡ s.clients → AllOther x.out → Then Idle (collect me now q above x)
         collects_on t q above x same O = then_map _ Idle (collect me now q above x) (λ y G. leading t x y (Unpending x) same G) (collects me now q above x O)
 
-        notes : (o : Option Told) (y : Course) → Then (Noted y) (note_told f last o y)
+        notes : (o : Option Told) (y : Course) → Then (Noted y) (note_pending f last o y)
         notes None y = done (refl, refl)
         notes (Some t) y = where_fits (Noted y) which.Version (suc last) _ (λ _. done (refl, refl))
 

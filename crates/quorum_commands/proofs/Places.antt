@@ -1,5 +1,5 @@
 -- Where the command of each request is, and which of that lasts.
-use Rattle.log_model.proofs.Logs.{Fronts}
+use Rattle.log_model.proofs.Logs.{IsPrefixOf}
 use Rattle.mon_bytes.specs.declared.command.Command.{Command}
 use Rattle.mon_msg.specs.Fold.{entry}
 use Rattle.mon_msg.specs.Protocol.Phases.{is_leading}
@@ -52,7 +52,7 @@ pub record MadeOf (n : ℕ) (asked : List Asked) (log : List (List ℕ)) (k v : 
 
 pub record MadeAt (n : ℕ) (asked : List Asked) (log : List (List ℕ)) (k v : ℕ) (bytes : List ℕ) : Type 0 where
   pub x : List Op
-  pub spells : bytes ≡ text x
+  pub encodes : bytes ≡ text x
   pub of : MadeOf n asked log k v x
 
 -- version v + 1 of the log is of request k
@@ -175,8 +175,8 @@ module _ (n : ℕ) (asked more : List Asked) (still : StillAt asked more) where
   pub asked_still : (k rank : ℕ) (c : Command) → AskedAt n asked k rank c → AskedAt n more k rank c
   asked_still k rank c a = record { by = a.by; at = still k a.by a.at; session = a.session; was = a.was }
 
-  pub made_still : (log newer : List (List ℕ)) → Fronts log newer → (k v : ℕ) (bytes : List ℕ) → MadeAt n asked log k v bytes → MadeAt n more newer k v bytes
-  made_still log newer F k v bytes a = let M = a.of in record { x = a.x; spells = a.spells; of = record { by = M.by; at = still k M.by M.at; made = made_stays F n (M.by ∷ []) v a.x M.made } }
+  pub made_still : (log newer : List (List ℕ)) → IsPrefixOf log newer → (k v : ℕ) (bytes : List ℕ) → MadeAt n asked log k v bytes → MadeAt n more newer k v bytes
+  made_still log newer F k v bytes a = let M = a.of in record { x = a.x; encodes = a.encodes; of = record { by = M.by; at = still k M.by M.at; made = made_stays F n (M.by ∷ []) v a.x M.made } }
 
   module _ (from : Place) (places after : Places) (M : Moves from places after) where
     pub own_lasts : (p : Place) (rank : ℕ) (c : Command) → (p ≡ from → ⊥) → HasOwn n asked places p rank c → HasOwn n more after p rank c

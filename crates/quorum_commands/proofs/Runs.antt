@@ -1,7 +1,7 @@
 -- Every run keeps what is known of requests, so that each version of the log is of its own.
 use Rattle.mon_msg.specs.Fold.{entry}
 use Rattle.mon_msg.specs.Joined.{joined}
-use Rattle.mon_msg.specs.Protocol.Changes.{spelled}
+use Rattle.mon_msg.specs.Protocol.Changes.{encoded}
 use Rattle.mon_msg.specs.Protocol.Reaction.{reaction_of}
 use Rattle.mon_msg.specs.Protocol.Readings.{epoch_of, readings_of}
 use Rattle.mon_msg.specs.Protocol.State.{State}
@@ -149,7 +149,7 @@ module _ (ms : Monitors) (D : Basis ms) where
           let up : Up None = λ s q. absurd cc in
           let L = D.one next k.0.0 in
           let W : n ≡ 1 → IsWhole next.log m = λ single. subst (IsWhole next.log) same (D.whole next k.0.0 single i (ltb-true d.rank ms.count d.lt)) in (
-            fewer n E.after (put_at w.store i m) (put_at w.state i None) (put_at w.state i None) (put_at w.transactions i (w.transactions i ++ joined (spelled d.y.changes) ∷ [])) (w.messages ++ messages_of d.y.out) w.messages asked next.log (λ j s q. q)
+            fewer n E.after (put_at w.store i m) (put_at w.state i None) (put_at w.state i None) (put_at w.transactions i (w.transactions i ++ joined (encoded d.y.changes) ∷ [])) (w.messages ++ messages_of d.y.out) w.messages asked next.log (λ j s q. q)
                 (λ P h. front P w.messages (messages_of d.y.out) h) (goes_on ms w p I (D.one w B) (D.whole w B) places T d Settled S None rises up next.log k.0.1 L.short L.values W (D.somebody next k.0.0)),
             goes_last ms w p I (D.one w B) (D.whole w B) places T d Settled S None rises up next.log k.0.1 L.short L.values W (D.somebody next k.0.0),
           )

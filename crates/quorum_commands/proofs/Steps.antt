@@ -408,7 +408,7 @@ module _ (ms : Monitors) (w : World) (p : Plain) (I : InvOf ms w) (L : OneLog ms
       there = is_moved S.k to places
 
       begun_in : (k v : ℕ) (bytes : List ℕ) → goes_to to k ≡ Begun v bytes → (places k ≡ Begun v bytes) ⊎ MadeAt n asked w.log k v bytes
-      begun_in k v bytes e = elim (was_there S.k to places k (Begun v bytes) e) [ inl o ↦ inl o | inr q ↦ inr (subst (λ (j : ℕ). MadeAt n asked w.log j v bytes) (sym q.0) (subst MadeThere q.1 (record { x = ops; spells = refl; of = own }))) ]
+      begun_in k v bytes e = elim (was_there S.k to places k (Begun v bytes) e) [ inl o ↦ inl o | inr q ↦ inr (subst (λ (j : ℕ). MadeAt n asked w.log j v bytes) (sym q.0) (subst MadeThere q.1 (record { x = ops; encodes = refl; of = own }))) ]
 
       votes_in : Proposes self d.at w0 d.state Source Asks Settled ops d.y ⊎ Commits self d.at w0 d.state Source Asks Settled ops d.y → (v q : ℕ) (x : List Op) → Among (Vote v q x) d.y.changes → (k : ℕ) × (goes_to to k ≡ Begun v (text x))
       votes_in (inl c) v q x a = elim (subst (λ (cs : List Change). Among (Vote v q x) cs) c.1 a) [ inl e ↦ (S.k, there ∙ sym (ap vote_place e)) | inr b ↦ absurd b ]

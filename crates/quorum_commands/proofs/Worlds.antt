@@ -1,9 +1,9 @@
 -- What an event leaves of all requests, and of the log.
 use Rattle.log_copies.proofs.Growing as growing
-use Rattle.log_copies.proofs.Telling.{monitor_keeps, read_last, record_there}
+use Rattle.log_copies.proofs.Matching.{monitor_keeps, read_last, record_there}
 use Rattle.log_model.proofs.Committed.{texts, value_told}
 use Rattle.log_model.proofs.Lists.{length_push}
-use Rattle.log_model.proofs.Logs.{Fronts, entry_push, entry_stays, fold_stays, fronts_itself}
+use Rattle.log_model.proofs.Logs.{IsPrefixOf, entry_push, entry_stays, fold_stays, log_prefix_itself}
 use Rattle.log_model.proofs.RowReadings.{read_some}
 use Rattle.log_model.proofs.RuleCells.{log_high}
 use Rattle.log_model.specs.LogOfValues.{AllValues, IsValue, view_at}
@@ -12,7 +12,7 @@ use Rattle.log_copies.specs.Versions.{HasVersions}
 use Rattle.mon_bytes.specs.declared.command.Command.{Command}
 use Rattle.mon_msg.specs.Fold.{entry}
 use Rattle.mon_msg.specs.Joined.{joined}
-use Rattle.mon_msg.specs.Protocol.Changes.{Change, Last, Learn, spelled}
+use Rattle.mon_msg.specs.Protocol.Changes.{Change, Last, Learn, encoded}
 use Rattle.mon_msg.specs.Protocol.Phases.{is_leading}
 use Rattle.mon_msg.specs.Protocol.Readings.{Readings, epoch_of, readings_of}
 use Rattle.mon_msg.specs.Protocol.State.{State}
@@ -29,7 +29,7 @@ use Rattle.mon_tx.specs.declared.op.Op.{Op}
 use Rattle.mon_wire.specs.declared.body.Body.TheVariants as body
 use Rattle.mon_wire.specs.declared.body.Body.{Body}
 use Rattle.mon_wire.specs.declared.request.Session.{Session}
-use Rattle.quorum_agreement.proofs.SafeWorlds.{grown_fronts}
+use Rattle.quorum_agreement.proofs.SafeWorlds.{grown_log_prefix}
 use Rattle.quorum_agreement.proofs.Grown.{GrowsByOne, first_is}
 use Rattle.quorum_agreement.proofs.Kept.{accepted_added}
 use Rattle.quorum_agreement.proofs.LoneWorlds.{IsWhole}
@@ -55,8 +55,8 @@ use Rattle.std.specs.List.{AllByRecursion}
 -- ---- the log
 
 module _ (n : ℕ) (asked more : List Asked) (still : StillAt asked more) (log newer : List (List ℕ)) (short : length log ≤ 2 ^ 62) (values : AllValues log) (grows : GrowsByOne log newer) (places after : Places) (from : Place) (i : ℕ) (at : IsAt i from) (M : Moves from places after) where
-  F : Fronts log newer
-  F = grown_fronts log newer grows
+  F : IsPrefixOf log newer
+  F = grown_log_prefix log newer grows
 
   begun_lasts : (k v : ℕ) (bytes : List ℕ) → places k ≡ Begun v bytes → after k ≡ Begun v bytes
   begun_lasts k v bytes e = M k (Begun v bytes) e (apart_at i from (Begun v bytes) at (λ z. z))
@@ -99,7 +99,7 @@ module _ (n : ℕ) (asked more : List Asked) (still : StillAt asked more) (log n
         made = ap (λ (r : ℕ). value (view_at newer (length log)) over.command r) over.of.at ∙ ap (λ (w : Readings). value w over.command over.rank) view
             ∙ value_told log short values over.over (subst (λ (c : ℕ). Keeps log c over.over) whole over.keeps) (over.last ∙ whole) over.command over.rank ∙ over.made;
         has_text = texts log room values over.over (subst (λ (c : ℕ). Keeps log c over.over) whole over.keeps) (over.last ∙ whole) a.x (is_value n few (a.of.by ∷ []) log room values a.x over);
-        spells = a.spells;
+        encodes = a.encodes;
       }
 
   -- all of them are, if the new one is
@@ -151,7 +151,7 @@ asked_more n places store state txs messages asked more log short values still l
   free = λ k le. T.free k (omega arith);
   waits = λ j. wait j (state j) (T.waits j);
   forwards = all_map (Forwards n asked places store state) (Forwards n more places store state) (λ e. forwarded e.message.from e.to e.message.epoch e.message.body) messages T.forwards;
-  begun = λ k v bytes e. made_still n asked more still log log (fronts_itself log) k v bytes (T.begun k v bytes e);
+  begun = λ k v bytes e. made_still n asked more still log log (log_prefix_itself log) k v bytes (T.begun k v bytes e);
   accepted = T.accepted;
   logged = λ v lt. (let a = T.logged v lt in record { k = a.k; place = a.place; by = a.by; at = still a.k a.by a.at; made = a.made });
 }
@@ -185,7 +185,7 @@ module _ (ms : Monitors) (w : World) (p : Plain) (I : InvOf ms w) (L : OneLog ms
   m = next ms w I p d
 
   abbrev tx : List Op
-  tx = joined (spelled d.y.changes)
+  tx = joined (encoded d.y.changes)
 
   abbrev stores : ℕ → Store
   stores = put_at w.store i m
@@ -259,7 +259,7 @@ module _ (ms : Monitors) (w : World) (p : Plain) (I : InvOf ms w) (L : OneLog ms
 
   -- over the log as it was
   made_over_old : (k v : ℕ) (bytes : List ℕ) → E.after k ≡ Begun v bytes → MadeAt n asked w.log k v bytes
-  made_over_old k v bytes e = elim (E.begun k v bytes e) [ inl o ↦ made_still n w.asked asked still w.log w.log (fronts_itself w.log) k v bytes (T.begun k v bytes o) | inr a ↦ a ]
+  made_over_old k v bytes e = elim (E.begun k v bytes e) [ inl o ↦ made_still n w.asked asked still w.log w.log (log_prefix_itself w.log) k v bytes (T.begun k v bytes o) | inr a ↦ a ]
 
   accepts : 1 < n → (j v q : ℕ) (bytes : List ℕ) → AcceptedIn (txs j) v q bytes → (k : ℕ) × (E.after k ≡ Begun v bytes)
   accepts several j v q bytes a =
@@ -312,7 +312,7 @@ module _ (ms : Monitors) (w : World) (p : Plain) (I : InvOf ms w) (L : OneLog ms
         has : HasVersions grown_log (suc (length w.log)) m
         has =
             let cs : d.y.changes ≡ Learn (suc (length w.log)) C.ops ∷ Last (suc (length w.log)) ∷ [] = C.changes ∙ ap (λ (c : ℕ). Learn (suc c) C.ops ∷ Last (suc c) ∷ []) last_before in
-            subst (λ (cs : List Change). HasVersions grown_log (suc (length w.log)) (apply (joined (spelled cs)) (w.store i))) (sym cs) (growing.committed w.log room L.values made.over over_keeps (made.last ∙ at_end) C.ops its_value (w.store i) before.versions)
+            subst (λ (cs : List Change). HasVersions grown_log (suc (length w.log)) (apply (joined (encoded cs)) (w.store i))) (sym cs) (growing.committed w.log room L.values made.over over_keeps (made.last ∙ at_end) C.ops its_value (w.store i) before.versions)
 
         -- what the store has as the new version
         there : (l : List (List ℕ)) → length l ≤ 2 ^ 62 → AllValues l → HasVersions l (suc (length w.log)) m → cell m area.Paxos (key.Version (suc (length w.log))) ≡ Some (entry l (suc (length w.log)))
@@ -322,8 +322,8 @@ module _ (ms : Monitors) (w : World) (p : Plain) (I : InvOf ms w) (L : OneLog ms
             let low = log_high (suc (length w.log)) (omega arith) in
             record_there l f a (suc (length w.log)) m V (suc (length w.log)) (omega (arith, first, low, read_some log_from (suc (length w.log)) (omega arith), first_is m)) (omega arith)
 
-        spells : entry newer (suc (length w.log)) ≡ text C.ops
-        spells =
+        encodes : entry newer (suc (length w.log)) ≡ text C.ops
+        encodes =
             let N = whole one in
             let a = there newer short values (subst (λ (c : ℕ). HasVersions newer c m) long N.versions) in
             let b = there grown_log (let l = length_push w.log (text C.ops) in omega (arith, room)) (growing.more_values w.log room L.values made.over over_keeps (made.last ∙ at_end) C.ops its_value) has in
@@ -336,7 +336,7 @@ module _ (ms : Monitors) (w : World) (p : Plain) (I : InvOf ms w) (L : OneLog ms
         where
           by : (d.y.readings.last ≡ (readings_of (w.store i)).last) ⊎ CommitsOwn ms w p I L W places T d Settled S0 E.after → (k : ℕ) × (E.after k ≡ Begun (suc (length w.log)) (entry newer (suc (length w.log))))
           by (inl same) = absurd (omega (arith, same, last_before, last_after))
-          by (inr C) = (C.k, C.place ∙ ap (λ (c : ℕ). Begun (suc c) (text C.ops)) last_before ∙ ap (Begun (suc (length w.log))) (sym (spells C)))
+          by (inr C) = (C.k, C.place ∙ ap (λ (c : ℕ). Begun (suc c) (text C.ops)) last_before ∙ ap (Begun (suc (length w.log))) (sym (encodes C)))
 
     new_request : (bytes : List ℕ) → newer ≡ w.log ++ bytes ∷ [] → (k : ℕ) × (E.after k ≡ Begun (suc (length w.log)) (entry newer (suc (length w.log))))
     new_request bytes is = by (cases_order 1 n)
@@ -357,7 +357,7 @@ module _ (ms : Monitors) (w : World) (p : Plain) (I : InvOf ms w) (L : OneLog ms
       free = E.free;
       waits = wait;
       forwards = all_append (Forwards n asked E.after stores states) w.messages (messages_of d.y.out) (all_map _ (Forwards n asked E.after stores states) old_forward w.messages (all_both (EnvelopeHolds n I.g) (Forwards n w.asked places w.store w.state) w.messages I.sent T.forwards)) (sent_forward d.y.out E.sends);
-      begun = λ k v bytes e. made_still n asked asked (λ j a q. q) w.log newer (grown_fronts w.log newer grows) k v bytes (made_over_old k v bytes e);
+      begun = λ k v bytes e. made_still n asked asked (λ j a q. q) w.log newer (grown_log_prefix w.log newer grows) k v bytes (made_over_old k v bytes e);
       accepted = accepts;
       logged = all_logged n w.asked asked still w.log newer L.short L.values grows places E.after E.from i E.at E.moves ms.most short T.logged new_request made_over_old;
     }

@@ -1,6 +1,6 @@
 -- Further events of some monitors, one after the other, which lead to a world of some kind.
 use Rattle.calm_sizes.specs.Sizes.{AllShort, longest}
-use Rattle.log_model.proofs.Logs.{Fronts, fronts_itself}
+use Rattle.log_model.proofs.Logs.{IsPrefixOf, log_prefix_itself}
 use Rattle.mon_bytes.specs.declared.command.Command.{Command}
 use Rattle.mon_types.specs.Ranks.{has}
 use Rattle.mon_wire.specs.declared.message.Message.{Message}
@@ -11,7 +11,7 @@ use Rattle.quorum_model.specs.Events.{AllFit}
 use Rattle.quorum_model.specs.Happens.{Stop, happens}
 use Rattle.quorum_model.specs.Monitors.{Monitors}
 use Rattle.quorum_model.specs.Runs.{Ran, goes_on, ran, ran_from, run_from}
-use Rattle.quorum_model.specs.World.{Comes, Deliver, Envelope, Event, World}
+use Rattle.quorum_model.specs.World.{Arrives, Deliver, Envelope, Event, World}
 use Rattle.quorum_near.proofs.Whole.{Holds, held}
 use Rattle.quorum_walk.proofs.Lists.{Among}
 use Rattle.std.proofs.Common.{Bool, Err, IsSomeAnd, List, None, Ok, Option, Result, Some, [], ap, arith, inl, inr, length, refl, subst, suc, sym, true, zero, ℕ, ◌*◌, ◌++◌, ◌+◌, ◌<◌, ◌∙◌, ◌∷◌, ◌≡◌, ◌≤◌}
@@ -50,7 +50,7 @@ new_added sent w next more e is le a =
     record { index = r.index; since = (let s = r.since in omega arith); there = subst (λ (l : List Envelope). slice_get l r.index ≡ Some e) (sym is) r.there }
 
 -- that one of q gets it is a step
-pub new_step : {sent : ℕ} {w : World} {i : ℕ} {m : Message} (q : List Bool) (asks : Option (Session × Command)) (N : New sent w (record { to = i; message = m })) → has q i ≡ true → IsStep q sent asks w (Comes (Deliver (suc N.index) 0))
+pub new_step : {sent : ℕ} {w : World} {i : ℕ} {m : Message} (q : List Bool) (asks : Option (Session × Command)) (N : New sent w (record { to = i; message = m })) → has q i ≡ true → IsStep q sent asks w (Arrives (Deliver (suc N.index) 0))
 new_step q asks N inside = ((let z = N.since in omega arith), subst (λ (o : Option Envelope). IsSomeAnd o (λ e. has q e.to ≡ true)) (sym N.there) inside)
 
 -- ---- runs of some events and then others
@@ -101,8 +101,8 @@ pub record Sane (S : Scope) (w : World) : Type 0 where
   pub reached : Reached S.ms w
   pub short : (i : ℕ) → has S.q i ≡ true → AllShort longest (w.store i)
 
-pub fronts_on : {a b c : List (List ℕ)} → Fronts a b → Fronts b c → Fronts a c
-fronts_on F G = record { short = (let p = F.short in let q = G.short in omega arith); same = λ i lt. (let p = F.short in G.same i (omega arith)) ∙ F.same i lt }
+pub log_prefix_on : {a b c : List (List ℕ)} → IsPrefixOf a b → IsPrefixOf b c → IsPrefixOf a c
+log_prefix_on F G = record { short = (let p = F.short in let q = G.short in omega arith); same = λ i lt. (let p = F.short in G.same i (omega arith)) ∙ F.same i lt }
 
 module _ (S : Scope) where
   -- ---- what stays
@@ -113,11 +113,11 @@ module _ (S : Scope) where
     pub more : List Envelope
     pub messages : next.messages ≡ w.messages ++ more
     pub sane : Sane S w → Sane S next
-    pub fronts : Fronts w.log next.log
+    pub log_prefix : IsPrefixOf w.log next.log
     pub elapsed : w.events ≤ next.events
 
   pub onward_not : (w : World) → Onward w w
-  onward_not w = record { rest = λ i out. (refl, refl); more = []; messages = nothing w.messages; sane = λ k. k; fronts = fronts_itself w.log; elapsed = omega arith }
+  onward_not w = record { rest = λ i out. (refl, refl); more = []; messages = nothing w.messages; sane = λ k. k; log_prefix = log_prefix_itself w.log; elapsed = omega arith }
     where
       nothing : (xs : List Envelope) → xs ≡ xs ++ []
       nothing [] = refl
@@ -129,7 +129,7 @@ module _ (S : Scope) where
     more = x.more ++ y.more;
     messages = y.messages ∙ ap (λ (l : List Envelope). l ++ y.more) x.messages ∙ assoc a.messages x.more y.more;
     sane = λ k. y.sane (x.sane k);
-    fronts = fronts_on x.fronts y.fronts;
+    log_prefix = log_prefix_on x.log_prefix y.log_prefix;
     elapsed = (let p = x.elapsed in let r = y.elapsed in omega arith);
   }
     where

@@ -17,7 +17,7 @@ use Rattle.quorum_elects.proofs.Steps.{AsksFit, steps_fit}
 use Rattle.quorum_elects.proofs.Stores.{near_short}
 use Rattle.quorum_elects.proofs.Voting.{Counting, Elected, Following, Voted, called, count_end, count_one, follow_one, vote_one, voted_counting, won_following}
 use Rattle.quorum_elects.specs.Electing as electing
-use Rattle.quorum_elects.specs.Electing.{election, leader_of}
+use Rattle.quorum_elects.specs.Electing.{election, chosen_leader}
 use Rattle.quorum_elects.specs.Leading.{HasLeader}
 use Rattle.quorum_elects.specs.Plans.{PlannedWay}
 use Rattle.quorum_elects.specs.Ready.{AllNear, IsReady, LacksAtMost}
@@ -65,11 +65,11 @@ module _ (G : Majority) where
   -- one of them leads, and the others follow
   pub record Led (w : World) : Type 0 where
     pub by : Candidacy G
-    pub lowest : by.r ≡ leader_of G.ms.rule G.q
+    pub lowest : by.r ≡ chosen_leader G.ms.rule G.q
     pub a : List Bool
     pub following : Following G by a n w
 
-  rounds : (K : Candidacy G) → K.r ≡ leader_of G.ms.rule G.q → (m : ℕ) → has G.q m ≡ true → odd_from (epoch_at G m) ≡ K.E → Sane (scope G) G.from → Plays (scope G) (electing.elects n G.q K.r) (2 * n * n + 4 * n + 2) Led G.from
+  rounds : (K : Candidacy G) → K.r ≡ chosen_leader G.ms.rule G.q → (m : ℕ) → has G.q m ≡ true → odd_from (epoch_at G m) ≡ K.E → Sane (scope G) G.from → Plays (scope G) (electing.elects n G.q K.r) (2 * n * n + 4 * n + 2) Led G.from
   rounds K lowest m there top sane =
       plays_weaker Us (omega arith) (λ v o p. p)
       (plays_then Us (plays_all Us n 1 (electing.starts G.q) (Started G) (start_one G) G.from (record { room = sane; done = λ f low h. absurd (omega arith); left = λ f high h. refl })) (λ v1 o1 A.
@@ -120,7 +120,7 @@ module _ (G : Majority) where
     elected_by =
         let L = lowest_of G.q (allows G.ms.rule) m among may_lead in
         let T = greatest_of G.q (λ f. odd_from (epoch_at G f)) m among n in
-        rounds (record { r = leader_of G.ms.rule G.q; mine = L.within; may_lead = L.passes; before = before (record { rank = leader_of G.ms.rule G.q; within = L.within; passes = L.passes; least = L.least }); E = odd_from (epoch_at G T.rank); greatest = T.greatest }) refl T.rank T.within refl sane
+        rounds (record { r = chosen_leader G.ms.rule G.q; mine = L.within; may_lead = L.passes; before = before (record { rank = chosen_leader G.ms.rule G.q; within = L.within; passes = L.passes; least = L.least }); E = odd_from (epoch_at G T.rank); greatest = T.greatest }) refl T.rank T.within refl sane
       where
         before : (L : Least G.q (allows G.ms.rule)) (f : ℕ) → has G.q f ≡ true → (f ≡ L.rank → ⊥) → IsBefore G.ms.rule L.rank f
         before L f h ne = record { may_lead = L.passes; lower = λ may. (let l = L.least f h may in lower L f ne l) }

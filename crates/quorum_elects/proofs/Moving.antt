@@ -2,11 +2,11 @@
 use Rattle.calm_sizes.proofs.AnyRuns.{OnSomeLog, goes_on_then, goes_on_within, would_be}
 use Rattle.calm_sizes.proofs.Stores.{ChangeShort, short_behind}
 use Rattle.calm_sizes.specs.Sizes.{AllShort, OwnShort, longest}
-use Rattle.log_model.proofs.Logs.{Fronts, fronts_itself}
+use Rattle.log_model.proofs.Logs.{IsPrefixOf, log_prefix_itself}
 use Rattle.mon_kv.specs.Readers.{is_marked, most_size, size_of}
 use Rattle.mon_msg.proofs.Changed.{readings-joined}
 use Rattle.mon_msg.specs.Joined.{joined}
-use Rattle.mon_msg.specs.Protocol.Changes.{spelled}
+use Rattle.mon_msg.specs.Protocol.Changes.{encoded}
 use Rattle.mon_msg.specs.Protocol.Course.{Course}
 use Rattle.mon_msg.specs.Protocol.Played.{Fits, played}
 use Rattle.mon_msg.specs.Protocol.Reaction.{any_reaction, reaction_of}
@@ -31,11 +31,11 @@ use Rattle.quorum_model.proofs.Continuing.{ran_on, ran_one}
 use Rattle.quorum_model.proofs.Members.{me_is, member_of}
 use Rattle.quorum_model.specs.Clients.{messages_of, replies_of}
 use Rattle.quorum_model.specs.Events.{PlainFits}
-use Rattle.quorum_model.specs.Growth.{grown, last_of, records_behind}
+use Rattle.quorum_model.specs.Growth.{grown, last_of, records_after}
 use Rattle.quorum_model.specs.Happens.{happens, moved}
 use Rattle.quorum_model.specs.Meets.{Reacts, arrival, meeting, meeting_at, meets, state_at}
 use Rattle.quorum_model.specs.Runs.{Ran}
-use Rattle.quorum_model.specs.World.{Comes, Envelope, Plain, Replied, World, first_world, plain_of}
+use Rattle.quorum_model.specs.World.{Arrives, Envelope, Plain, Replied, World, first_world, plain_of}
 use Rattle.quorum_walk.proofs.Lists.{Among, all_append}
 use Rattle.std.proofs.Common.{Bool, Err, List, Ok, Option, Result, Some, [], ap, arith, cond, eqb, false, inl, inr, length, ltb, refl, subst, suc, sym, true, ℕ, ◌++◌, ◌-◌, ◌∙◌, ◌∷◌, ◌≡◌, ◌≤◌}
 use Rattle.std.proofs.lemmas.Bool.{cond_both, eq-eqb, false≢true, ne_eqb}
@@ -56,17 +56,17 @@ pub record Sound (w : Readings) (y : Course) : Type 0 where
 pub record Bears (m : Store) (y : Course) : Type 0 where
   pub tells : y.readings ≡ played y.changes (readings_of m)
   pub fits : AllByRecursion Fits y.changes
-  pub short : AllShort longest m → AllShort longest (apply (joined (spelled y.changes)) m)
-  pub small : AllShort longest (apply (joined (spelled y.changes)) m) → OnSomeLog (apply (joined (spelled y.changes)) m) y.state → size_of (apply (joined (spelled y.changes)) m) ≤ most_size
+  pub short : AllShort longest m → AllShort longest (apply (joined (encoded y.changes)) m)
+  pub small : AllShort longest (apply (joined (encoded y.changes)) m) → OnSomeLog (apply (joined (encoded y.changes)) m) y.state → size_of (apply (joined (encoded y.changes)) m) ≤ most_size
 
 -- ---- the log, messages and replies
 
-fronts_append : (log more : List (List ℕ)) → Fronts log (log ++ more)
-fronts_append log more = record { short = (let l = length-append log more in omega arith); same = λ i lt. get_or_append_left log more [] i lt }
+log_prefix_append : (log more : List (List ℕ)) → IsPrefixOf log (log ++ more)
+log_prefix_append log more = record { short = (let l = length-append log more in omega arith); same = λ i lt. get_or_append_left log more [] i lt }
 
-fronts_grown : (log : List (List ℕ)) (m : Store) → Fronts log (grown log m)
+log_prefix_grown : (log : List (List ℕ)) (m : Store) → IsPrefixOf log (grown log m)
 unfolding grown
-fronts_grown log m = cond_both (is_marked m) log (log ++ records_behind m (length log) (last_of m - length log)) (λ more. Fronts log more) (λ _. fronts_itself log) (λ _. fronts_append log (records_behind m (length log) (last_of m - length log)))
+log_prefix_grown log m = cond_both (is_marked m) log (log ++ records_after m (length log) (last_of m - length log)) (λ more. IsPrefixOf log more) (λ _. log_prefix_itself log) (λ _. log_prefix_append log (records_after m (length log) (last_of m - length log)))
 
 among_sent : (to : ℕ) (m : Message) (sends : List Sent) → Among (send.Message to m) sends → Among (record { to = to; message = m }) (messages_of sends)
 among_sent to m [] a = absurd a
@@ -121,8 +121,8 @@ module _ (S : Scope) where
   pub record Moved (w next : World) (i : ℕ) (y : Course) : Type 0 where
     pub up : next.state i ≡ Some y.state
     pub reads : readings_at next i ≡ y.readings
-    pub stored : next.store i ≡ apply (joined (spelled y.changes)) (w.store i)
-    pub log : next.log ≡ grown w.log (apply (joined (spelled y.changes)) (w.store i))
+    pub stored : next.store i ≡ apply (joined (encoded y.changes)) (w.store i)
+    pub log : next.log ≡ grown w.log (apply (joined (encoded y.changes)) (w.store i))
     pub others : (j : ℕ) → (j ≡ i → ⊥) → (next.state j ≡ w.state j) × (next.store j ≡ w.store j)
     pub says : (to : ℕ) (m : Message) → Among (send.Message to m) y.out → New S.sent next (record { to = to; message = m })
     pub elapses : next.events ≡ suc w.events
@@ -136,10 +136,10 @@ module _ (S : Scope) where
   -- this one event does it
   pub record DoesBy (p : Plain) (P : World → Type 0) (w : World) : Type 0 where
     pub can : Can S 1 P w
-    pub is : can.events ≡ Comes p ∷ []
+    pub is : can.events ≡ Arrives p ∷ []
 
   module _ (w : World) (sane : Sane S w) (p : Plain) (i : ℕ) (lt : ltb i S.ms.count ≡ true) (now : ℕ) (came : Input) (s : State)
-      (a : arrival w p ≡ Some (record { rank = i; at = now; input = came })) (c : state_at i (w.state i) came ≡ Some s) (allowed : IsStep S.q S.sent S.asks w (Comes p)) (inside : has S.q i ≡ true)
+      (a : arrival w p ≡ Some (record { rank = i; at = now; input = came })) (c : state_at i (w.state i) came ≡ Some s) (allowed : IsStep S.q S.sent S.asks w (Arrives p)) (inside : has S.q i ≡ true)
       (fits : PlainFits S.ms.count p) (R : Course → Type 0) where
     abbrev reacted : Result Course Which
     reacted = react (member_of S.ms i lt) (shared_entries (w.store i)) now (readings_of (w.store i)) s came
@@ -154,8 +154,8 @@ module _ (S : Scope) where
     R0 = sane.reached
 
     -- a course that is sound where the store has room for it
-    module _ (y : Course) (read : readings_of (apply (joined (spelled y.changes)) (w.store i)) ≡ y.readings) (short : AllShort longest (apply (joined (spelled y.changes)) (w.store i)))
-        (happened : happens S.ms w (Comes p) ≡ Ok (moved w p i (reaction_of y))) where
+    module _ (y : Course) (read : readings_of (apply (joined (encoded y.changes)) (w.store i)) ≡ y.readings) (short : AllShort longest (apply (joined (encoded y.changes)) (w.store i)))
+        (happened : happens S.ms w (Arrives p) ≡ Ok (moved w p i (reaction_of y))) where
       after : Moved w (moved w p i (reaction_of y)) i y
       unfolding moved
       after = record {
@@ -166,9 +166,9 @@ module _ (S : Scope) where
         others = λ j ne. rw (ne_eqb j i ne) (refl, refl);
         says = λ to e k. new_added S.sent w (moved w p i (reaction_of y)) (messages_of y.out) (record { to = to; message = e }) refl sane.since (among_sent to e y.out k);
         elapses = refl;
-        replies = λ session r k. (let z = replied_in (suc w.events) i (apply (joined (spelled y.changes)) (w.store i)) session r y.out k in record {
+        replies = λ session r k. (let z = replied_in (suc w.events) i (apply (joined (encoded y.changes)) (w.store i)) session r y.out k in record {
           told = z.0;
-          among = Contains-append_right w.replied (replies_of (suc w.events) i (apply (joined (spelled y.changes)) (w.store i)) y.out) z.0 (contains_of _ z.0 z.1);
+          among = Contains-append_right w.replied (replies_of (suc w.events) i (apply (joined (encoded y.changes)) (w.store i)) y.out) z.0 (contains_of _ z.0 z.1);
           since = (let e = z.4 in omega arith);
           rank_is = z.5;
           session_is = z.2;
@@ -178,16 +178,16 @@ module _ (S : Scope) where
 
       reached : Reached S.ms (moved w p i (reaction_of y))
       reached = record {
-        events = R0.events ++ Comes p ∷ [];
-        fit = all_append (λ e. PlainFits S.ms.count (plain_of e)) R0.events (Comes p ∷ []) R0.fit (fits, tt);
-        is = ran_on S.ms first_world w R0.events (Comes p ∷ []) R0.is ∙ ran_one S.ms w (moved w p i (reaction_of y)) (Comes p) happened;
+        events = R0.events ++ Arrives p ∷ [];
+        fit = all_append (λ e. PlainFits S.ms.count (plain_of e)) R0.events (Arrives p ∷ []) R0.fit (fits, tt);
+        is = ran_on S.ms first_world w R0.events (Arrives p ∷ []) R0.is ∙ ran_one S.ms w (moved w p i (reaction_of y)) (Arrives p) happened;
       }
 
       stores : (j : ℕ) → has S.q j ≡ true → AllShort longest ((moved w p i (reaction_of y)).store j)
       unfolding moved
       stores j k = by (eqb j i)
         where
-          by : (b : Bool) → AllShort longest (cond b (apply (joined (spelled y.changes)) (w.store i)) (w.store j))
+          by : (b : Bool) → AllShort longest (cond b (apply (joined (encoded y.changes)) (w.store i)) (w.store j))
           by true = short
           by false = sane.short j k
 
@@ -202,35 +202,35 @@ module _ (S : Scope) where
         more = messages_of y.out;
         messages = refl;
         sane = λ _. record { since = longer; reached = reached; short = stores };
-        fronts = fronts_grown w.log (apply (joined (spelled y.changes)) (w.store i));
+        log_prefix = log_prefix_grown w.log (apply (joined (encoded y.changes)) (w.store i));
         elapsed = omega arith;
       }
 
       one : R y → Can S 1 (Did R w i) w
       one k = record {
-        events = Comes p ∷ [];
+        events = Arrives p ∷ [];
         few = omega arith;
         steps = (allowed, tt);
         next = moved w p i (reaction_of y);
-        goes = ran_one S.ms w (moved w p i (reaction_of y)) (Comes p) happened;
+        goes = ran_one S.ms w (moved w p i (reaction_of y)) (Arrives p) happened;
         onward = onward;
         there = record { y = y; did = k; moved = after };
       }
 
     -- the store of an unmarked monitor has room
     module _ (y : Course) (A : Sound (readings_of (w.store i)) y) (e : reacted ≡ Ok y) where
-      read : readings_of (apply (joined (spelled y.changes)) (w.store i)) ≡ y.readings
+      read : readings_of (apply (joined (encoded y.changes)) (w.store i)) ≡ y.readings
       read = readings-joined y.changes A.fits (w.store i) ∙ sym A.tells
 
-      short : AllShort longest (apply (joined (spelled y.changes)) (w.store i))
+      short : AllShort longest (apply (joined (encoded y.changes)) (w.store i))
       short = short_behind y.changes (w.store i) A.short (sane.short i inside)
 
-      own : OwnShort longest (apply (joined (spelled y.changes)) (w.store i))
+      own : OwnShort longest (apply (joined (encoded y.changes)) (w.store i))
       own q x local e = short q x e
 
-      happened : happens S.ms w (Comes p) ≡ Ok (moved w p i (reaction_of y))
+      happened : happens S.ms w (Arrives p) ≡ Ok (moved w p i (reaction_of y))
       happened =
-          (subst (λ (v : World). meets S.ms v p ≡ Reacts i came (Ok (reaction_of y)) → (readings_of (apply (joined (spelled y.changes)) (v.store i))).marked ≡ false → OwnShort longest (apply (joined (spelled y.changes)) (v.store i)) → happens S.ms v (Comes p) ≡ Ok (moved v p i (reaction_of y)))
+          (subst (λ (v : World). meets S.ms v p ≡ Reacts i came (Ok (reaction_of y)) → (readings_of (apply (joined (encoded y.changes)) (v.store i))).marked ≡ false → OwnShort longest (apply (joined (encoded y.changes)) (v.store i)) → happens S.ms v (Arrives p) ≡ Ok (moved v p i (reaction_of y)))
           (ap (λ (r : Ran). r.world) R0.is)
           (goes_on_then S.ms R0.events R0.fit p fits i came (reaction_of y)))
           (met ∙ ap (λ (r : Result Course Which). Reacts i came (any_reaction r)) e) (ap (λ (r : Readings). r.marked) read ∙ A.unmarked) own
@@ -249,15 +249,15 @@ module _ (S : Scope) where
 
     -- so does one in a full synchronization, if its store has room
     module _ (y : Course) (A : Bears (w.store i) y) (e : reacted ≡ Ok y) where
-      read_so : readings_of (apply (joined (spelled y.changes)) (w.store i)) ≡ y.readings
+      read_so : readings_of (apply (joined (encoded y.changes)) (w.store i)) ≡ y.readings
       read_so = readings-joined y.changes A.fits (w.store i) ∙ sym A.tells
 
-      short_so : AllShort longest (apply (joined (spelled y.changes)) (w.store i))
+      short_so : AllShort longest (apply (joined (encoded y.changes)) (w.store i))
       short_so = A.short (sane.short i inside)
 
-      happened_so : happens S.ms w (Comes p) ≡ Ok (moved w p i (reaction_of y))
+      happened_so : happens S.ms w (Arrives p) ≡ Ok (moved w p i (reaction_of y))
       happened_so =
-          (subst (λ (v : World). meets S.ms v p ≡ Reacts i came (Ok (reaction_of y)) → (OnSomeLog (apply (joined (spelled y.changes)) (v.store i)) y.state → size_of (apply (joined (spelled y.changes)) (v.store i)) ≤ most_size) → happens S.ms v (Comes p) ≡ Ok (moved v p i (reaction_of y)))
+          (subst (λ (v : World). meets S.ms v p ≡ Reacts i came (Ok (reaction_of y)) → (OnSomeLog (apply (joined (encoded y.changes)) (v.store i)) y.state → size_of (apply (joined (encoded y.changes)) (v.store i)) ≤ most_size) → happens S.ms v (Arrives p) ≡ Ok (moved v p i (reaction_of y)))
           (ap (λ (r : Ran). r.world) R0.is)
           (λ m small. goes_on_within S.ms R0.events R0.fit p fits i came (reaction_of y) m (small (would_be S.ms R0.events R0.fit p fits i came (reaction_of y) m))))
           (met ∙ ap (λ (r : Result Course Which). Reacts i came (any_reaction r)) e) (A.small short_so)

@@ -8,7 +8,7 @@ use Rattle.election_rules.specs.declared.row.Row.{Row}
 use Rattle.election_rules.specs.declared.rule.Rule.{Rule}
 use Rattle.election_rules.specs.declared.rule.Rule.TheVariants.{Classic, Connectivity, Disallow}
 use Rattle.election_rules.specs.declared.scores.Scores.{Scores}
-use Rattle.mon_msg.specs.Protocol.Elections.{merged_if_told, table_or}
+use Rattle.mon_msg.specs.Protocol.Elections.{merged_if_sent, table_or}
 use Rattle.quorum_elects.proofs.Ranks.{same_or_not}
 use Rattle.std.proofs.Common.{Bool, IfSome, None, Option, Some, ap, arith, cond, eqb, false, inl, inr, length, refl, replicate, slice_index, subst, suc, sym, true, zero, ℕ, ◌*◌, ◌+◌, ◌-◌, ◌<◌, ◌∙◌, ◌≡◌, ◌≤◌, ◌⊎◌}
 use Rattle.std.proofs.lemmas.Bool.{cases_lt, eq-eqb, le-ltb, lt-ltb, ne_eqb}
@@ -63,7 +63,7 @@ full_merged table other F G = record {
 abbrev pub FullIf : Option Scores → Type 0
 FullIf table = IfSome table IsFull
 
-pub full_after : (table : Option Scores) (own : Scores) → FullIf table → IsFull own → IsFull (merged_if_told table own)
+pub full_after : (table : Option Scores) (own : Scores) → FullIf table → IsFull own → IsFull (merged_if_sent table own)
 full_after None own T F = F
 full_after (Some table) own T F = full_merged own table F T
 

@@ -25,7 +25,7 @@ use Rattle.quorum_model.specs.Events.{AllFit, PlainFits, RequestFits}
 use Rattle.quorum_model.specs.Meets.{Arrival}
 use Rattle.quorum_model.specs.Monitors.{Monitors}
 use Rattle.quorum_model.specs.Runs.{run_from}
-use Rattle.quorum_model.specs.World.{Client, Comes, Crash, Deliver, Envelope, Event, Ring, Start, World, plain_of}
+use Rattle.quorum_model.specs.World.{Client, Arrives, Crash, Deliver, Envelope, Event, Ring, Start, World, plain_of}
 use Rattle.std.proofs.Common.{Bool, IfSome, List, None, Option, Some, [], ap, ltb, refl, subst, suc, sym, true, ℕ, ◌<◌, ◌∙◌, ◌∷◌, ◌≡◌}
 use Rattle.std.proofs.lemmas.Bool.{ltb-true}
 use Rattle.std.specs.Option.{option_map}
@@ -46,7 +46,7 @@ module _ (S : Scope) (w : World) (sane : Sane S w) (i : ℕ) (lt : ltb i S.ms.co
 
   pub start : Surely (λ y. Sound (readings_of (w.store i)) y × R y) (react (member_of S.ms i lt) (shared_entries (w.store i)) 0 (readings_of (w.store i)) (booting i) input.Start)
       → Does S (Starts i ∷ []) 1 (Did S R w i) w
-  start T = let D = comes_by S w sane (Start i 0) i lt 0 input.Start (booting i) refl refl inside inside (ltb-true i S.ms.count lt) R T in record { can = D.can; are = first (Starts i) D.can.events (Comes (Start i 0)) D.is refl }
+  start T = let D = comes_by S w sane (Start i 0) i lt 0 input.Start (booting i) refl refl inside inside (ltb-true i S.ms.count lt) R T in record { can = D.can; are = first (Starts i) D.can.events (Arrives (Start i 0)) D.is refl }
 
   pub deliver : (m : Message) → New S.sent w (record { to = i; message = m }) → (s : State) → w.state i ≡ Some s
       → Surely (λ y. Sound (readings_of (w.store i)) y × R y) (react (member_of S.ms i lt) (shared_entries (w.store i)) 0 (readings_of (w.store i)) s (input.Deliver m))
@@ -55,7 +55,7 @@ module _ (S : Scope) (w : World) (sane : Sane S w) (i : ℕ) (lt : ltb i S.ms.co
       let D = comes_by S w sane (Deliver (suc N.index) 0) i lt 0 (input.Deliver m) s (ap (option_map arrives) N.there) up (new_step S.q S.asks N inside) inside tt R T in
       record {
         can = D.can;
-        are = first (Hears i m.from (kind_in m.body)) D.can.events (Comes (Deliver (suc N.index) 0)) D.is (record { number = suc N.index; is = refl; envelope = record { to = i; message = m }; there = N.there; to = refl; sender = refl; kind_is = refl });
+        are = first (Hears i m.from (kind_in m.body)) D.can.events (Arrives (Deliver (suc N.index) 0)) D.is (record { number = suc N.index; is = refl; envelope = record { to = i; message = m }; there = N.there; to = refl; sender = refl; kind_is = refl });
       }
     where
       arrives : Envelope → Arrival
@@ -64,14 +64,14 @@ module _ (S : Scope) (w : World) (sane : Sane S w) (i : ℕ) (lt : ltb i S.ms.co
   pub ring : (t : Timer) → (s : State) → w.state i ≡ Some s
       → Surely (λ y. Sound (readings_of (w.store i)) y × R y) (react (member_of S.ms i lt) (shared_entries (w.store i)) 0 (readings_of (w.store i)) s (input.Timer t))
       → Does S (Rings i t ∷ []) 1 (Did S R w i) w
-  ring t s up T = let D = comes_by S w sane (Ring i t 0) i lt 0 (input.Timer t) s refl up inside inside (ltb-true i S.ms.count lt) R T in record { can = D.can; are = first (Rings i t) D.can.events (Comes (Ring i t 0)) D.is refl }
+  ring t s up T = let D = comes_by S w sane (Ring i t 0) i lt 0 (input.Timer t) s refl up inside inside (ltb-true i S.ms.count lt) R T in record { can = D.can; are = first (Rings i t) D.can.events (Arrives (Ring i t 0)) D.is refl }
 
   pub ask : (session : Session) (c : Command) → IsAskedBy S.asks session (request_of c) → RequestFits (request_of c) → (s : State) → w.state i ≡ Some s
       → Surely (λ y. Sound (readings_of (w.store i)) y × R y) (react (member_of S.ms i lt) (shared_entries (w.store i)) 0 (readings_of (w.store i)) s (input.Client session (request_of c)))
       → Does S (Asks i session c ∷ []) 1 (Did S R w i) w
   ask session c may form s up T =
       let D = comes_by S w sane (Client i 0 session (request_of c)) i lt 0 (input.Client session (request_of c)) s refl up (inside, may) inside (ltb-true i S.ms.count lt, form) R T in
-      record { can = D.can; are = first (Asks i session c) D.can.events (Comes (Client i 0 session (request_of c))) D.is refl }
+      record { can = D.can; are = first (Asks i session c) D.can.events (Arrives (Client i 0 session (request_of c))) D.is refl }
 
 -- the requests that they may be asked have their form
 abbrev pub AsksFit : Option (Session × Command) → Type 0
@@ -84,10 +84,10 @@ module _ (ms : Monitors) (q : List Bool) (sent : ℕ) (below : (m : ℕ) → has
   asked_fits (Some a) F s r k = subst RequestFits (sym k.1) F
 
   step_fits : (asks : Option (Session × Command)) → AsksFit asks → (w : World) (e : Event) → IsStep q sent asks w e → PlainFits ms.count (plain_of e)
-  step_fits asks F w (Comes (Start rank at)) k = below rank k
-  step_fits asks F w (Comes (Deliver message at)) k = tt
-  step_fits asks F w (Comes (Ring rank timer at)) k = below rank k
-  step_fits asks F w (Comes (Client rank at session r)) k = (below rank k.0, asked_fits asks F session r k.1)
+  step_fits asks F w (Arrives (Start rank at)) k = below rank k
+  step_fits asks F w (Arrives (Deliver message at)) k = tt
+  step_fits asks F w (Arrives (Ring rank timer at)) k = below rank k
+  step_fits asks F w (Arrives (Client rank at session r)) k = (below rank k.0, asked_fits asks F session r k.1)
   step_fits asks F w (Crash p kept) k = absurd k
 
   pub steps_fit : (asks : Option (Session × Command)) → AsksFit asks → (w : World) (es : List Event) → AreSteps ms q sent asks w es → AllFit ms.count es

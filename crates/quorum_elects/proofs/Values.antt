@@ -1,6 +1,6 @@
 -- A pending value is no longer than a value may be.
 use Rattle.mon_msg.specs.Protocol.Readings.{Readings}
-use Rattle.mon_msg.specs.Protocol.Records.{found_as, most_value, pending, pending_of, record_at, where_short}
+use Rattle.mon_msg.specs.Protocol.Records.{found_as, most_value, pending, pending_of, record_at, if_short_value}
 use Rattle.mon_msg.specs.declared.paxos.Found.{Found}
 use Rattle.mon_tx.specs.Text.{text}
 use Rattle.mon_tx.specs.declared.op.Op.{Op}
@@ -12,7 +12,7 @@ use Rattle.std.specs.Option.{option_and_then, option_map}
 abbrev pub FoundShort : Option Found → Type 0
 FoundShort found = IfSome found (λ f. length (text f.value) ≤ most_value)
 
-found_short : (v pn : ℕ) (o : Option (List Op)) → FoundShort (option_map (λ short. record { version = v; pn = pn; value = short }) (option_and_then where_short o))
+found_short : (v pn : ℕ) (o : Option (List Op)) → FoundShort (option_map (λ short. record { version = v; pn = pn; value = short }) (option_and_then if_short_value o))
 found_short v pn None = tt
 found_short v pn (Some x) = cond_both (leb (length (text x)) most_value) (Some x) None (λ (o : Option (List Op)). FoundShort (option_map (λ short. record { version = v; pn = pn; value = short }) o))
     (λ t. leb-true (length (text x)) most_value t) (λ _. tt)

@@ -31,8 +31,8 @@ highest number set r (suc k) =
     if has set k && nat_lt (number top) (number k) then k else top
 
 -- the member that is to lead
-abbrev pub leader_of : Rule → List Bool → ℕ
-leader_of rule set = lowest (allows rule) set
+abbrev pub chosen_leader : Rule → List Bool → ℕ
+chosen_leader rule set = lowest (allows rule) set
 
 -- one of a set, other than r
 abbrev pub is_other : List Bool → (r k : ℕ) → Bool
@@ -93,4 +93,4 @@ elects n q r =
     ++ (calls n q r ∷ (each n (votes q r) ++ (each n (counts q r) ++ (ends r ∷ each n (follows r))))))
 
 abbrev pub election : Monitors → List Bool → List PlanStep
-election ms q = elects ms.count q (leader_of ms.rule q)
+election ms q = elects ms.count q (chosen_leader ms.rule q)

@@ -9,7 +9,7 @@ use Rattle.quorum_model.specs.CalmSchedule.{request_of}
 use Rattle.quorum_model.specs.Meets.{message_at}
 use Rattle.quorum_model.specs.Monitors.{Monitors}
 use Rattle.quorum_model.specs.Runs.{run, run_from}
-use Rattle.quorum_model.specs.World.{Client, Comes, Deliver, Envelope, Event, Ring, Start, World}
+use Rattle.quorum_model.specs.World.{Client, Arrives, Deliver, Envelope, Event, Ring, Start, World}
 use Rattle.std.specs.List.{enumerate_from, filter, last_or}
 use Rattle.std.specs.Option.{option_map}
 use Rattle.std.specs.Prelude.{Bool, List, None, Option, Some, [], drop, map, suc, ℕ, ◌&&◌, ◌++◌, ◌==◌, ◌∷◌, ◌≡◌}
@@ -30,7 +30,7 @@ PlanStep = World → List Planned
 -- the event delivers a message of this kind from the one monitor to the other
 pub record Delivers (w : World) (rank from : ℕ) (kind : Kind) (e : Event) : Type 0 where
   pub number : ℕ
-  pub is : e ≡ Comes (Deliver number 0)
+  pub is : e ≡ Arrives (Deliver number 0)
   pub envelope : Envelope
   pub there : message_at w.messages number ≡ Some envelope
   pub to : envelope.to ≡ rank
@@ -38,10 +38,10 @@ pub record Delivers (w : World) (rank from : ℕ) (kind : Kind) (e : Event) : Ty
   pub kind_is : kind_in envelope.message.body ≡ kind
 
 abbrev pub IsPlanned : World → Planned → Event → Type 0
-IsPlanned w (Starts rank) e = e ≡ Comes (Start rank 0)
+IsPlanned w (Starts rank) e = e ≡ Arrives (Start rank 0)
 IsPlanned w (Hears rank from kind) e = Delivers w rank from kind e
-IsPlanned w (Rings rank timer) e = e ≡ Comes (Ring rank timer 0)
-IsPlanned w (Asks rank session command) e = e ≡ Comes (Client rank 0 session (request_of command))
+IsPlanned w (Rings rank timer) e = e ≡ Arrives (Ring rank timer 0)
+IsPlanned w (Asks rank session command) e = e ≡ Arrives (Client rank 0 session (request_of command))
 
 -- From world w on, the events are the planned ones, in order, and no others.
 abbrev pub ArePlanned : Monitors → World → List Planned → List Event → Type 0
@@ -75,7 +75,7 @@ newest sent rank from kind messages =
 
 -- The planned event. If it delivers a message, that is the newest one after the first `sent`; None if there is none.
 abbrev pub event_of : (sent : ℕ) → World → Planned → Option Event
-event_of sent w (Starts rank) = Some (Comes (Start rank 0))
-event_of sent w (Hears rank from kind) = option_map (λ k. Comes (Deliver k 0)) (newest sent rank from kind w.messages)
-event_of sent w (Rings rank timer) = Some (Comes (Ring rank timer 0))
-event_of sent w (Asks rank session command) = Some (Comes (Client rank 0 session (request_of command)))
+event_of sent w (Starts rank) = Some (Arrives (Start rank 0))
+event_of sent w (Hears rank from kind) = option_map (λ k. Arrives (Deliver k 0)) (newest sent rank from kind w.messages)
+event_of sent w (Rings rank timer) = Some (Arrives (Ring rank timer 0))
+event_of sent w (Asks rank session command) = Some (Arrives (Client rank 0 session (request_of command)))

@@ -8,7 +8,7 @@ use Rattle.quorum_model.specs.Events.{AllFit}
 use Rattle.quorum_model.specs.Meets.{message_at}
 use Rattle.quorum_model.specs.Monitors.{Monitors}
 use Rattle.quorum_model.specs.Runs.{ran, run, run_from}
-use Rattle.quorum_model.specs.World.{Client, Comes, Crash, Deliver, Event, Ring, Start, World}
+use Rattle.quorum_model.specs.World.{Client, Arrives, Crash, Deliver, Event, Ring, Start, World}
 use Rattle.std.specs.Prelude.{Bool, IsSomeAnd, List, None, Option, Some, [], false, length, true, ℕ, ⊤, ◌++◌, ◌<◌, ◌∷◌, ◌≡◌, ◌≤◌}
 
 -- the request is this session's command, if there is one
@@ -19,11 +19,11 @@ IsAskedBy (Some (by, command)) s r = (s ≡ by) × (r ≡ request_of command)
 -- A step of the monitors of q in a world: one of them starts, a timer of one fires, one is asked the request, or one gets
 -- a message that isn't among the first `sent`. Nothing crashes.
 abbrev pub IsStep : List Bool → (sent : ℕ) → Option (Session × Command) → World → Event → Type 0
-IsStep q sent asks w (Comes (Start rank at)) = has q rank ≡ true
-IsStep q sent asks w (Comes (Deliver message at)) =
+IsStep q sent asks w (Arrives (Start rank at)) = has q rank ≡ true
+IsStep q sent asks w (Arrives (Deliver message at)) =
     (sent < message) × IsSomeAnd (message_at w.messages message) (λ e. has q e.to ≡ true)
-IsStep q sent asks w (Comes (Ring rank timer at)) = has q rank ≡ true
-IsStep q sent asks w (Comes (Client rank at session r)) = (has q rank ≡ true) × IsAskedBy asks session r
+IsStep q sent asks w (Arrives (Ring rank timer at)) = has q rank ≡ true
+IsStep q sent asks w (Arrives (Client rank at session r)) = (has q rank ≡ true) × IsAskedBy asks session r
 IsStep q sent asks w (Crash p kept) = ⊥
 
 -- From world w on, each event is a step in the world that the events before it lead to.

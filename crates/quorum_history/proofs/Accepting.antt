@@ -7,7 +7,7 @@ use Rattle.mon_tx.specs.Decision.{Cell}
 use Rattle.mon_tx.specs.Text.{text}
 use Rattle.mon_tx.specs.declared.op.Op.{Op}
 use Rattle.quorum_history.proofs.Growing.{grows_by, grows_not}
-use Rattle.quorum_history.proofs.History.{ALevel, ANumber, APromise, Accepted, AnEpoch, Entry, Ext, Ghost, Glob, Had, HadIn, Hand, NewTriple, Refuses, Rising, Sign, Triple, TriplesHold, triple}
+use Rattle.quorum_history.proofs.History.{ALevel, ANumber, APromise, Accepted, AnEpoch, Entry, Ext, Ghost, Glob, Had, HadIn, Hand, NewTriple, HasBlocker, Rising, Sign, Triple, TriplesHold, triple}
 use Rattle.quorum_history.proofs.Holds.{Disk, Kept, Numbered, Tied, With, level_in, number_in_own, number_of, promise_in}
 use Rattle.quorum_history.proofs.Numbers.{level_is}
 use Rattle.quorum_history.proofs.Steps.{further, refuses_later}
@@ -35,7 +35,7 @@ pub record MayAccept (i : ℕ) (g : Ghost) (o : Own) (v p : ℕ) (x : List Op) :
 -- lower number none can be accepted by a majority any more.
 pub record LeavesNoRoom (n : ℕ) (g : Ghost) (v p : ℕ) (x : List Op) : Type 0 where
   pub one : (j : ℕ) (y : List Op) → Accepted g j v p y → y ≡ x
-  pub safe : (r : ℕ) (y : List Op) (Q : List Bool) → r < p → (y ≡ x → ⊥) → is_majority n Q ≡ true → Below n Q → Refuses g.signs g.accepts Q v r y
+  pub safe : (r : ℕ) (y : List Op) (Q : List Bool) → r < p → (y ≡ x → ⊥) → is_majority n Q ≡ true → Below n Q → HasBlocker g.signs g.accepts Q v r y
 
 accepted_ext : (i v p : ℕ) (x : List Op) (g : Ghost) (o : Own) → Numbered g.signs i o → MayAccept i g o v p x → Ext i g (accepted i v p x g)
 accepted_ext i v p x g o N M = record { roles = grows_not _ g.roles; hands = grows_not _ g.hands; asks = grows_not _ g.asks; signs = grows_not _ g.signs; accepts = grows_by (NewTriple i g) (triple i v p x) g.accepts new }
@@ -76,7 +76,7 @@ module _ (n i v p : ℕ) (x : List Op) (g : Ghost) (o : Own) (below : i < n) (E 
   ]
 
   abbrev IsSafe : Triple → Type 0
-  IsSafe t = (r : ℕ) (y : List Op) (Q : List Bool) → r < t.p → (y ≡ t.x → ⊥) → is_majority n Q ≡ true → Below n Q → Refuses h.signs h.accepts Q t.v r y
+  IsSafe t = (r : ℕ) (y : List Op) (Q : List Bool) → r < t.p → (y ≡ t.x → ⊥) → is_majority n Q ≡ true → Below n Q → HasBlocker h.signs h.accepts Q t.v r y
 
   accepted_triples : TriplesHold n h.signs h.accepts
   accepted_triples = record {

@@ -127,13 +127,13 @@ module _ (i : ℕ) (g h : Ghost) (E : Ext i g h) where
   found_lasts q pn last (Some f) k = record { next = k.next; low = k.low; by = k.by; member = k.member; was = accepted_lasts k.by f.version f.pn f.value k.was }
 
   -- monitor j accepted nothing further
-  abbrev pub Accepts : ℕ → Type 0
-  Accepts j = (v p : ℕ) (x : List Op) → Accepted h j v p x → Accepted g j v p x
+  abbrev pub AcceptsNothingNew : ℕ → Type 0
+  AcceptsNothingNew j = (v p : ℕ) (x : List Op) → Accepted h j v p x → Accepted g j v p x
 
-  pub gathers_last : (j : ℕ) (q : List Bool) (pn last : ℕ) (found : Option Found) → Accepts j → Gathers g j q pn last found → Gathers h j q pn last found
+  pub gathers_last : (j : ℕ) (q : List Bool) (pn last : ℕ) (found : Option Found) → AcceptsNothingNew j → Gathers g j q pn last found → Gathers h j q pn last found
   gathers_last j q pn last found same k = record { fresh = λ v x a. k.fresh v x (same v pn x a); found = found_lasts q pn last found k.found }
 
-  pub proposes_last : (j pn last : ℕ) (value : Option (List Op)) (accepted : List Bool) → Accepts j → Proposes g j pn last value accepted → Proposes h j pn last value accepted
+  pub proposes_last : (j pn last : ℕ) (value : Option (List Op)) (accepted : List Bool) → AcceptsNothingNew j → Proposes g j pn last value accepted → Proposes h j pn last value accepted
   proposes_last j pn last value accepted same k = record {
     x = k.x;
     is = k.is;
@@ -143,10 +143,10 @@ module _ (i : ℕ) (g h : Ghost) (E : Ext i g h) where
   }
 
   -- monitor j handed nothing further on
-  abbrev pub HandsOn : ℕ → Type 0
-  HandsOn j = (e seq : ℕ) (s : Session) (c : Command) → Handed h j e seq s c → Handed g j e seq s c
+  abbrev pub HandsOnNothingNew : ℕ → Type 0
+  HandsOnNothingNew j = (e seq : ℕ) (s : Session) (c : Command) → Handed h j e seq s c → Handed g j e seq s c
 
-  pub follows_last : (j : ℕ) (c : Core) → (is_some c.lease ≡ true → Accepts j) → HandsOn j → FollowsIn g j c → FollowsIn h j c
+  pub follows_last : (j : ℕ) (c : Core) → (is_some c.lease ≡ true → AcceptsNothingNew j) → HandsOnNothingNew j → FollowsIn g j c → FollowsIn h j c
   follows_last j c same hands k = record {
     role = entered_lasts j (epoch_in c.own) c.leader c.members k.role;
     unmarked = k.unmarked;
@@ -162,7 +162,7 @@ module _ (i : ℕ) (g h : Ghost) (E : Ext i g h) where
   stage_lasts last floor provider full start version (sync.Replay next end) k = k
 
   -- what holds of monitor j in its phase still holds if j accepted nothing and handed nothing on
-  pub phase_lasts : (n j : ℕ) (c : Core) (p : Phase) → Accepts j → HandsOn j → InPhase n g j c p → InPhase n h j c p
+  pub phase_lasts : (n j : ℕ) (c : Core) (p : Phase) → AcceptsNothingNew j → HandsOnNothingNew j → InPhase n g j c p → InPhase n h j c p
   phase_lasts n j c phase.Booting same hands k = tt
   phase_lasts n j c phase.Probing same hands k = tt
   phase_lasts n j c phase.Synchronizing same hands k = (k.0, stage_lasts c.own.last c.own.floor c.provider c.full c.start c.version c.stage k.1)
@@ -176,10 +176,10 @@ module _ (i : ℕ) (g h : Ghost) (E : Ext i g h) where
 
   -- ---- the other monitors
 
-  pub same_accepts : (j : ℕ) → (j ≡ i → ⊥) → Accepts j
+  pub same_accepts : (j : ℕ) → (j ≡ i → ⊥) → AcceptsNothingNew j
   same_accepts j ne v p x a = elim (E.accepts.added (triple j v p x) a) [ inl o ↦ o | inr w ↦ absurd (ne w.who) ]
 
-  pub same_hands : (j : ℕ) → (j ≡ i → ⊥) → HandsOn j
+  pub same_hands : (j : ℕ) → (j ≡ i → ⊥) → HandsOnNothingNew j
   same_hands j ne e seq s c a = elim (E.hands.added (hand j e seq s c) a) [ inl o ↦ o | inr w ↦ absurd (ne w) ]
 
   numbers_last : (j : ℕ) (o : Own) → (j ≡ i → ⊥) → Numbered g.signs j o → Numbered h.signs j o

@@ -127,7 +127,7 @@ pub record HandsHold (hs : List Hand) (asks : List Ask) : Type 0 where
   pub asked : (i e seq : ℕ) (s : Session) (c : Command) → Among (hand i e seq s c) hs → Among (asking i s c) asks
 
 -- a rank of Q that can't accept y for v under r any more
-pub record Refuses (ss : List Sign) (ts : List Triple) (Q : List Bool) (v r : ℕ) (y : List Op) : Type 0 where
+pub record HasBlocker (ss : List Sign) (ts : List Triple) (Q : List Bool) (v r : ℕ) (y : List Op) : Type 0 where
   pub m : ℕ
   pub within : has Q m ≡ true
   pub above : HadIn ss APromise m (suc r)
@@ -142,7 +142,7 @@ pub record TriplesHold (n : ℕ) (ss : List Sign) (ts : List Triple) : Type 0 wh
   -- one value for a version under a number
   pub one : (i j v p : ℕ) (x y : List Op) → Among (triple i v p x) ts → Among (triple j v p y) ts → x ≡ y
   -- what is proposed leaves no room for another value under a lower number
-  pub safe : (i v p r : ℕ) (x y : List Op) (Q : List Bool) → Among (triple i v p x) ts → r < p → (y ≡ x → ⊥) → is_majority n Q ≡ true → Below n Q → Refuses ss ts Q v r y
+  pub safe : (i v p r : ℕ) (x y : List Op) (Q : List Bool) → Among (triple i v p x) ts → r < p → (y ≡ x → ⊥) → is_majority n Q ≡ true → Below n Q → HasBlocker ss ts Q v r y
 
 pub record Glob (n : ℕ) (g : Ghost) : Type 0 where
   pub roles : RolesHold n g.roles

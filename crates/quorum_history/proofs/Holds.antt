@@ -167,21 +167,21 @@ pub record Reigns (g : Ghost) (i e : ℕ) (marked : Bool) (q : List Bool) (waiti
   pub queue : AllByRecursion (Waits g i e) waiting
 
 -- Monitor f answered leader i under number pn. Each value that f accepted under a lower number is for a version that
--- leader i has, or has property Left.
-pub record Heard (g : Ghost) (i e pn last : ℕ) (Left : ℕ → ℕ → Type 0) (f : ℕ) : Type 0 where
+-- leader i has, or has property Pending.
+pub record Heard (g : Ghost) (i e pn last : ℕ) (Pending : ℕ → ℕ → Type 0) (f : ℕ) : Type 0 where
   pub joined : Joined g f e i
   pub promised : Had g APromise f pn
-  pub covers : (v r : ℕ) (x : List Op) → Accepted g f v r x → r < pn → (v ≤ last) ⊎ Left v r
+  pub covers : (v r : ℕ) (x : List Op) → Accepted g f v r x → r < pn → (v ≤ last) ⊎ Pending v r
 
-pub record Leads (g : Ghost) (i e : ℕ) (marked : Bool) (q answered : List Bool) (waiting : List Waiting) (pn last_pn promise last : ℕ) (Left : ℕ → ℕ → Type 0) : Type 0 where
+pub record Leads (g : Ghost) (i e : ℕ) (marked : Bool) (q answered : List Bool) (waiting : List Waiting) (pn last_pn promise last : ℕ) (Pending : ℕ → ℕ → Type 0) : Type 0 where
   pub reigns : Reigns g i e marked q waiting
   pub made : pn ≡ last_pn
   pub promised : pn ≡ promise
   pub own : pn % 100 ≡ i
-  pub heard : (f : ℕ) → has answered f ≡ true → Heard g i e pn last Left f
+  pub heard : (f : ℕ) → has answered f ≡ true → Heard g i e pn last Pending f
 
 abbrev pub LeadsIn : Ghost → ℕ → Core → (ℕ → ℕ → Type 0) → Type 0
-LeadsIn g i c Left = Leads g i (epoch_in c.own) c.own.marked c.quorum c.answered c.queue c.pn (number_in_own c.own) (promise_in c.own) c.own.last Left
+LeadsIn g i c Pending = Leads g i (epoch_in c.own) c.own.marked c.quorum c.answered c.queue c.pn (number_in_own c.own) (promise_in c.own) c.own.last Pending
 
 -- what was found covers a value of this version under this number
 abbrev pub FoundCovers : Option Found → ℕ → ℕ → Type 0

@@ -4,7 +4,7 @@ use Rattle.mon_msg.specs.declared.paxos.Found.{Found}
 use Rattle.mon_tx.specs.declared.op.Op.{Op}
 use Rattle.mon_types.specs.Ranks.{has, is_majority}
 use Rattle.quorum_history.proofs.Accepting.{LeavesNoRoom}
-use Rattle.quorum_history.proofs.History.{APromise, Accepted, Ghost, Glob, Refuses, RolesHold}
+use Rattle.quorum_history.proofs.History.{APromise, Accepted, Ghost, Glob, HasBlocker, RolesHold}
 use Rattle.quorum_history.proofs.Holds.{Core, FoundCovers, Gathers, Heard, LeadsIn, Nowhere, Rests, epoch_in}
 use Rattle.quorum_history.proofs.Numbers.{had_down}
 use Rattle.quorum_walk.proofs.Ranks.{Below, majorities, within_at}
@@ -22,7 +22,7 @@ module _ (n : ℕ) (g : Ghost) (i : ℕ) (c : Core) (L : ℕ → ℕ → Type 0)
 
   -- a rank of each majority can no longer accept a value for a version above the last one, if no such value has
   -- property L
-  refuses_here : (v r : ℕ) (y : List Op) (Q : List Bool) → c.own.last < v → r < c.pn → ((m : ℕ) → Accepted g m v r y → L v r → ⊥) → is_majority n Q ≡ true → Below n Q → Refuses g.signs g.accepts Q v r y
+  refuses_here : (v r : ℕ) (y : List Op) (Q : List Bool) → c.own.last < v → r < c.pn → ((m : ℕ) → Accepted g m v r y → L v r → ⊥) → is_majority n Q ≡ true → Below n Q → HasBlocker g.signs g.accepts Q v r y
   refuses_here v r y Q lt low none ma le =
       let s = heard_in Q ma le in
       record {
@@ -55,6 +55,6 @@ found_leaves_no_room n g i c f at G k all gathers = record { one = one; safe = �
     only r m y ge ne a (inl lt) = omega arith
     only r m y ge ne a (inr e) = let le = e.1 in let same : r ≡ f.pn = omega arith in ne (G.triples.one m gathers.found.by (suc c.own.last) f.pn y f.value (subst (λ (z : ℕ). Accepted g m (suc c.own.last) z y) same a) was)
 
-    by : (r : ℕ) (y : List Op) (Q : List Bool) → r < c.pn → (y ≡ f.value → ⊥) → is_majority n Q ≡ true → Below n Q → (r < f.pn) ⊎ (f.pn ≤ r) → Refuses g.signs g.accepts Q (suc c.own.last) r y
+    by : (r : ℕ) (y : List Op) (Q : List Bool) → r < c.pn → (y ≡ f.value → ⊥) → is_majority n Q ≡ true → Below n Q → (r < f.pn) ⊎ (f.pn ≤ r) → HasBlocker g.signs g.accepts Q (suc c.own.last) r y
     by r y Q lt ne ma le (inl low) = G.triples.safe gathers.found.by (suc c.own.last) f.pn r f.value y Q was low ne ma le
     by r y Q lt ne ma le (inr ge) = refuses_here n g i c (FoundCovers (Some f)) G.roles k all (suc c.own.last) r y Q (omega arith) lt (λ m a l. only r m y ge ne a l) ma le

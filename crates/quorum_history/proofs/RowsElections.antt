@@ -99,10 +99,10 @@ module _ (me : Me) (now : ℕ) (g : Ghost) (Known : ℕ → List Op → Type 0) 
 
   wins : (q : List Bool) (x : Course) → StandsIn me.member.monitors me.member.rank (core x) → has q me.member.rank ≡ true → is_majority me.member.monitors q ≡ true → ((m : ℕ) → has q m ≡ true → m < me.member.monitors) → Sound me g Known x → Then (Good me g Known) (win me now q x)
   unfolding win
-  wins q x S self major within A = where_short (suc (epoch_of x.readings)) (wins_holds me now g Known (suc (epoch_of x.readings)) q x (omega arith) (even_of_odd (epoch_of x.readings) S.odd) self major S.queue S.unmarked within A)
+  wins q x S self major within A = if_short_value (suc (epoch_of x.readings)) (wins_holds me now g Known (suc (epoch_of x.readings)) q x (omega arith) (even_of_odd (epoch_of x.readings) S.odd) self major S.queue S.unmarked within A)
     where
-      where_short : (e : ℕ) → Then (Good me g Known) (x ▸ change (Epoch e) ▸ reign me now q) → Then (Good me g Known) ((checked which.Epoch e >>= (λ e. Ok (change (Epoch e) x))) >>= (λ y. reign me now q y))
-      where_short e k = cond_both (leb e (2 ^ 62)) (Ok e) (Err which.Epoch) (λ (r : Result ℕ Which). Then (Good me g Known) ((r >>= (λ e. Ok (change (Epoch e) x))) >>= (λ y. reign me now q y))) (λ _. k) (λ _. record { holds = tt })
+      if_short_value : (e : ℕ) → Then (Good me g Known) (x ▸ change (Epoch e) ▸ reign me now q) → Then (Good me g Known) ((checked which.Epoch e >>= (λ e. Ok (change (Epoch e) x))) >>= (λ y. reign me now q y))
+      if_short_value e k = cond_both (leb e (2 ^ 62)) (Ok e) (Err which.Epoch) (λ (r : Result ℕ Which). Then (Good me g Known) ((r >>= (λ e. Ok (change (Epoch e) x))) >>= (λ y. reign me now q y))) (λ _. k) (λ _. record { holds = tt })
 
   count_ack_holds : (f : ℕ) (x : Course) → f < me.member.monitors → x.state.phase ≡ phase.Electing → x.state.elector.candidate ≡ true → Good me g Known x → Then (Good me g Known) (count_ack me now f x)
   count_ack_holds f x known e c A =

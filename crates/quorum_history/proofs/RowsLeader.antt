@@ -2,7 +2,7 @@
 use Rattle.mon_msg.specs.Protocol.Collecting.{collect}
 use Rattle.mon_msg.specs.Protocol.Course.{Course, leader_is, ◌▸◌}
 use Rattle.mon_msg.specs.Protocol.Found.{better, counts, is_newer}
-use Rattle.mon_msg.specs.Protocol.Leader.{all_accepted, all_answered, commit_any, hear_accept, hear_last, hear_lease_ack, hear_whole, note, note_answer, note_told, of_member, renew}
+use Rattle.mon_msg.specs.Protocol.Leader.{all_accepted, all_answered, commit_any, hear_accept, hear_last, hear_lease_ack, hear_whole, note, note_answer, note_pending, of_member, renew}
 use Rattle.mon_msg.specs.Protocol.Leading.{extend}
 use Rattle.mon_msg.specs.Protocol.Learning.{learn, news, news_from}
 use Rattle.mon_msg.specs.Protocol.Phases.{same_phase}
@@ -166,9 +166,9 @@ module _ (me : Me) (now : ℕ) (g : Ghost) (Known : ℕ → List Op → Type 0) 
 
   note_holds : (f last : ℕ) (told : Option Told) (x : Course) → has x.state.leader.quorum f ≡ true → last ≤ x.readings.last → IfSome told (λ t. Val t.value)
       → ((h : Ghost) → Ext i g h → HeardNow h x f last told × IfSome told (λ t. (t.pn ≤ x.state.leader.pn) × Accepted h f (suc last) t.pn t.value)) → Gathering x → x.state.phase ≡ phase.Collecting → Then (Reaching 0) (note f last told x)
-  note_holds f last told x member le V new A e = subst (λ (t : Option Told). Then (Reaching 0) (note_told f last t x)) (sym (counted told V)) (by told new)
+  note_holds f last told x member le V new A e = subst (λ (t : Option Told). Then (Reaching 0) (note_pending f last t x)) (sym (counted told V)) (by told new)
     where
-      by : (t : Option Told) → ((h : Ghost) → Ext i g h → HeardNow h x f last t × IfSome t (λ t. (t.pn ≤ x.state.leader.pn) × Accepted h f (suc last) t.pn t.value)) → Then (Reaching 0) (note_told f last t x)
+      by : (t : Option Told) → ((h : Ghost) → Ext i g h → HeardNow h x f last t × IfSome t (λ t. (t.pn ≤ x.state.leader.pn) × Accepted h f (suc last) t.pn t.value)) → Then (Reaching 0) (note_pending f last t x)
       by None new = done (noted f last x.state.leader.found x (λ h E G p. let N = new h E in
           (record { joined = N.0.0; promised = N.0.1; covers = λ v r y a lt. elim (N.0.2 v r y a lt) [ inl s ↦ inl (omega arith) | inr c ↦ absurd (let q = c.2 in cc) ] }, p.1.found, λ v r l. l)) A e)
       by (Some t) new = where_fits (Reaching 0) which.Version (suc last) _ (λ _.

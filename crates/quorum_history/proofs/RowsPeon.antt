@@ -1,6 +1,6 @@
 -- The rows of a peon keep what holds.
 use Rattle.mon_lease.specs.Lease as lease
-use Rattle.mon_msg.specs.Protocol.Answers.{answer_of, last_answer, tells_all, told_of, told_values}
+use Rattle.mon_msg.specs.Protocol.Answers.{answer_of, last_answer, is_complete, told_of, sent_values}
 use Rattle.mon_msg.specs.Protocol.Changes.{Change, Promise, Vote}
 use Rattle.mon_msg.specs.Protocol.Course.{Course, arm, change, change_all, change_if, peon_is, ◌▸◌}
 use Rattle.mon_msg.specs.Protocol.Length.{fits}
@@ -51,7 +51,7 @@ module _ (me : Me) (now : ℕ) (g : Ghost) (Known : ℕ → List Op → Type 0) 
 
   module _ (h : Ghost) (to e base : ℕ) (w : Readings) (G : Glob n h) (D : Disk h i (own_of w) w.record_of) (u : w.marked ≡ false) (J : Joined h i e to) (behind : Had h ALevel to base) where
     abbrev told : List (List Op)
-    told = told_values n (promise_of w) w.first w.last w.record_of (suc base)
+    told = sent_values n (promise_of w) w.first w.last w.record_of (suc base)
 
     level : Had h ALevel i w.last
     level = had_down h ALevel i (level_in (own_of w)) w.last (D.numbers.now ALevel) (let s = level_is (own_of w) u in omega arith)
@@ -85,9 +85,9 @@ module _ (me : Me) (now : ℕ) (g : Ghost) (Known : ℕ → List Op → Type 0) 
 
     pub last_answer_holds : BodyHolds h i to e (last_answer n w (suc base))
     unfolding answer_of
-    last_answer_holds = by (tells_all n (promise_of w) w.first w.last (suc base) told (told_of (pending w))) refl
+    last_answer_holds = by (is_complete n (promise_of w) w.first w.last (suc base) told (told_of (pending w))) refl
       where
-        by : (b : Bool) → tells_all n (promise_of w) w.first w.last (suc base) told (told_of (pending w)) ≡ b
+        by : (b : Bool) → is_complete n (promise_of w) w.first w.last (suc base) told (told_of (pending w)) ≡ b
             → BodyHolds h i to e (cond b (body.Last (promise_of w) w.first w.last true (suc base) told (told_of (pending w))) (body.Last (promise_of w) w.first w.last false (suc base) told None))
         by true t = all_told (pending w) refl (let s = ltb-true w.last (suc base + length told) ((and_parts (ltb w.last (suc base + length told)) _ t).0) in omega arith)
         by false t = answers_with false None (λ c. absurd (false≢true c)) tt (λ c. absurd (false≢true c))

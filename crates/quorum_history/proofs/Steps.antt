@@ -14,7 +14,7 @@ use Rattle.mon_wire.specs.declared.body.Body.{Body}
 use Rattle.mon_wire.specs.declared.request.Session.{Session}
 use Rattle.quorum_history.proofs.Frame.{accepted_below, sent_lasts}
 use Rattle.quorum_history.proofs.Growing.{grows_by, grows_more, grows_not}
-use Rattle.quorum_history.proofs.History.{ALevel, ANumber, APromise, AnEpoch, Accepted, Ask, Asks, Entered, Entry, Ext, Ghost, Glob, Had, HadIn, Hand, Handed, HandsHold, NewEntry, Refuses, Rising, RolesHold, Sign, Triple, entry, ext_trans, had_lasts, hand, sign, triple}
+use Rattle.quorum_history.proofs.History.{ALevel, ANumber, APromise, AnEpoch, Accepted, Ask, Asks, Entered, Entry, Ext, Ghost, Glob, Had, HadIn, Hand, Handed, HandsHold, NewEntry, HasBlocker, Rising, RolesHold, Sign, Triple, entry, ext_trans, had_lasts, hand, sign, triple}
 use Rattle.quorum_history.proofs.Holds.{BodyHolds, Disk, Kept, Numbered, SentHolds, Tied, With, epoch_in, level_in, number_in_own, number_of, promise_in}
 use Rattle.quorum_walk.proofs.Lists.{Among, all_among, all_append, all_map, all_of, among_append, among_left}
 use Rattle.quorum_walk.proofs.Sparing.{Own}
@@ -126,7 +126,7 @@ signed_numbers i o o2 g up N = record { now = now; top = top }
     ]
 
 -- a value that can no longer be accepted can't be accepted later either
-pub refuses_later : (i : ℕ) (g h : Ghost) (E : Ext i g h) (Q : List Bool) (v r : ℕ) (y : List Op) → Refuses g.signs g.accepts Q v r y → Refuses h.signs h.accepts Q v r y
+pub refuses_later : (i : ℕ) (g h : Ghost) (E : Ext i g h) (Q : List Bool) (v r : ℕ) (y : List Op) → HasBlocker g.signs g.accepts Q v r y → HasBlocker h.signs h.accepts Q v r y
 refuses_later i g h E Q v r y k = record { m = k.m; within = k.within; above = had_lasts E APromise k.m (suc r) k.above; never = λ a. k.never (accepted_below i g h E k.m v r (suc r) y k.above (omega arith) a) }
 
 pub signed_glob : (n i : ℕ) (o : Own) (g : Ghost) → Glob n g → Glob n (signed i o g)

@@ -18,7 +18,7 @@ use Rattle.quorum_laws.proofs.Invariant.{InvOf}
 use Rattle.quorum_laws.proofs.Later.{Later}
 use Rattle.quorum_laws.proofs.Reading.{accepted_as, as_accepted, at_least, state_holds}
 use Rattle.quorum_laws.specs.Accepting.{HasAccepted, IsMajorityOf, readings_at}
-use Rattle.quorum_laws.specs.Values.{AcceptedNothing, IsChosen, KnowsOlder, LeadersKnow, LeavesNoRoom, OneValue, ProposesNew, Refuses, Repeats, has_heard}
+use Rattle.quorum_laws.specs.Values.{AcceptedNothing, IsChosen, KnowsOlder, LeadersKnow, LeavesNoRoom, OneValue, ProposesNew, HasBlocker, Repeats, has_heard}
 use Rattle.quorum_model.specs.Events.{AllFit}
 use Rattle.quorum_model.specs.Monitors.{Monitors}
 use Rattle.quorum_model.specs.Runs.{run}
@@ -54,7 +54,7 @@ module _ (ms : Monitors) (w : World) (I : InvOf ms w) where
   -- ---- no room for another
 
   -- a rank that refuses some changes refuses bytes that encode no other ones
-  refusing : (q : List Bool) (v lower : ℕ) (bytes : List ℕ) (y : List Op) → ((i : ℕ) (z : List Op) → history.Accepted I.g i v lower z → bytes ≡ text z → z ≡ y) → history.Refuses I.g.signs I.g.accepts q v lower y → Refuses w q v lower bytes
+  refusing : (q : List Bool) (v lower : ℕ) (bytes : List ℕ) (y : List Op) → ((i : ℕ) (z : List Op) → history.Accepted I.g i v lower z → bytes ≡ text z → z ≡ y) → history.HasBlocker I.g.signs I.g.accepts q v lower y → HasBlocker w q v lower bytes
   refusing q v lower bytes y same R = record {
     rank = R.m;
     within = R.within;
@@ -63,26 +63,26 @@ module _ (ms : Monitors) (w : World) (I : InvOf ms w) where
   }
 
   -- what was accepted and is encoded so is what the bytes encode
-  spelled_by : (i v p : ℕ) (bytes : List ℕ) (z : List Op) → history.Accepted I.g i v p z → bytes ≡ text z → transaction_in (Some bytes) ≡ Some z
-  spelled_by i v p bytes z a e = ap (λ (b : List ℕ). transaction_in (Some b)) e ∙ (I.glob.triples.fine i v p z a).reads
+  encoded_by : (i v p : ℕ) (bytes : List ℕ) (z : List Op) → history.Accepted I.g i v p z → bytes ≡ text z → transaction_in (Some bytes) ≡ Some z
+  encoded_by i v p bytes z a e = ap (λ (b : List ℕ). transaction_in (Some b)) e ∙ (I.glob.triples.fine i v p z a).reads
 
-  no_room : (i v pn lower : ℕ) (x : List Op) (other : List ℕ) (q : List Bool) → history.Accepted I.g i v pn x → lower < pn → (other ≡ text x → ⊥) → is_majority ms.count q ≡ true → Below ms.count q → Refuses w q v lower other
+  no_room : (i v pn lower : ℕ) (x : List Op) (other : List ℕ) (q : List Bool) → history.Accepted I.g i v pn x → lower < pn → (other ≡ text x → ⊥) → is_majority ms.count q ≡ true → Below ms.count q → HasBlocker w q v lower other
   no_room i v pn lower x other q a lt ne major below = by (transaction_in (Some other)) refl
     where
-      refuses : (y : List Op) → (y ≡ x → ⊥) → history.Refuses I.g.signs I.g.accepts q v lower y
+      refuses : (y : List Op) → (y ≡ x → ⊥) → history.HasBlocker I.g.signs I.g.accepts q v lower y
       refuses y differs = I.glob.triples.safe i v pn lower x y q a lt differs major below
 
       -- bytes that nobody accepted
-      unknown : ((j : ℕ) (z : List Op) → history.Accepted I.g j v lower z → other ≡ text z → ⊥) → Refuses w q v lower other
+      unknown : ((j : ℕ) (z : List Op) → history.Accepted I.g j v lower z → other ≡ text z → ⊥) → HasBlocker w q v lower other
       unknown none = refusing q v lower other (other_than x) (λ j z b e. absurd (none j z b e)) (refuses (other_than x) (is_other x))
 
-      spells : (y : List Op) → transaction_in (Some other) ≡ Some y → (other ≡ text y) ⊎ (other ≡ text y → ⊥) → Refuses w q v lower other
-      spells y t (inl e) = refusing q v lower other y (λ j z b f. let s : Some z ≡ Some y = sym (spelled_by j v lower other z b f) ∙ t in let r : z ≡ y = cc in r) (refuses y (λ d. ne (e ∙ ap text d)))
-      spells y t (inr no_text) = unknown (λ j z b f. let s : Some z ≡ Some y = sym (spelled_by j v lower other z b f) ∙ t in let r : z ≡ y = cc in no_text (f ∙ ap text r))
+      encodes : (y : List Op) → transaction_in (Some other) ≡ Some y → (other ≡ text y) ⊎ (other ≡ text y → ⊥) → HasBlocker w q v lower other
+      encodes y t (inl e) = refusing q v lower other y (λ j z b f. let s : Some z ≡ Some y = sym (encoded_by j v lower other z b f) ∙ t in let r : z ≡ y = cc in r) (refuses y (λ d. ne (e ∙ ap text d)))
+      encodes y t (inr no_text) = unknown (λ j z b f. let s : Some z ≡ Some y = sym (encoded_by j v lower other z b f) ∙ t in let r : z ≡ y = cc in no_text (f ∙ ap text r))
 
-      by : (r : Option (List Op)) → transaction_in (Some other) ≡ r → Refuses w q v lower other
-      by None t = unknown (λ j z b f. let s : Some z ≡ None = sym (spelled_by j v lower other z b f) ∙ t in absurd cc)
-      by (Some y) t = spells y t (same_bytes other (text y))
+      by : (r : Option (List Op)) → transaction_in (Some other) ≡ r → HasBlocker w q v lower other
+      by None t = unknown (λ j z b f. let s : Some z ≡ None = sym (encoded_by j v lower other z b f) ∙ t in absurd cc)
+      by (Some y) t = encodes y t (same_bytes other (text y))
 
   pub leaves_no_room : LeavesNoRoom ms.count w
   leaves_no_room i v pn lower bytes other q a lt ne Q =

@@ -3,7 +3,7 @@ use Rattle.mon_bytes.specs.declared.command.Command.{Command}
 use Rattle.mon_kv.specs.Readers.{most_size, size_of}
 use Rattle.mon_msg.proofs.Changed.{readings-joined}
 use Rattle.mon_msg.specs.Joined.{joined}
-use Rattle.mon_msg.specs.Protocol.Changes.{spelled}
+use Rattle.mon_msg.specs.Protocol.Changes.{encoded}
 use Rattle.mon_msg.specs.Protocol.Course.{Course}
 use Rattle.mon_msg.specs.Protocol.Reaction.{Reaction, any_reaction, reaction_of}
 use Rattle.mon_msg.specs.Protocol.Phases.{is_member}
@@ -38,13 +38,13 @@ use Rattle.quorum_model.specs.Happens.{Full, Stop, after_meeting, happens, in_wo
 use Rattle.quorum_model.specs.Meets.{Meeting, Reacts}
 use Rattle.quorum_model.specs.Monitors.{Monitors}
 use Rattle.quorum_model.specs.Runs.{goes_on, ran_from, run, run_from}
-use Rattle.quorum_model.specs.World.{Asked, Comes, Crash, Envelope, Event, Plain, World, first_world, plain_of}
+use Rattle.quorum_model.specs.World.{Asked, Arrives, Crash, Envelope, Event, Plain, World, first_world, plain_of}
 use Rattle.quorum_walk.proofs.FineCourses.{begun, still, Ended, EntryFine, Fine, fit_fits}
 use Rattle.quorum_walk.proofs.FineTable.{ComesFine, react_fine}
 use Rattle.quorum_walk.proofs.Lists.{Among, all_append}
 use Rattle.quorum_walk.proofs.Sparing.{own_of}
 use Rattle.quorum_walk.proofs.Walk.{Then}
-pub use Rattle.quorum_laws.proofs.Meetings.{Arrives, IsNoted, ToldOf, member_of}
+pub use Rattle.quorum_laws.proofs.Meetings.{Arriving, IsNoted, ToldOf, member_of}
 use Rattle.quorum_laws.proofs.Meetings.{OfMeeting, each_meeting}
 use Rattle.std.proofs.Common.{Bool, Err, IfSome, List, None, Ok, Option, Result, Some, [], ap, arith, cond, eqb, false, inl, inr, ltb, refl, subst, sym, true, ℕ, ◌%◌, ◌++◌, ◌<◌, ◌∙◌, ◌∷◌, ◌≡◌, ◌≤◌, ◌⊎◌}
 use Rattle.std.proofs.lemmas.Bool.{cond_both, eqb-true, false≢true}
@@ -85,7 +85,7 @@ module _ (store : ℕ → Store) (state : ℕ → Option State) (txs : ℕ → L
     ended = (subst (Then (Ended (begun me (readings_of m) s came))) is (react_fine me at made (shared_entries m) shares (readings_of m) s came d (fine_at_first s z))).holds
 
     abbrev tx : List Op
-    tx = joined (spelled x.changes)
+    tx = joined (encoded x.changes)
 
     abbrev next : Store
     next = apply tx m
@@ -210,7 +210,7 @@ unless_full P m next r p = cond_both (ltb most_size (size_of (apply r.transactio
 module _ (ms : Monitors) (w : World) (Told : Envelope → Type 0) where
   -- and what it does
   pub record Does (asked : List Asked) (I : InvWith ms w asked) : Type 0 where
-    pub by : Arrives ms w Told asked I
+    pub by : Arriving ms w Told asked I
     pub y : Course
     pub is : react (member_of ms by.rank by.lt) (shared_entries (w.store by.rank)) by.at (readings_of (w.store by.rank)) by.state by.came ≡ Ok y
 
@@ -223,7 +223,7 @@ module _ (ms : Monitors) (w : World) (Told : Envelope → Type 0) where
 
   -- it comes, or with it a crash that keeps or loses what is written
   abbrev event_of : Option Bool → Plain → Event
-  event_of None p = Comes p
+  event_of None p = Arrives p
   event_of (Some kept) p = Crash p kept
 
   -- what becomes of what it meets
@@ -231,7 +231,7 @@ module _ (ms : Monitors) (w : World) (Told : Envelope → Type 0) where
   Follows P p how met = IfOk (after_meeting w (event_of how p) met) P
 
   module _ (P : World → Type 0) (p : Plain) (I : InvWith ms w (with_asked p w.asked)) (K : Keeps p I P) where
-    reacts : (how : Option Bool) (A : Arrives ms w Told (with_asked p w.asked) I) (r : Result Course Which)
+    reacts : (how : Option Bool) (A : Arriving ms w Told (with_asked p w.asked) I) (r : Result Course Which)
         → react (member_of ms A.rank A.lt) (shared_entries (w.store A.rank)) A.at (readings_of (w.store A.rank)) A.state
         A.came ≡ r
         → Follows P p how (Reacts A.rank A.came (any_reaction r))
@@ -256,7 +256,7 @@ module _ (ms : Monitors) (w : World) (Told : Envelope → Type 0) where
 
     pub each_event : AllByRecursion Told w.messages → (e : Event) → PlainFits ms.count (plain_of e)
         → AllKeep (plain_of e) → IfOk (happens ms w e) P
-    each_event T (Comes p) F K =
+    each_event T (Arrives p) F K =
         each_meeting ms w Told I (Follows P p None) T p F (λ J up. follows P p J (K J up) None)
     each_event T (Crash p kept) F K =
         each_meeting ms w Told I (Follows P p (Some kept)) T p F (λ J up. follows P p J (K J up) (Some kept))

@@ -136,8 +136,8 @@ IsNoted asked rank (input.Client s r) = Contains asked (record { rank = rank; se
 IsNoted asked rank other = Unit {0}
 
 module _ (ms : Monitors) (w : World) (Told : Envelope → Type 0) where
-  -- what comes to a monitor that is up, or that starts
-  pub record Arrives (asked : List Asked) (I : InvWith ms w asked) : Type 0 where
+  -- what arrives at a monitor that is up, or that starts
+  pub record Arriving (asked : List Asked) (I : InvWith ms w asked) : Type 0 where
     pub rank : ℕ
     pub lt : ltb rank ms.count ≡ true
     pub at : ℕ
@@ -156,7 +156,7 @@ module _ (ms : Monitors) (w : World) (Told : Envelope → Type 0) where
   pub record OfMeeting (p : Plain) (I : InvWith ms w (with_asked p w.asked)) (Q : Meeting → Type 0) : Type 0 where
     pub down : Q Down
     pub none : Q NoMessage
-    pub reacts : (A : Arrives (with_asked p w.asked) I) (r : Result Course Which)
+    pub reacts : (A : Arriving (with_asked p w.asked) I) (r : Result Course Which)
         → react (member_of ms A.rank A.lt) (shared_entries (w.store A.rank)) A.at (readings_of (w.store A.rank))
         A.state A.came ≡ r → Q (Reacts A.rank A.came (any_reaction r))
 

@@ -2,7 +2,7 @@
 use Rattle.log_model.proofs.Spares.{after_spared, spares_learned}
 use Rattle.mon_msg.proofs.Changed.{readings-joined}
 use Rattle.mon_msg.specs.Joined.{joined}
-use Rattle.mon_msg.specs.Protocol.Changes.{Boot, Change, Copy, Epoch, Last, Learn, Mark, Numbers, Promise, Record, Unmark, Vote, ops_of, spelled}
+use Rattle.mon_msg.specs.Protocol.Changes.{Boot, Change, Copy, Epoch, Last, Learn, Mark, Numbers, Promise, Record, Unmark, Vote, ops_of, encoded}
 use Rattle.mon_msg.specs.Protocol.Played.{play, played}
 use Rattle.mon_msg.specs.Protocol.Readings.{Readings, number_if_there, readings_of}
 use Rattle.mon_tx.specs.Keys.{place}
@@ -74,7 +74,7 @@ no_vote : (v p : ℕ) (x : List Op) (cs : List Change) → Calm cs → Among (Vo
 no_vote v p x cs k a = all_among IsCalm (Vote v p x) cs a k
 
 module _ (cs : List Change) (S : Shaped cs) (F : AllByRecursion Fit cs) where
-  put : put_alone (joined (spelled cs)) ≡ played cs nothing
+  put : put_alone (joined (encoded cs)) ≡ played cs nothing
   put = readings-joined cs (fit_fits cs F) empty
 
   -- the vote that ends them
@@ -91,7 +91,7 @@ module _ (cs : List Change) (S : Shaped cs) (F : AllByRecursion Fit cs) where
   same_vote v p w q x y a b c = λ k. Vote (a k) (b k) (c k)
 
   -- what the transaction accepts is a vote
-  pub accepts_vote : (v p : ℕ) (bytes : List ℕ) → Accepts (joined (spelled cs)) v p bytes → (x : List Op) × (bytes ≡ text x) × Among (Vote v p x) cs
+  pub accepts_vote : (v p : ℕ) (bytes : List ℕ) → Accepts (joined (encoded cs)) v p bytes → (x : List Op) × (bytes ≡ text x) × Among (Vote v p x) cs
   accepts_vote v p bytes A = by S
     where
       by : Shaped cs → (x : List Op) × (bytes ≡ text x) × Among (Vote v p x) cs
@@ -109,10 +109,10 @@ module _ (cs : List Change) (S : Shaped cs) (F : AllByRecursion Fit cs) where
           (E.value, same, subst (Among (Vote v p E.value)) (sym E.is) (among_right (Vote v p E.value) E.before (Vote E.v E.pn E.value ∷ []) (inl (same_vote v p E.v E.pn E.value E.value v_is p_is refl))))
 
   -- and a vote is accepted by it
-  pub vote_accepted : (v p : ℕ) (x : List Op) → 1 ≤ v → Among (Vote v p x) cs → Accepts (joined (spelled cs)) v p (text x)
+  pub vote_accepted : (v p : ℕ) (x : List Op) → 1 ≤ v → Among (Vote v p x) cs → Accepts (joined (encoded cs)) v p (text x)
   vote_accepted v p x some a = by S
     where
-      at : (E : EndsInVote cs) → Vote v p x ≡ Vote E.v E.pn E.value → Accepts (joined (spelled cs)) v p (text x)
+      at : (E : EndsInVote cs) → Vote v p x ≡ Vote E.v E.pn E.value → Accepts (joined (encoded cs)) v p (text x)
       at E e =
           let v_is : v ≡ E.v = cc in
           let p_is : p ≡ E.pn = cc in
@@ -124,7 +124,7 @@ module _ (cs : List Change) (S : Shaped cs) (F : AllByRecursion Fit cs) where
             value = ap (λ (w : Readings). w.record_of v) put ∙ voted E v v_is ∙ ap (λ (y : List Op). Some (text y)) (sym x_is);
           }
 
-      by : Shaped cs → Accepts (joined (spelled cs)) v p (text x)
+      by : Shaped cs → Accepts (joined (encoded cs)) v p (text x)
       by (inl calm) = absurd (no_vote v p x cs calm a)
       by (inr (inr E)) = elim (among_append (Vote v p x) E.before (Mark E.floor E.last_pn E.promise ∷ []) (subst (Among (Vote v p x)) E.is a)) [
         | inl b ↦ absurd (no_vote v p x E.before E.calm b)
@@ -136,7 +136,7 @@ module _ (cs : List Change) (S : Shaped cs) (F : AllByRecursion Fit cs) where
       ]
 
   -- what it collects under is a new number
-  pub collects_number : (p : ℕ) → Collects (joined (spelled cs)) p → Among (Numbers p) cs
+  pub collects_number : (p : ℕ) → Collects (joined (encoded cs)) p → Among (Numbers p) cs
   collects_number p C = by S
     where
       from_nothing : (ds : List Change) → (nothing.last_pn ≡ Some p) ⊎ Among (Numbers p) ds → Among (Numbers p) ds

@@ -1,7 +1,7 @@
 -- Every list of events keeps what holds.
 use Rattle.mon_msg.specs.declared.view.Me.{Me}
 use Rattle.mon_msg.specs.Joined.{joined}
-use Rattle.mon_msg.specs.Protocol.Changes.{Change, Vote, spelled}
+use Rattle.mon_msg.specs.Protocol.Changes.{Change, Vote, encoded}
 use Rattle.mon_msg.specs.Protocol.Readings.{Readings}
 use Rattle.mon_msg.specs.Protocol.State.{State}
 use Rattle.mon_msg.specs.declared.plan.Sent.TheVariants as sent
@@ -86,7 +86,7 @@ fine_envelopes me (sent.Reply to r ∷ sends) k = fine_envelopes me sends k.1
 
 module _ (i : ℕ) (g h : Ghost) (cs : List Change) (T : Tied i g h cs) (S : Shaped cs) (F : AllByRecursion Fit cs) (some : (j v p : ℕ) (x : List Op) → Accepted h j v p x → 1 ≤ v) (txs : ℕ → List (List Op)) (K : TriplesKept g txs) (lasts : (j v p : ℕ) (x : List Op) → Accepted g j v p x → Accepted h j v p x) where
   abbrev tx : List Op
-  tx = joined (spelled cs)
+  tx = joined (encoded cs)
 
   abbrev after_txs : ℕ → List (List Op)
   after_txs = put_at txs i (txs i ++ tx ∷ [])

@@ -24,7 +24,7 @@ use Rattle.std.specs.Prelude.{if◌then◌else◌}
 abbrev pub level_of : Readings → ℕ
 level_of w = if w.marked then w.floor else w.last
 
-pub record NeverFall (w next : World) (i : ℕ) : Type 0 where
+pub record NeverDecrease (w next : World) (i : ℕ) : Type 0 where
   pub epoch : epoch_of (readings_at w i) ≤ epoch_of (readings_at next i)
   pub promise : promise_of (readings_at w i) ≤ promise_of (readings_at next i)
   pub level : level_of (readings_at w i) ≤ level_of (readings_at next i)

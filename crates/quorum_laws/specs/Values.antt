@@ -15,7 +15,7 @@ abbrev pub OneValue : World → Type 0
 OneValue w = (i j v pn : ℕ) (bytes other : List ℕ) → HasAccepted w i v pn bytes → HasAccepted w j v pn other → bytes ≡ other
 
 -- a rank of the set that promised more than this number, and didn't accept these bytes under it
-pub record Refuses (w : World) (q : List Bool) (v pn : ℕ) (bytes : List ℕ) : Type 0 where
+pub record HasBlocker (w : World) (q : List Bool) (v pn : ℕ) (bytes : List ℕ) : Type 0 where
   pub rank : ℕ
   pub within : has q rank ≡ true
   pub promised : pn < promise_of (readings_at w rank)
@@ -25,7 +25,7 @@ pub record Refuses (w : World) (q : List Bool) (v pn : ℕ) (bytes : List ℕ) :
 -- more.
 abbrev pub LeavesNoRoom : ℕ → World → Type 0
 LeavesNoRoom n w = (i v pn lower : ℕ) (bytes other : List ℕ) (q : List Bool) → HasAccepted w i v pn bytes → lower < pn
-    → ¬ (other ≡ bytes) → IsMajorityOf n q → Refuses w q v lower other
+    → ¬ (other ≡ bytes) → IsMajorityOf n q → HasBlocker w q v lower other
 
 -- a rank of the set that promised more than this number, and accepted nothing for the version under it
 pub record AcceptedNothing (w : World) (q : List Bool) (v pn : ℕ) : Type 0 where

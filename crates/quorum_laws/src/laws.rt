@@ -7,7 +7,7 @@ ghost use Rattle.quorum_model.specs.World.{Event};
 ghost use Rattle.quorum_laws.specs.Commands.{CommandsHold};
 ghost use Rattle.quorum_laws.specs.Elections.{ActiveAreLed, EpochsSent, IsMember, IsQuorum};
 ghost use Rattle.quorum_laws.specs.Leases.{LeasesHold};
-ghost use Rattle.quorum_laws.specs.Promises.{AllNumbersRise, AllRemember, AnswersCover, NeverFall, NumbersHold, ValuesAlone};
+ghost use Rattle.quorum_laws.specs.Promises.{AllNumbersRise, AllRemember, AnswersCover, NeverDecrease, NumbersHold, ValuesAlone};
 ghost use Rattle.quorum_laws.specs.Values.{IsChosen, LeadersKnow, LeavesNoRoom, OneValue, ProposesNew};
 
 /// No epoch has two active leaders, in no run of any monitors: whatever is lost, repeated or late, and wherever monitors crash.
@@ -50,7 +50,7 @@ pub fn law_promises()
     ensures numbers { (ms : Monitors) (events : List Event) → AllFit ms.count events → NumbersHold (run ms events) }
     ensures collects { (ms : Monitors) (events : List Event) → AllFit ms.count events → AllNumbersRise (run ms events) }
     ensures rising { (ms : Monitors) (before after : List Event) → AllFit ms.count (before ++ after) → (i : ℕ)
-        → NeverFall (run ms before) (run ms (before ++ after)) i }
+        → NeverDecrease (run ms before) (run ms (before ++ after)) i }
     ensures remembered { (ms : Monitors) (events : List Event) → AllFit ms.count events → AllRemember (run ms events) }
     ensures covered { (ms : Monitors) (events : List Event) → AllFit ms.count events → AnswersCover (run ms events) }
     ensures values { (ms : Monitors) (events : List Event) → AllFit ms.count events → ValuesAlone (run ms events) }

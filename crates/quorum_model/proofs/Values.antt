@@ -17,13 +17,13 @@ module _ (n : ℕ) (most : n ≤ 15) (w : World) (agree : Agree n w) where
     rank = let r = h.rank in omega arith;
     newer = h.ops;
     made = h.made;
-    spelled = older_itself h.ops;
+    encoded = older_itself h.ops;
   }
 
   all_values : AllValues w.log
   all_values v lt =
       let h = agree.values v lt in
-      record { changes = h.ops; value = is_value v h; spells = h.spells }
+      record { changes = h.ops; value = is_value v h; encodes = h.encodes }
 
 pub safe_values : (ms : Monitors) (events : List Event) → Safe ms events → AllValues (run ms events).log
 safe_values ms events safe = all_values ms.count ms.most (run ms events) safe.agree

@@ -11,9 +11,9 @@ use Rattle.mon_msg.specs.declared.input.Input.{Input}
 use Rattle.quorum_model.specs.Happens.{Stop, Full, map_after, unmoved, lost, kept_only, moved, unless_stopped, in_world, after_meeting, happens}
 use Rattle.quorum_model.specs.Meets.{Meeting, NoMessage, Down, Reacts, meets}
 use Rattle.quorum_model.specs.Monitors.{Monitors}
-use Rattle.quorum_model.specs.Runs.{goes_on, ran_from, run_from, run, writes_at, writes_of, where_on, all_writes}
+use Rattle.quorum_model.specs.Runs.{goes_on, ran_from, run_from, run, writes_at, writes_of, if_continued, all_writes}
 use Rattle.quorum_model.specs.Safe.{after_transactions}
-use Rattle.quorum_model.specs.World.{World, Plain, Event, Comes, Crash, first_world}
+use Rattle.quorum_model.specs.World.{World, Plain, Event, Arrives, Crash, first_world}
 
 push_at : (w : World) (rank : ℕ) (r : Reaction) (i : ℕ)
     → cond (eqb i rank) (w.transactions rank ++ r.transaction ∷ []) (w.transactions i) ≡ w.transactions i ++ cond (eqb i rank) (r.transaction ∷ []) []
@@ -28,7 +28,7 @@ module _ (ms : Monitors) (es : List Event) (i : ℕ) (others : (next : World) �
   -- later events, if the event doesn't stop the run.
   abbrev IsWritten : List (List Op) → Result World Stop → Type 0
   IsWritten first next =
-      (goes_on w (λ next. ran_from ms next es) next).world.transactions i ≡ w.transactions i ++ where_on (λ next. first ++ all_writes ms next es i) next
+      (goes_on w (λ next. ran_from ms next es) next).world.transactions i ≡ w.transactions i ++ if_continued (λ next. first ++ all_writes ms next es i) next
 
   goes : (first : List (List Op)) (next : World) → next.transactions i ≡ w.transactions i ++ first → IsWritten first (Ok next)
   goes first next e =
@@ -46,7 +46,7 @@ module _ (ms : Monitors) (es : List Event) (i : ℕ) (others : (next : World) �
       by true = sym (append-nil (w.transactions i))
       by false = goes (writes_at i (Reacts rank came (Ok r))) (next r) (e r ∙ push_at w rank r i)
 
-  comes : (p : Plain) (met : Meeting) → IsWritten (writes_at i met) (after_meeting w (Comes p) met)
+  comes : (p : Plain) (met : Meeting) → IsWritten (writes_at i met) (after_meeting w (Arrives p) met)
   unfolding unmoved moved
   comes p NoMessage = stays (unmoved w p) refl
   comes p Down = stays (unmoved w p) refl
@@ -65,7 +65,7 @@ module _ (ms : Monitors) (es : List Event) (i : ℕ) (others : (next : World) �
   loses p (Reacts rank came r) = stays (lost w p rank) refl
 
   event : (e : Event) → IsWritten (writes_of ms w e i) (happens ms w e)
-  event (Comes p) = comes p (meets ms w p)
+  event (Arrives p) = comes p (meets ms w p)
   event (Crash p true) = keeps p (meets ms w p)
   event (Crash p false) = loses p (meets ms w p)
 

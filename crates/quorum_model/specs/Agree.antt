@@ -37,7 +37,7 @@ pub record IsAsked (n : ℕ) (asked : List Asked) (log : List (List ℕ)) (v : �
   pub ops : List Op
   pub made : value (view_at log v) command by.rank ≡ Ok ops
   pub has_text : HasText ops
-  pub spells : entry log (suc v) ≡ text ops
+  pub encodes : entry log (suc v) ≡ text ops
 
 -- a monitor under a full synchronization has no committed versions
 pub record Agree (n : ℕ) (w : World) : Type 0 where

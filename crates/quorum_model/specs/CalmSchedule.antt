@@ -11,7 +11,7 @@ use Rattle.mon_wire.specs.declared.request.Session.{Session}
 use Rattle.log_model.specs.LogOfValues.{IsCommand}
 use Rattle.quorum_model.specs.Monitors.{Monitors, classic}
 use Rattle.quorum_model.specs.Runs.{run, run_from}
-use Rattle.quorum_model.specs.World.{World, Event, Comes, Start, Deliver, Client}
+use Rattle.quorum_model.specs.World.{World, Event, Arrives, Start, Deliver, Client}
 
 -- a command, and the rank that is asked
 abbrev pub Order : Type 0
@@ -35,11 +35,11 @@ session j = record { client = 1; id = j }
 
 -- what it asks a monitor in that session
 abbrev pub asks : (j rank : ℕ) → Request → Event
-asks j rank r = Comes (Client rank 0 (session j) r)
+asks j rank r = Arrives (Client rank 0 (session j) r)
 
 -- the numbers of the messages that events deliver, in order
 abbrev pub number_delivered : Event → Option ℕ
-number_delivered (Comes (Deliver k at)) = Some k
+number_delivered (Arrives (Deliver k at)) = Some k
 number_delivered other = None
 
 abbrev pub numbers_delivered : List Event → List ℕ
@@ -53,7 +53,7 @@ unfoldable pub deliveries : Monitors → (most k : ℕ) → World → List Event
 deliveries ms zero k w = []
 deliveries ms (suc most) k w =
     if nat_le k (length w.messages)
-    then Comes (Deliver k 0) ∷ deliveries ms most (suc k) (run_from ms w (Comes (Deliver k 0) ∷ []))
+    then Arrives (Deliver k 0) ∷ deliveries ms most (suc k) (run_from ms w (Arrives (Deliver k 0) ∷ []))
     else []
 
 -- A bound on the deliveries after the starts, or after one command: 15 monitors send fewer messages. It is no
@@ -71,7 +71,7 @@ then_delivered ms before more =
 
 -- all monitors start
 abbrev pub starts : Monitors → List Event
-starts ms = then_delivered ms [] (map (λ i. Comes (Start i 0)) (range_with_len 0 ms.count))
+starts ms = then_delivered ms [] (map (λ i. Arrives (Start i 0)) (range_with_len 0 ms.count))
 
 -- Then each command comes in a session of its own. The first of these commands comes in the j-th session.
 unfoldable pub asks_all : Monitors → (j : ℕ) → List Event → List Order → List Event

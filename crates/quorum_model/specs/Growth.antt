@@ -15,10 +15,10 @@ abbrev pub record_in : Store → ℕ → List ℕ
 record_in m v = unwrap_or (cell m area.Paxos (key.Version v)) []
 
 -- this many records of a map after version v
-abbrev pub records_behind : Store → (v count : ℕ) → List (List ℕ)
-records_behind m v count = map (record_in m) (range_with_len (suc v) count)
+abbrev pub records_after : Store → (v count : ℕ) → List (List ℕ)
+records_after m v count = map (record_in m) (range_with_len (suc v) count)
 
 -- The log and the records that are new in a map. A map under a full synchronization adds none: it has no committed
 -- versions.
 unfoldable pub grown : List (List ℕ) → Store → List (List ℕ)
-grown log m = if is_marked m then log else log ++ records_behind m (length log) (last_of m - length log)
+grown log m = if is_marked m then log else log ++ records_after m (length log) (last_of m - length log)

@@ -12,7 +12,7 @@ use Rattle.quorum_model.specs.Clients.{with_asked, messages_of, replies_of}
 use Rattle.quorum_model.specs.Growth.{grown}
 use Rattle.quorum_model.specs.Meets.{Meeting, Reacts, meets}
 use Rattle.quorum_model.specs.Monitors.{Monitors}
-use Rattle.quorum_model.specs.World.{World, Plain, Event, Comes, Crash, plain_of}
+use Rattle.quorum_model.specs.World.{World, Plain, Event, Arrives, Crash, plain_of}
 
 -- an active leader
 abbrev pub is_active : Phase → Bool
@@ -89,7 +89,7 @@ in_world next (Err stop) = Err stop
 -- The world after a meeting, or what stops the run. A crash that loses what is written never stops the run, whatever
 -- the reaction was.
 abbrev pub after_meeting : World → Event → Meeting → Result World Stop
-after_meeting w (Comes p) (Reacts i input result) = in_world (moved w p i) (unless_stopped (w.store i) result)
+after_meeting w (Arrives p) (Reacts i input result) = in_world (moved w p i) (unless_stopped (w.store i) result)
 after_meeting w (Crash p true) (Reacts i input result) = in_world (kept_only w p i) (unless_stopped (w.store i) result)
 after_meeting w (Crash p false) (Reacts i input result) = Ok (lost w p i)
 after_meeting w e other = Ok (unmoved w (plain_of e))

@@ -15,7 +15,7 @@ pub mod Runs
 pub mod Safe
 pub mod Scenes
 pub mod Shown
-pub mod Upsets
+pub mod InjectedFaults
 pub mod World
 pub use Rattle.log_model.specs.LogOfValues
 pub use Rattle.log_model.specs.Windows

@@ -40,11 +40,11 @@ abbrev pub writes_of : Monitors → World → Event → ℕ → List (List Op)
 writes_of ms w (Crash p false) i = []
 writes_of ms w e i = writes_at i (meets ms w (plain_of e))
 
-abbrev pub where_on : (World → List (List Op)) → Result World Stop → List (List Op)
-where_on others (Ok next) = others next
-where_on others (Err stop) = []
+abbrev pub if_continued : (World → List (List Op)) → Result World Stop → List (List Op)
+if_continued others (Ok next) = others next
+if_continued others (Err stop) = []
 
 -- the transactions of events from a world on, in order, up to the first event that stops the run
 unfoldable pub all_writes : Monitors → World → List Event → ℕ → List (List Op)
 all_writes ms w [] i = []
-all_writes ms w (e ∷ es) i = where_on (λ next. writes_of ms w e i ++ all_writes ms next es i) (happens ms w e)
+all_writes ms w (e ∷ es) i = if_continued (λ next. writes_of ms w e i ++ all_writes ms next es i) (happens ms w e)

@@ -13,8 +13,8 @@ use Rattle.quorum_model.specs.Files.{Files, no_files, after_opening, after_appen
 use Rattle.quorum_model.specs.Happens.{Stop, happens, put_at}
 use Rattle.quorum_model.specs.Meets.{Meeting, Reacts, meets}
 use Rattle.quorum_model.specs.Monitors.{Monitors}
-use Rattle.quorum_model.specs.Upsets.{Upset, opening_count, crash_keeps}
-use Rattle.quorum_model.specs.World.{World, Plain, Event, Comes, Crash, first_world}
+use Rattle.quorum_model.specs.InjectedFaults.{InjectedFault, opening_count, crash_keeps}
+use Rattle.quorum_model.specs.World.{World, Plain, Event, Arrives, Crash, first_world}
 
 pub record Scene : Type 0 where
   pub world : World
@@ -27,7 +27,7 @@ first_scene = record { world = first_world; files = λ _. no_files }
 -- is down.
 pub record Scheduled : Type 0 where
   pub plain : Plain
-  pub upset : Option Upset
+  pub injected : Option InjectedFault
 
 -- ---- the event of an entry
 
@@ -37,16 +37,16 @@ opening_of input.Start disk f = opening_count disk f
 opening_of other disk f = 0
 
 -- whether what is written at a meeting is kept
-abbrev pub kept_at : Scene → Upset → Meeting → Bool
+abbrev pub kept_at : Scene → InjectedFault → Meeting → Bool
 kept_at c u (Reacts i came result) = crash_keeps (c.files i) (c.world.store i) (opening_of came u.disk (c.files i)) u result
 kept_at c u other = false
 
-abbrev pub event_at : Scene → Plain → Option Upset → Meeting → Event
-event_at c p None met = Comes p
+abbrev pub event_at : Scene → Plain → Option InjectedFault → Meeting → Event
+event_at c p None met = Arrives p
 event_at c p (Some u) met = Crash p (kept_at c u met)
 
 abbrev pub event_in : Monitors → Scene → Scheduled → Event
-event_in ms c e = event_at c e.plain e.upset (meets ms c.world e.plain)
+event_in ms c e = event_at c e.plain e.injected (meets ms c.world e.plain)
 
 -- ---- the scene after an entry
 
@@ -59,11 +59,11 @@ files_at input.Start f = after_opening f
 files_at other f = f
 
 -- a monitor's files after its reaction to an input over a map
-abbrev pub files_after : Option Upset → Input → Files → Store → List Op → Files
+abbrev pub files_after : Option InjectedFault → Input → Files → Store → List Op → Files
 files_after None came f m ops = after_checkpoint (apply ops m) (after_append ops (files_at came f))
 files_after (Some u) came f m ops = files_cut f m (opening_of came u.disk f) u ops
 
-abbrev pub all_files_after : Scene → Option Upset → Meeting → ℕ → Files
+abbrev pub all_files_after : Scene → Option InjectedFault → Meeting → ℕ → Files
 all_files_after c u (Reacts i came result) =
     put_at c.files i (files_after u came (c.files i) (c.world.store i) (ops_of result))
 all_files_after c u other = c.files
@@ -75,7 +75,7 @@ with_files files (Err stop) = Err stop
 -- the scene after an entry, or what stops the run before it
 abbrev pub scene_after : Monitors → Scene → Scheduled → Result Scene Stop
 scene_after ms c e =
-    with_files (all_files_after c e.upset (meets ms c.world e.plain)) (happens ms c.world (event_in ms c e))
+    with_files (all_files_after c e.injected (meets ms c.world e.plain)) (happens ms c.world (event_in ms c e))
 
 -- ---- the run
 

@@ -27,11 +27,11 @@ pub data Plain : Type 0 where
 
 -- The monitor reacts to what comes; or it crashes before it sends anything, and what it writes is kept or lost.
 pub data Event : Type 0 where
-  Comes : (plain : Plain) → Event
+  Arrives : (plain : Plain) → Event
   Crash : (plain : Plain) → (kept : Bool) → Event
 
 abbrev pub plain_of : Event → Plain
-plain_of (Comes p) = p
+plain_of (Arrives p) = p
 plain_of (Crash p kept) = p
 
 -- ---- what there is

@@ -3,7 +3,7 @@ use Rattle.log_model.specs.Windows.{Keeps, first_read, log_from}
 use Rattle.mon_msg.specs.Protocol.Changes.{Boot, Change, Copy, Epoch, Last, Learn, Mark, Numbers, Promise, Record, Unmark, Vote}
 use Rattle.mon_msg.specs.Protocol.Played.{play, played}
 use Rattle.mon_msg.specs.Protocol.Readings.{Readings}
-use Rattle.mon_msg.specs.Protocol.Records.{found_as, pending, pending_of, record_at, where_short}
+use Rattle.mon_msg.specs.Protocol.Records.{found_as, pending, pending_of, record_at, if_short_value}
 use Rattle.mon_msg.specs.Protocol.Synchronizing.{floor_of, pending_version}
 use Rattle.mon_tx.specs.Decision.{Cell}
 use Rattle.mon_tx.specs.declared.op.Op.{Op}
@@ -56,7 +56,7 @@ low_played end (c ∷ cs) w k f low = low_played end cs (play c w) k.1 f.1 (low_
 pending_next : (v pn last : ℕ) (records : ℕ → Cell) → pending_version (pending_of v pn last records) ≤ suc last
 unfolding pending_of
 pending_next v pn last records = cond_both (eqb v (suc last)) (found_as v pn (record_at records (suc last))) None (λ f. pending_version f ≤ suc last)
-    (λ t. let e = eqb-true v (suc last) t in by e (option_and_then where_short (record_at records (suc last)))) (λ _. omega arith)
+    (λ t. let e = eqb-true v (suc last) t in by e (option_and_then if_short_value (record_at records (suc last)))) (λ _. omega arith)
   where
     by : v ≡ suc last → (o : Option (List Op)) → pending_version (option_map (λ short. record { version = v; pn = pn; value = short }) o) ≤ suc last
     by e None = omega arith

@@ -1,10 +1,10 @@
 -- Every event leaves the floors of full synchronizations far below the end of the log.
 use Rattle.log_copies.proofs.Standing.{Agrees}
-use Rattle.log_copies.proofs.Telling.{monitor_keeps, read_last}
+use Rattle.log_copies.proofs.Matching.{monitor_keeps, read_last}
 use Rattle.log_model.specs.Windows.{Keeps}
 use Rattle.mon_kv.specs.Readers.{is_marked}
 use Rattle.mon_msg.specs.Joined.{joined}
-use Rattle.mon_msg.specs.Protocol.Changes.{Change, Mark, spelled}
+use Rattle.mon_msg.specs.Protocol.Changes.{Change, Mark, encoded}
 use Rattle.mon_msg.specs.Protocol.Played.{play, played}
 use Rattle.mon_msg.specs.Protocol.Readings.{Readings, readings_of, shared_entries}
 use Rattle.mon_msg.specs.Protocol.Synchronizing.{floor_of}
@@ -19,14 +19,14 @@ use Rattle.mon_tx.specs.declared.key.Key.{Key}
 use Rattle.mon_tx.specs.declared.key.Key.TheVariants as key
 use Rattle.mon_wire.specs.declared.body.Body.{Body}
 use Rattle.mon_wire.specs.declared.body.Body.TheVariants as body
-use Rattle.quorum_agreement.proofs.Invariant.{EnvelopeTells, LogHolds, remembers}
+use Rattle.quorum_agreement.proofs.Invariant.{EnvelopeMatches, LogHolds, remembers}
 use Rattle.quorum_agreement.proofs.Step.{copy_marked}
 use Rattle.quorum_laws.proofs.Beginning as beginning
 use Rattle.quorum_laws.proofs.Events.{Does, Keeps as AllKeep, ToldOf, each_event, ended, member_of, same, shares}
 use Rattle.quorum_laws.proofs.Invariant.{InvWith}
 use Rattle.quorum_model.specs.Clients.{messages_of, with_asked}
 use Rattle.quorum_model.specs.Events.{PlainFits}
-use Rattle.quorum_model.specs.Growth.{grown, last_of, records_behind}
+use Rattle.quorum_model.specs.Growth.{grown, last_of, records_after}
 use Rattle.quorum_model.specs.Happens.{happens, kept_only, lost, moved, put_at, unmoved}
 use Rattle.quorum_model.specs.Monitors.{Monitors}
 use Rattle.quorum_model.specs.World.{Asked, Envelope, Event, Plain, World, first_world, plain_of}
@@ -68,8 +68,8 @@ low_at_first = record { stores = λ i. inl (beginning.unmarked_at_first, floor_a
 
 pub grown_longer : (log : List (List ℕ)) (m : Store) → length log ≤ length (grown log m)
 unfolding grown
-grown_longer log m = cond_both (is_marked m) log (log ++ records_behind m (length log) (last_of m - length log)) (λ l. length log ≤ length l) (λ _. omega arith)
-    (λ _. let e = length-append log (records_behind m (length log) (last_of m - length log)) in omega arith)
+grown_longer log m = cond_both (is_marked m) log (log ++ records_after m (length log) (last_of m - length log)) (λ l. length log ≤ length l) (λ _. omega arith)
+    (λ _. let e = length-append log (records_after m (length log) (last_of m - length log)) in omega arith)
 
 -- ---- what is sent
 
@@ -109,7 +109,7 @@ envelopes_low w h (sent.Reply to r ∷ sends) k = envelopes_low w h sends k.1
 
 module _ (ms : Monitors) (w : World) (H : LogHolds ms w) (L : AllLow w) where
   abbrev Told : Envelope → Type 0
-  Told e = EnvelopeTells w.log e × EnvelopeLow e
+  Told e = EnvelopeMatches w.log e × EnvelopeLow e
 
   -- an unmarked monitor keeps a window of the log
   pub first_of : (i : ℕ) → i < ms.count → (readings_of (w.store i)).marked ≡ false → ((readings_of (w.store i)).first ≤ 1) ⊎ ((readings_of (w.store i)).first + 501 ≤ (readings_of (w.store i)).last)
@@ -136,7 +136,7 @@ module _ (ms : Monitors) (w : World) (H : LogHolds ms w) (L : AllLow w) where
     m = w.store d.by.rank
 
     abbrev next : Store
-    next = apply (joined (spelled d.y.changes)) (w.store d.by.rank)
+    next = apply (joined (encoded d.y.changes)) (w.store d.by.rank)
 
     fine : Ended (begun me (readings_of m) d.by.state d.by.came) d.y
     fine = ended w.store w.state w.transactions w.messages w.active asked me J d.by.at d.by.state d.by.came d.by.on d.by.fits d.by.holds (d.by.fine (shares w.store w.state w.transactions w.messages w.active asked me J d.by.at)) d.y d.is
@@ -153,7 +153,7 @@ module _ (ms : Monitors) (w : World) (H : LogHolds ms w) (L : AllLow w) where
       where
         by : Told (record { to = rank; message = B.message }) → B.first + 501 ≤ length w.log
         by t =
-            let within = subst (λ (b : Body). EnvelopeTells w.log (record { to = rank; message = record B.message { body = b } }) × TellsLow b) B.says t in
+            let within = subst (λ (b : Body). EnvelopeMatches w.log (record { to = rank; message = record B.message { body = b } }) × TellsLow b) B.says t in
             let some = B.some in
             elim within.1 [ inl few ↦ (absurd (omega arith)) | inr far ↦ (let z = within.0 in omega arith) ]
 
@@ -194,4 +194,4 @@ module _ (ms : Monitors) (w : World) (H : LogHolds ms w) (L : AllLow w) where
   }
 
   pub low_follows : (e : Event) → PlainFits ms.count (plain_of e) → IfOk (happens ms w e) AllLow
-  low_follows e F = let O = H.1 in each_event ms w Told H.0 AllLow (all_both (EnvelopeTells w.log) EnvelopeLow w.messages O.sent L.sent) e F (λ J up. keeps_low (plain_of e) J)
+  low_follows e F = let O = H.1 in each_event ms w Told H.0 AllLow (all_both (EnvelopeMatches w.log) EnvelopeLow w.messages O.sent L.sent) e F (λ J up. keeps_low (plain_of e) J)

@@ -5,7 +5,7 @@ use Rattle.mon_bytes.specs.declared.command.Command.TheVariants as command
 use Rattle.mon_bytes.specs.declared.command.CommandRefused.{CommandRefused}
 use Rattle.mon_bytes.specs.declared.entry.Entry.{Entry}
 use Rattle.mon_lease.specs.Lease.{readable}
-use Rattle.mon_msg.specs.Protocol.Answers.{answer_of, last_answer, tells_all, told_of, told_values}
+use Rattle.mon_msg.specs.Protocol.Answers.{answer_of, last_answer, is_complete, told_of, sent_values}
 use Rattle.mon_msg.specs.Protocol.Changes.{Last, Promise, Unmark}
 use Rattle.mon_msg.specs.Protocol.Chunks.{copy, copy_changes, hear_chunk, hear_last_chunk, is_ours, record_changes, replay_or_end, take}
 use Rattle.mon_msg.specs.Protocol.Commands.{ask, at_leader, at_peon, hear_forward, hear_route, is_too_long, may_propose, propose_due, too_long}
@@ -15,7 +15,7 @@ use Rattle.mon_msg.specs.Protocol.Elections.{election_ends, hear_ack, hear_propo
 use Rattle.mon_msg.specs.Protocol.Entering.{adopt, is_even, own_table}
 use Rattle.mon_msg.specs.Protocol.Found.{counts}
 use Rattle.mon_msg.specs.Protocol.Hearing.{hear_client}
-use Rattle.mon_msg.specs.Protocol.Leader.{all_accepted, all_answered, commit_any, hear_accept, hear_last, hear_lease_ack, note, note_told, of_member, renew}
+use Rattle.mon_msg.specs.Protocol.Leader.{all_accepted, all_answered, commit_any, hear_accept, hear_last, hear_lease_ack, note, note_pending, of_member, renew}
 use Rattle.mon_msg.specs.Protocol.Leading.{extend, has_queue}
 use Rattle.mon_msg.specs.Protocol.Learning.{learn, learn_changes, news, news_from}
 use Rattle.mon_msg.specs.Protocol.Peon.{cancel, hear_begin, hear_collect, hear_commit, hear_lease, of_leader, promise}
@@ -70,8 +70,8 @@ use Rattle.std.specs.Prelude.{filter, is_some, slice_index_or, slice_set}
 answer_plain : (n promise first last : ℕ) (records : ℕ → Cell) (found : Option Found) (from : ℕ) → NoProbeReply (answer_of n promise first last records found from)
 unfolding answer_of
 answer_plain n promise first last records found from =
-    let told = told_values n promise first last records from in
-    cond_both (tells_all n promise first last from told (told_of found)) (body.Last promise first last true from told (told_of found)) (body.Last promise first last false from told None) NoProbeReply (λ _. tt) (λ _. tt)
+    let told = sent_values n promise first last records from in
+    cond_both (is_complete n promise first last from told (told_of found)) (body.Last promise first last true from told (told_of found)) (body.Last promise first last false from told None) NoProbeReply (λ _. tt) (λ _. tt)
 
 chunk_plain : (last : ℕ) (c : Cookie) (p : Place) (left : List Entry) (n : ℕ) (records : ℕ → Cell) → NoProbeReply (chunk last c p left n records)
 unfolding chunk
@@ -165,7 +165,7 @@ module _ (me : Me) (now : ℕ) where
   note_plain : (f last : ℕ) (told : Option Told) (x : Course) → Plain x → Then Plain (note f last told x)
   note_plain f last told x A = by (counts told)
     where
-      by : (t : Option Told) → Then Plain (note_told f last t x)
+      by : (t : Option Told) → Then Plain (note_pending f last t x)
       by None = done A
       by (Some t) = where_fits Plain which.Version (suc last) _ (λ _. done A)
 

@@ -1,6 +1,6 @@
 -- A majority is near the whole log, in every run.
 use Rattle.log_copies.proofs.Standing.{Agrees}
-use Rattle.log_copies.proofs.Telling.{read_last}
+use Rattle.log_copies.proofs.Matching.{read_last}
 use Rattle.mon_kv.specs.Readers.{is_marked}
 use Rattle.mon_msg.specs.Fold.{entry}
 use Rattle.mon_msg.specs.Protocol.Readings.{readings_of}
@@ -11,7 +11,7 @@ use Rattle.mon_types.specs.Ranks.{count_of, has}
 use Rattle.quorum_agreement.proofs.Beginning.{at_first}
 use Rattle.quorum_agreement.proofs.Chosen.{Chosen, IsEntry}
 use Rattle.quorum_agreement.proofs.Grown.{GrowsByOne}
-use Rattle.quorum_agreement.proofs.Invariant.{EnvelopeTells, LogHolds, OfLog, remembers}
+use Rattle.quorum_agreement.proofs.Invariant.{EnvelopeMatches, LogHolds, OfLog, remembers}
 use Rattle.quorum_agreement.proofs.LoneWorlds.{LoneHolds}
 use Rattle.quorum_agreement.proofs.Result.{there_marked}
 use Rattle.quorum_agreement.proofs.Runs.{lone_run, runs_hold}
@@ -55,7 +55,7 @@ module _ (ms : Monitors) (several : 1 < ms.count) where
   follows w e F h = by (happens ms w e) logs lows
     where
       logs : IfOk (happens ms w e) (Follows ms w)
-      logs = let H = h.0 in let O = H.1 in each_event ms w (EnvelopeTells w.log) H.0 (Follows ms w) O.sent e F (λ J up. all_follow ms (λ i lt. several) w (plain_of e) J (asking ms w (plain_of e) H.0 H.1 J))
+      logs = let H = h.0 in let O = H.1 in each_event ms w (EnvelopeMatches w.log) H.0 (Follows ms w) O.sent e F (λ J up. all_follow ms (λ i lt. several) w (plain_of e) J (asking ms w (plain_of e) H.0 H.1 J))
 
       lows : IfOk (happens ms w e) AllLow
       lows = low_follows ms w h.0 h.1 e F
@@ -164,7 +164,7 @@ module _ (ms : Monitors) (w : World) (H : LogHolds ms w) (L : AllLow w) where
         is = pending_is I.g.accepts i (readings_at w i).pending_v (readings_at w i).pending_pn (readings_at w i).last (readings_at w i).record_of is V (I.glob.triples.fine i (suc (readings_at w i).last) (readings_at w i).pending_pn V.x V.was);
         version = is ∙ e ∙ sym long;
         value = accepted_same ms.count I.g I.glob.triples (suc v) E.x C i (readings_at w i).pending_pn V.x (subst (λ (u : ℕ). Accepted I.g i u (readings_at w i).pending_pn V.x) e V.was) le member
-            ∙ sym E.spells ∙ ap (entry w.log) (sym long);
+            ∙ sym E.encodes ∙ ap (entry w.log) (sym long);
       }
         where
           V : Voted I.g.accepts i (suc (readings_at w i).last) (readings_at w i).pending_pn ((readings_at w i).record_of (suc (readings_at w i).last))

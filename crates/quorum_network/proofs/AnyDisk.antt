@@ -7,13 +7,13 @@ use Rattle.log_model.proofs.Lists.{of_all}
 use Rattle.mon_bounds.proofs.Table.{boot_ok, reaction_ok}
 use Rattle.mon_bounds.specs.Fitting.{IsBounded}
 use Rattle.mon_bounds.specs.Remembered.{MayRemember}
-use Rattle.mon_core.specs.Reacts.{TellsNamed}
+use Rattle.mon_core.specs.Reacts.{SendsNamed}
 use Rattle.mon_frag.proofs.Lists.{all_append}
 use Rattle.mon_frag.specs.Keeping.{taken}
 use Rattle.mon_frag.specs.Whole.{answer_in}
 use Rattle.mon_kv.specs.Readers.{size_of, most_size, epoch}
 use Rattle.mon_link.specs.Clocks.{Readings}
-use Rattle.mon_link.specs.Links.{Told}
+use Rattle.mon_link.specs.Links.{Observed}
 use Rattle.mon_link.specs.declared.link.Got.{Got}
 use Rattle.mon_link.specs.declared.link.Got.TheVariants.{Datagram, Idle, Closed}
 use Rattle.mon_link.specs.declared.link.Outgoing.{Outgoing}
@@ -23,15 +23,15 @@ use Rattle.mon_msg.specs.Protocol.Reaction.{Reaction}
 use Rattle.mon_msg.specs.Protocol.Timers.{due}
 use Rattle.mon_msg.specs.declared.view.Me.{Me}
 use Rattle.mon_node.proofs.Sending.{all_numbered as numbers_found}
-use Rattle.mon_node.specs.Hearing.{Given, Heard, answer_came, clock_read, due_by, heard_by, input_in, link_asked, wait_until}
+use Rattle.mon_node.specs.Hearing.{Given, Heard, answer_arrived, clock_read, due_by, heard_by, input_in, link_asked, wait_until}
 use Rattle.mon_node.specs.Nodes.{Node, Outside, Serving, unstarted}
 use Rattle.mon_node.specs.Posting.{letters, datagrams, next_after, with_number, boot_in}
 use Rattle.mon_node.specs.Serving.{of_input, sends_of}
-use Rattle.mon_node.specs.Turns.{Turn, map_after, sent_by, numbered_by, next_number, done, reaction_to, reacted, ended_turn, turn, start}
+use Rattle.mon_node.specs.Iterations.{Iteration, map_after, sent_by, numbered_by, next_number, done, reaction_to, reacted, ended_iteration, iteration, start}
 use Rattle.mon_node.specs.declared.end.NodeEnd.{NodeEnd}
 use Rattle.mon_node.specs.declared.end.NodeEnd.TheVariants as end
 use Rattle.mon_node.specs.declared.hearing.TimedInput.{TimedInput}
-use Rattle.mon_store.specs.Stood.{Stood}
+use Rattle.mon_store.specs.StoreView.{StoreView}
 use Rattle.mon_types.specs.declared.names.Stop.{Stop}
 use Rattle.mon_types.specs.declared.names.Stop.TheVariants as stop
 use Rattle.mon_types.specs.declared.names.Which.{Which}
@@ -39,8 +39,8 @@ use Rattle.mon_types.specs.declared.names.Which.TheVariants as which
 use Rattle.mon_wire.specs.declared.phase.Timer.{Timer}
 use Rattle.quorum_model.specs.Happens.{put_at}
 use Rattle.quorum_model.specs.Monitors.{Monitors, me_of}
-use Rattle.quorum_network.specs.AnyDisk.{AllMayAnyhow, AreNamed, ClientsJoinWhole, IsMail, IsMailTo, JoinsWhole, Mailed, MayAnyhow, NamesAt, mail, mailed, mailed_at, mailed_by, mailed_in_turn}
-use Rattle.quorum_network.specs.Network.{Network, Process, Up, Down, Doing, Begins, Turns, Until, Whole, Lost, Kept, Step, Left, Posted, CameFrom, IsAnswer, IsAsked, at_end, down, if_made, kept_reaction, left_by, made_by, network, newest, number_of, posted, turn_of, under, with_left}
+use Rattle.quorum_network.specs.AnyDisk.{AllMayAnyhow, AreNamed, ClientsJoinWhole, IsMail, IsMailTo, JoinsWhole, Mailed, MayAnyhow, NamesAt, mail, mailed, mailed_at, mailed_by, mailed_in_iteration}
+use Rattle.quorum_network.specs.Network.{Network, Process, Up, Down, Doing, Begins, Iterates, Until, Whole, Lost, Kept, Step, StepOutcome, Posted, CameFrom, IsAnswer, IsAsked, at_end, down, if_made, kept_reaction, outcome_of, made_by, network, newest, number_of, posted, iteration_of, under, with_outcome}
 use Rattle.quorum_network.proofs.Assembled.{all_through, assembly, contains_first, contains_later}
 use Rattle.quorum_network.proofs.Assembling.{Assembly, IsLabelled}
 use Rattle.quorum_network.proofs.Heeded.{IfInput, IsText, all_texts, answer_may, text_cut, timed_input}
@@ -88,7 +88,7 @@ module _ (A : Assembly) (ms : Monitors) (net : Network) (mails : List Mailed) (I
   life = number_of net.lives i
 
   -- nothing is sent
-  still : (q : Process) → IfUpSo A ms I.ls life i q → IsAlive (net.lives i) q → (more : List Mailed) → Fine A ms (with_left net i (record { process = q; sends = [] })) (mails ++ more)
+  still : (q : Process) → IfUpSo A ms I.ls life i q → IsAlive (net.lives i) q → (more : List Mailed) → Fine A ms (with_outcome net i (record { process = q; sends = [] })) (mails ++ more)
   still q u a more = record {
     ls = I.ls;
     up = λ j. up_by j (eqb j i) refl;
@@ -184,7 +184,7 @@ module _ (A : Assembly) (ms : Monitors) (net : Network) (mails : List Mailed) (I
     ]
 
     out : (q : Process) (b : ℕ) (ds : List Outgoing) → ((P : Posted → Type 0) → AllByRecursion P (map (posted i) (datagrams b n.next outs)) → AllByRecursion P (map (posted i) ds))
-        → IfUpSo A ms (I.ls ++ new) life i q → Fine A ms (with_left net i (record { process = q; sends = ds })) (mails ++ more)
+        → IfUpSo A ms (I.ls ++ new) life i q → Fine A ms (with_outcome net i (record { process = q; sends = ds })) (mails ++ more)
     out q b ds front u = record {
       ls = I.ls ++ new;
       up = λ j. up_by j (eqb j i) refl;
@@ -219,7 +219,7 @@ module _ (A : Assembly) (ms : Monitors) (net : Network) (mails : List Mailed) (I
 
   -- ---- an iteration
 
-  record TurnSo (me : Me) (came : Result (Option TimedInput) NodeEnd) (s : Serving) : Type 0 where
+  record IterationSo (me : Me) (came : Result (Option TimedInput) NodeEnd) (s : Serving) : Type 0 where
     parts : A.Keeps I.ls i s.outside.parts
     most : s.node.next ≤ 2 ^ 62 + 1
     fresh : (l : Letter) → Contains I.ls l → IsLong l → l.by ≡ i → l.boot ≡ life → l.seq < s.node.next
@@ -228,15 +228,15 @@ module _ (A : Assembly) (ms : Monitors) (net : Network) (mails : List Mailed) (I
     may : IfInput came
 
   abbrev AllNamed : Reaction → Type 0
-  AllNamed r = AllByRecursion TellsNamed r.sends
+  AllNamed r = AllByRecursion SendsNamed r.sends
 
   module _ (me : Me) (is : me_of ms i ≡ Some me) where
     -- there is one of its rank
     same_me : (P : Me → Type 0) → P me → (other : Me) → me_of ms i ≡ Some other → P other
     same_me P h other e = let one : Some me ≡ Some other = sym is ∙ e in let both : me ≡ other = cc in subst P both h
 
-    module _ (s : Serving) (it : TimedInput) (T : TurnSo me (Ok (Some it)) s) where
-      abbrev t : Turn
+    module _ (s : Serving) (it : TimedInput) (T : IterationSo me (Ok (Some it)) s) where
+      abbrev t : Iteration
       t = record { came = Ok (Some it); serving = s }
 
       abbrev n : Node
@@ -245,8 +245,8 @@ module _ (A : Assembly) (ms : Monitors) (net : Network) (mails : List Mailed) (I
       abbrev small_of : Reaction → Option Reaction
       small_of r = cond (nat_lt most_size (size_of (map_after n r))) None (Some r)
 
-      abbrev Then : Option Reaction → Left → Type 0
-      Then o l = Fine A ms (with_left net i l) (mails ++ mailed_by i me n o)
+      abbrev Then : Option Reaction → StepOutcome → Type 0
+      Then o l = Fine A ms (with_outcome net i l) (mails ++ mailed_by i me n o)
 
       bounded : (r : Reaction) → reaction_to me n it ≡ Ok r → IsBounded me r
       bounded r e = subst (λ (x : Result Reaction Which). IfOk x (IsBounded me)) e (reaction_ok me it.at n.store.kv n.state it.input T.remembers T.may)
@@ -311,16 +311,16 @@ module _ (A : Assembly) (ms : Monitors) (net : Network) (mails : List Mailed) (I
               subst (λ (o : Option Reaction). Then o (record { process = Up (done me s r); sends = sends_of me t })) (sym kept_is)
               (subst (λ (ds : List Outgoing). Then (Some r) (record { process = Up (done me s r); sends = ds })) (all_of_them r e small few) (up_next r e named_so few))
 
-    turn_fine : (came : Result (Option TimedInput) NodeEnd) (s : Serving) (u : Until) → TurnSo me came s → AreNamed me u (Some (record { came = came; serving = s }))
-        → Fine A ms (with_left net i (left_by me (record { came = came; serving = s }) u)) (mails ++ mailed_in_turn i me u (Some (record { came = came; serving = s })))
-    unfolding ended_turn
-    turn_fine came s Lost T named = still (Down s.node.store.kv) tt tt []
-    turn_fine (Err e) s Whole T named = still (Down s.node.store.kv) tt tt []
-    turn_fine (Err e) s (Kept k) T named = still (Down s.node.store.kv) tt tt []
-    turn_fine (Ok None) s Whole T named = still (Up s) (record { parts = T.parts; next = T.fresh; most = T.most; remembers = same_me (λ (x : Me). MayRemember x s.node.state) T.remembers }) T.alive []
-    turn_fine (Ok None) s (Kept k) T named = still (Down s.node.store.kv) tt tt []
-    turn_fine (Ok (Some it)) s Whole T named = whole_next s it T (reaction_to me s.node it) refl named
-    turn_fine (Ok (Some it)) s (Kept k) T named = kept_next s it T k (reaction_to me s.node it) refl named
+    iteration_fine : (came : Result (Option TimedInput) NodeEnd) (s : Serving) (u : Until) → IterationSo me came s → AreNamed me u (Some (record { came = came; serving = s }))
+        → Fine A ms (with_outcome net i (outcome_of me (record { came = came; serving = s }) u)) (mails ++ mailed_in_iteration i me u (Some (record { came = came; serving = s })))
+    unfolding ended_iteration
+    iteration_fine came s Lost T named = still (Down s.node.store.kv) tt tt []
+    iteration_fine (Err e) s Whole T named = still (Down s.node.store.kv) tt tt []
+    iteration_fine (Err e) s (Kept k) T named = still (Down s.node.store.kv) tt tt []
+    iteration_fine (Ok None) s Whole T named = still (Up s) (record { parts = T.parts; next = T.fresh; most = T.most; remembers = same_me (λ (x : Me). MayRemember x s.node.state) T.remembers }) T.alive []
+    iteration_fine (Ok None) s (Kept k) T named = still (Down s.node.store.kv) tt tt []
+    iteration_fine (Ok (Some it)) s Whole T named = whole_next s it T (reaction_to me s.node it) refl named
+    iteration_fine (Ok (Some it)) s (Kept k) T named = kept_next s it T k (reaction_to me s.node it) refl named
 
     -- ---- what it is given
 
@@ -332,7 +332,7 @@ module _ (A : Assembly) (ms : Monitors) (net : Network) (mails : List Mailed) (I
       parts : A.Keeps I.ls i h.outside.parts
       may : IfInput h.came
 
-    answer_so : (m later : ℕ) (answer : Result Got Stop) (o : Outside) → A.Keeps I.ls i o.parts → IsAnswer net i answer → HeardSo (answer_came m later answer o)
+    answer_so : (m later : ℕ) (answer : Result Got Stop) (o : Outside) → A.Keeps I.ls i o.parts → IsAnswer net i answer → HeardSo (answer_arrived m later answer o)
     answer_so m later (Ok (Datagram from bytes)) o keeps is =
         let t = A.takes I.ls i o.parts from bytes I.letters keeps (fed from bytes is) in
         let answer : Option (List ℕ) = answer_in (taken o.parts from bytes) in
@@ -346,8 +346,8 @@ module _ (A : Assembly) (ms : Monitors) (net : Network) (mails : List Mailed) (I
     heard_so (Some t) m wait g o keeps is = record { parts = keeps; may = tt }
     heard_so None m wait g o keeps is = answer_so m g.later g.answer (link_asked wait g.answer o) keeps is
 
-    turns_so : (g : Given) (s : Serving) → UpSo A ms I.ls life i s → Contains (net.lives i) life → IsAsked net i (due_by g.began (due s.node.state.timers)) g.answer → TurnSo me (turn me g s).came (turn me g s).serving
-    unfolding turn
+    turns_so : (g : Given) (s : Serving) → UpSo A ms I.ls life i s → Contains (net.lives i) life → IsAsked net i (due_by g.began (due s.node.state.timers)) g.answer → IterationSo me (iteration me g s).came (iteration me g s).serving
+    unfolding iteration
     turns_so g s u alive asked =
         let next = due s.node.state.timers in
         let h = heard_so (due_by g.began next) me.member.monitors (wait_until g.began next) g (clock_read s.outside) u.parts asked in
@@ -410,8 +410,8 @@ module _ (A : Assembly) (ms : Monitors) (net : Network) (mails : List Mailed) (I
   has_here true e = contains_first begun (net.lives i)
   has_here false e = absurd cc
 
-  begins_so : (me : Me) (stood : Stood) (clock : Option Readings) (link : Option Told) (first : ℕ) (t : Turn) → t ≡ start first (unstarted me.member.rank stood clock link) → TurnSo A ms then_net mails holds i me t.came t.serving
-  begins_so me stood clock link first t e = subst (λ (x : Turn). TurnSo A ms then_net mails holds i me x.came x.serving) (sym e) (record {
+  begins_so : (me : Me) (store_view : StoreView) (clock : Option Readings) (link : Option Observed) (first : ℕ) (t : Iteration) → t ≡ start first (unstarted me.member.rank store_view clock link) → IterationSo A ms then_net mails holds i me t.came t.serving
+  begins_so me store_view clock link first t e = subst (λ (x : Iteration). IterationSo A ms then_net mails holds i me x.came x.serving) (sym e) (record {
     parts = A.nothing I.ls i;
     most = omega arith;
     fresh = λ l c long own boot. absurd (none_has l c own (boot ∙ newest_here (eqb i i) (eq-eqb i i refl)));
@@ -437,15 +437,15 @@ module _ (A : Assembly) (ms : Monitors) where
   }
 
   made_fine : (net : Network) (mails : List Mailed) (I : Fine A ms net mails) (i : ℕ) (me : Me) → me_of ms i ≡ Some me → (p : Process) (doing : Doing) (u : Until) → MayAnyhow net i p doing
-      → AreNamed me u (turn_of me p doing) → IfUpSo A ms I.ls (number_of net.lives i) i p → IsAlive (net.lives i) p
-      → Fine A ms (if_made me net (record { rank = i; doing = doing; up_to = u }) (turn_of me p doing)) (mails ++ mailed_in_turn i me u (turn_of me p doing))
-  made_fine net mails I i me is p (Begins begun stood clock link first) u may named up alive =
-      let t : Turn = start first (unstarted me.member.rank stood clock link) in
-      turn_fine A ms (then_net A ms net mails I i begun may.0 may.1) mails (holds A ms net mails I i begun may.0 may.1) i me is t.came t.serving u
-      (begins_so A ms net mails I i begun may.0 may.1 me stood clock link first t refl) named
-  made_fine net mails I i me is (Up s) (Turns g) u may named up alive =
-      turn_fine A ms net mails I i me is (turn me g s).came (turn me g s).serving u (turns_so A ms net mails I i me is g s up alive may) named
-  made_fine net mails I i me is (Down m) (Turns g) u may named up alive = more_mails net mails I []
+      → AreNamed me u (iteration_of me p doing) → IfUpSo A ms I.ls (number_of net.lives i) i p → IsAlive (net.lives i) p
+      → Fine A ms (if_made me net (record { rank = i; doing = doing; up_to = u }) (iteration_of me p doing)) (mails ++ mailed_in_iteration i me u (iteration_of me p doing))
+  made_fine net mails I i me is p (Begins begun store_view clock link first) u may named up alive =
+      let t : Iteration = start first (unstarted me.member.rank store_view clock link) in
+      iteration_fine A ms (then_net A ms net mails I i begun may.0 may.1) mails (holds A ms net mails I i begun may.0 may.1) i me is t.came t.serving u
+      (begins_so A ms net mails I i begun may.0 may.1 me store_view clock link first t refl) named
+  made_fine net mails I i me is (Up s) (Iterates g) u may named up alive =
+      iteration_fine A ms net mails I i me is (iteration me g s).came (iteration me g s).serving u (turns_so A ms net mails I i me is g s up alive may) named
+  made_fine net mails I i me is (Down m) (Iterates g) u may named up alive = more_mails net mails I []
 
   step_fine : (net : Network) (mails : List Mailed) (I : Fine A ms net mails) (s : Step) → MayAnyhow net s.rank (net.process s.rank) s.doing → (x : Option Me) → me_of ms s.rank ≡ x → NamesAt net s x
       → Fine A ms (made_by net s x) (mails ++ mailed_at net s x)

@@ -3,13 +3,13 @@
 use Rattle.std.proofs.Common.{◌∷◌, ◌≡◌, ℕ, nat_lt, eqb, Bool, true, false, cond, List, [], Option, Some, None, IfSome, Result, Ok, Err, refl, sym, ap, subst, ◌∙◌}
 use Rattle.std.proofs.lemmas.Bool.{eq-eqb}
 use Rattle.std.specs.List.{AllByRecursion, Contains}
-use Rattle.mon_core.specs.Reacts.{TellsNamed}
+use Rattle.mon_core.specs.Reacts.{SendsNamed}
 use Rattle.mon_kv.specs.Readers.{size_of, most_size}
 use Rattle.mon_msg.specs.Protocol.Reaction.{Reaction}
 use Rattle.mon_msg.specs.declared.view.Me.{Me}
 use Rattle.mon_node.specs.Nodes.{Node, Serving, unstarted}
 use Rattle.mon_node.specs.Serving.{of_input}
-use Rattle.mon_node.specs.Turns.{Turn, map_after, reaction_to, start, turn}
+use Rattle.mon_node.specs.Iterations.{Iteration, map_after, reaction_to, start, iteration}
 use Rattle.mon_node.specs.declared.end.NodeEnd.{NodeEnd}
 use Rattle.mon_node.specs.declared.hearing.TimedInput.{TimedInput}
 use Rattle.mon_types.specs.declared.names.Which.{Which}
@@ -17,7 +17,7 @@ use Rattle.quorum_model.specs.Happens.{put_at}
 use Rattle.quorum_model.specs.Monitors.{Monitors, me_of}
 use Rattle.quorum_model.specs.World.{World}
 use Rattle.quorum_network.specs.AnyDisk.{AllMayAnyhow, AreNamed, MayAnyhow, NamesAt}
-use Rattle.quorum_network.specs.Network.{AllMay, Begins, Doing, Down, Kept, Lost, May, Network, Process, Step, Turns, Until, Up, Whole, kept_reaction, map_of, network, number_of, turn_of}
+use Rattle.quorum_network.specs.Network.{AllMay, Begins, Doing, Down, Kept, Lost, May, Network, Process, Step, Iterates, Until, Up, Whole, kept_reaction, map_of, network, number_of, iteration_of}
 use Rattle.quorum_network.proofs.Assembled.{assembly}
 use Rattle.quorum_network.proofs.Assembling.{Assembly}
 use Rattle.quorum_network.proofs.Elected.{is_played, plays}
@@ -28,16 +28,16 @@ use Rattle.quorum_network.proofs.Kept.{named}
 use Rattle.quorum_network.proofs.Letters.{Letter}
 use Rattle.quorum_network.proofs.Mails.{three, me_0}
 use Rattle.quorum_network.proofs.Played.{steps_of}
-use Rattle.quorum_network.proofs.Steps.{EventFine, TurnFine, begins_fine, entered_holds, has_here, newest_here, none_has, turns_fine}
+use Rattle.quorum_network.proofs.Steps.{EventFine, IterationFine, begins_fine, entered_holds, has_here, newest_here, none_has, turns_fine}
 use Rattle.quorum_network.proofs.Whole.{facts, stands}
 
 abbrev AllNamed : Reaction → Type 0
-AllNamed r = AllByRecursion TellsNamed r.sends
+AllNamed r = AllByRecursion SendsNamed r.sends
 
 module _ (A : Assembly) (ms : Monitors) (F : Facts ms) (net : Network) (w : World) (R : Reach ms w) (I : Inv A ms net w) (i : ℕ) (me : Me) (is : me_of ms i ≡ Some me) where
   -- an iteration with an input
-  module _ (s : Serving) (it : TimedInput) (T : TurnFine A ms F net w R I i me is (Ok (Some it)) s) where
-    abbrev t : Turn
+  module _ (s : Serving) (it : TimedInput) (T : IterationFine A ms F net w R I i me is (Ok (Some it)) s) where
+    abbrev t : Iteration
     t = record { came = Ok (Some it); serving = s }
 
     abbrev n : Node
@@ -58,31 +58,31 @@ module _ (A : Assembly) (ms : Monitors) (F : Facts ms) (net : Network) (w : Worl
         by false small =
             named A ms F net w R I i me is n it.at it.input E.plain E.fits E.there (T.kv ∙ (I.mine i (known ms i me is).below).map) E.up E.may T.remembers r e (E.own r e) small
 
-  turn_named : (came : Result (Option TimedInput) NodeEnd) (s : Serving) (u : Until) → TurnFine A ms F net w R I i me is came s → AreNamed me u (Some (record { came = came; serving = s }))
-  turn_named came s Lost T = tt
-  turn_named (Err e) s Whole T = tt
-  turn_named (Err e) s (Kept k) T = tt
-  turn_named (Ok None) s Whole T = tt
-  turn_named (Ok None) s (Kept k) T = tt
-  turn_named (Ok (Some it)) s Whole T = kept_named s it T (reaction_to me s.node it) refl
-  turn_named (Ok (Some it)) s (Kept k) T = kept_named s it T (reaction_to me s.node it) refl
+  iteration_named : (came : Result (Option TimedInput) NodeEnd) (s : Serving) (u : Until) → IterationFine A ms F net w R I i me is came s → AreNamed me u (Some (record { came = came; serving = s }))
+  iteration_named came s Lost T = tt
+  iteration_named (Err e) s Whole T = tt
+  iteration_named (Err e) s (Kept k) T = tt
+  iteration_named (Ok None) s Whole T = tt
+  iteration_named (Ok None) s (Kept k) T = tt
+  iteration_named (Ok (Some it)) s Whole T = kept_named s it T (reaction_to me s.node it) refl
+  iteration_named (Ok (Some it)) s (Kept k) T = kept_named s it T (reaction_to me s.node it) refl
 
 module _ (A : Assembly) (ms : Monitors) (F : Facts ms) (net : Network) (w : World) (R : Reach ms w) (I : Inv A ms net w) where
   made_named : (i : ℕ) (me : Me) → me_of ms i ≡ Some me → (p : Process) (doing : Doing) (u : Until) → net.process i ≡ p → May net i p doing → IfUp A ms I.ls (number_of net.lives i) i (w.state i) p → IsAlive (net.lives i) p
-      → AreNamed me u (turn_of me p doing)
-  made_named i me is p (Begins life stood clock link first) u e may up alive =
-      let t : Turn = start first (unstarted me.member.rank stood clock link) in
+      → AreNamed me u (iteration_of me p doing)
+  made_named i me is p (Begins life store_view clock link first) u e may up alive =
+      let t : Iteration = start first (unstarted me.member.rank store_view clock link) in
       let then_net : Network = record { process = net.process; lives = put_at net.lives i (life ∷ net.lives i); sent = net.sent } in
       let J = entered_holds A ms net w I i life may.1.0 may.1.1 in
       let one : eqb i i ≡ true = eq-eqb i i refl in
       let none : (l : Letter) → Contains J.0.ls l → l.by ≡ i → l.boot ≡ number_of then_net.lives i → ⊥ =
       λ l c own boot. none_has A ms net w I i life may.1.0 may.1.1 l (subst (λ (ls : List Letter). Contains ls l) J.1 c) own (boot ∙ newest_here A ms F net w R I i life (eqb i i) one) in
-      turn_named A ms F then_net w R J.0 i me is t.came t.serving u
-      (begins_fine A ms F then_net w R J.0 i me is stood clock link first (may.0 ∙ ap map_of (sym e)) (has_here A ms F net w R I i life (eqb i i) one) none)
-  made_named i me is (Up s) (Turns g) u e may up alive =
-      let t : Turn = turn me g s in
-      turn_named A ms F net w R I i me is t.came t.serving u (turns_fine A ms F net w R I i me is s e up alive g may)
-  made_named i me is (Down m) (Turns g) u e may up alive = tt
+      iteration_named A ms F then_net w R J.0 i me is t.came t.serving u
+      (begins_fine A ms F then_net w R J.0 i me is store_view clock link first (may.0 ∙ ap map_of (sym e)) (has_here A ms F net w R I i life (eqb i i) one) none)
+  made_named i me is (Up s) (Iterates g) u e may up alive =
+      let t : Iteration = iteration me g s in
+      iteration_named A ms F net w R I i me is t.came t.serving u (turns_fine A ms F net w R I i me is s e up alive g may)
+  made_named i me is (Down m) (Iterates g) u e may up alive = tt
 
   step_named : (s : Step) → May net s.rank (net.process s.rank) s.doing → NamesAt net s (me_of ms s.rank)
   step_named s may = by (me_of ms s.rank) refl
@@ -92,9 +92,9 @@ module _ (A : Assembly) (ms : Monitors) (F : Facts ms) (net : Network) (w : Worl
       by (Some me) e = made_named s.rank me e (net.process s.rank) s.doing s.up_to refl may (I.mine s.rank (known ms s.rank me e).below).up (I.alive s.rank (known ms s.rank me e).below)
 
 may_anyhow : (net : Network) (i : ℕ) (p : Process) (doing : Doing) → May net i p doing → MayAnyhow net i p doing
-may_anyhow net i p (Begins number stood clock link first) may = may.1
-may_anyhow net i (Up s) (Turns g) may = may
-may_anyhow net i (Down m) (Turns g) may = tt
+may_anyhow net i p (Begins number store_view clock link first) may = may.1
+may_anyhow net i (Up s) (Iterates g) may = may
+may_anyhow net i (Down m) (Iterates g) may = tt
 
 pub all_may_anyhow : (ms : Monitors) (steps : List Step) → AllMay ms steps → AllMayAnyhow ms steps
 unfolding AllMay AllMayAnyhow

@@ -12,7 +12,7 @@ use Rattle.mon_bytes.specs.declared.entry.Entry.{Entry}
 use Rattle.std.specs.Prelude.{nat_lt}
 use Rattle.mon_msg.specs.Joined.{joined}
 use Rattle.mon_msg.specs.Protocol.Answers.{answer_of}
-use Rattle.mon_msg.specs.Protocol.Changes.{Change, Boot, Epoch, Numbers, Promise, spelled}
+use Rattle.mon_msg.specs.Protocol.Changes.{Change, Boot, Epoch, Numbers, Promise, encoded}
 use Rattle.mon_msg.specs.Protocol.Collecting.{collect, collect_with, missed, reign, settle}
 use Rattle.mon_msg.specs.Protocol.Elections.{election_ends, hear_ack, hear_victory}
 use Rattle.mon_msg.specs.Protocol.Entering.{win}
@@ -34,7 +34,7 @@ use Rattle.mon_msg.specs.declared.paxos.LeaderStage.TheVariants as stage
 use Rattle.mon_msg.specs.declared.view.Me.{Me}
 use Rattle.mon_node.specs.Hearing.{due_by}
 use Rattle.mon_node.specs.Posting.{letters}
-use Rattle.mon_node.specs.Turns.{Turn}
+use Rattle.mon_node.specs.Iterations.{Iteration}
 use Rattle.mon_tx.specs.Map.{Store, apply}
 use Rattle.mon_types.specs.Ranks.{no_ranks}
 use Rattle.mon_wire.specs.Message.Whole.{text}
@@ -44,11 +44,11 @@ use Rattle.mon_wire.specs.declared.phase.Phase.TheVariants as phase
 use Rattle.mon_wire.specs.declared.phase.Timer.TheVariants as timer
 use Rattle.quorum_model.proofs.Members.{me_is}
 use Rattle.quorum_model.specs.Monitors.{me_of}
-use Rattle.quorum_network.specs.Network.{AllMay, Begins, Down, Kept, Network, Posted, Step, Whole, after_step, first_network, if_made, left_by, made_by, map_of, network, posted, turn_of, with_left, Doing, entered, number_of, under}
+use Rattle.quorum_network.specs.Network.{AllMay, Begins, Down, Kept, Network, Posted, Step, Whole, after_step, first_network, if_made, outcome_of, made_by, map_of, network, posted, iteration_of, with_outcome, Doing, entered, number_of, under}
 use Rattle.quorum_network.specs.Promises.{Leads}
 use Rattle.quorum_network.proofs.Lives.{other_rank}
-use Rattle.quorum_network.proofs.Played.{Comes, Play, Starts, Waits, all_may, comes, datagram_at, if_sent, network_is, played, played_on, step_of, steps_of, store_with, to_monitor, AreNew}
-use Rattle.quorum_network.proofs.Playing.{Goes, IsShort, IsSmall, Sits, dies, hears, left_as, moves, rings, serving_with, stays}
+use Rattle.quorum_network.proofs.Played.{Arrives, Play, Starts, Waits, all_may, comes, datagram_at, if_sent, network_is, played, played_on, step_of, steps_of, store_with, to_monitor, AreNew}
+use Rattle.quorum_network.proofs.Playing.{Goes, IsShort, IsSmall, Sits, dies, hears, outcome_as, moves, rings, serving_with, stays}
 use Rattle.quorum_network.specs.Lives.{Alone}
 use Rattle.quorum_network.proofs.Assembled.{contains_cases}
 use Rattle.quorum_network.proofs.Mails.{three, me, me_0, me_1, IsMail, both, probe, answer, propose, ack, victory, collects, last, lease, probe_mail, answer_mail, propose_mail, ack_mail, victory_mail, collect_mail, last_mail, lease_short}
@@ -75,7 +75,7 @@ promised_map : IsMap promised (tells (Some 2) None (Some 100))
 promised_map = record { told = promised_told; small = promised_small }
 
 -- a reaction that writes nothing
-same : (m : Store) → apply (joined (spelled [])) m ≡ m
+same : (m : Store) → apply (joined (encoded [])) m ≡ m
 unfolding joined
 same m = refl
 
@@ -163,13 +163,13 @@ abbrev on : Network → Play → Network
 on net p = played_on three me_0.member net p
 
 module _ (i : ℕ) (lt : nat_lt i 3 ≡ true) (net : Network) (kv : Store) (w : Readings) (M : IsMap kv w) (st : State) (S : Sits net i kv st) (becomes : Store) (after : Readings) (B : IsMap becomes after)
-    (cs : List Change) (out : List Sent) (st_after : State) (is : apply (joined (spelled cs)) kv ≡ becomes) (short : AllByRecursion IsShort (letters (me i lt) becomes out)) where
+    (cs : List Change) (out : List Sent) (st_after : State) (is : apply (joined (encoded cs)) kv ≡ becomes) (short : AllByRecursion IsShort (letters (me i lt) becomes out)) where
   abbrev goes_on : Network → Type 0
   goes_on next = Goes net next i becomes st_after (map (posted i) (letters (me i lt) becomes out))
 
   -- datagram k comes, a message of monitor j
   hear : (sent : List Posted) → net.sent ≡ sent → (k j : ℕ) (m : Message) → IsMail j m → datagram_at sent k ≡ Some (to_monitor j i (text m)) → (clock : ℕ) → due_by clock (due st.timers) ≡ None
-      → ((shared : List Entry) → any_reaction (react (me i lt) shared clock w st (input.Deliver m)) ≡ Ok (reacts cs out st_after)) → goes_on (on net (Comes k clock Whole))
+      → ((shared : List Entry) → any_reaction (react (me i lt) shared clock w st (input.Deliver m)) ≡ Ok (reacts cs out st_after)) → goes_on (on net (Arrives k clock Whole))
   hear sent wire k j m A found clock rests row =
       subst goes_on (sym (ap (λ (ds : List Posted). after_step three net (if_sent (datagram_at ds k) clock Whole)) wire ∙ ap (λ (o : Option Posted). after_step three net (if_sent o clock Whole)) found))
       (hears three i (me i lt) (me_is three i lt) kv w M.told st (reacts cs out st_after) becomes is B.small short net S j m A.has A.short A.from A.count A.tells clock rests (row (shared_entries kv)))
@@ -187,7 +187,7 @@ module _ (i number : ℕ) (lt : nat_lt i 3 ≡ true) (net : Network) (fresh : ma
   starts = moves three i (me i lt) (me_is three i lt) empty unborn empty_told (booting i) (reacts (Boot 1 ∷ Epoch 1 ∷ []) (probed i lt) (probing i (only i))) born born_is born_small short
       (store_with me_0.member (map_of (net.process i))) fresh (record { input = input.Start; at = 0 }) (start_row 3 (lit≤ tt) (shared_entries empty) i lt (lit≤ tt)) net begins refl
 
-  start_killed : (k : ℕ) → on net (Starts i number (Kept k)) ≡ with_left (entered net i begins) i (left_as (Down born) (take k (letters (me i lt) born (probed i lt))))
+  start_killed : (k : ℕ) → on net (Starts i number (Kept k)) ≡ with_outcome (entered net i begins) i (outcome_as (Down born) (take k (letters (me i lt) born (probed i lt))))
   start_killed k = dies three i (me i lt) (me_is three i lt) empty unborn empty_told (booting i) (reacts (Boot 1 ∷ Epoch 1 ∷ []) (probed i lt) (probing i (only i))) born born_is born_small short
       (store_with me_0.member (map_of (net.process i))) fresh (record { input = input.Start; at = 0 }) (start_row 3 (lit≤ tt) (shared_entries empty) i lt (lit≤ tt)) net begins k refl
 
@@ -229,8 +229,8 @@ scene_3 =
     let S = scene_2 in
     let killed = start_killed 2 9 refl net_2 (ap map_of (start_1.others 2 refl ∙ start_0.others 2 refl)) (probe_short 2 (lit≤ tt), (probe_short 2 (lit≤ tt), tt)) 1 in
     subst (λ (net : Network). Scene net born (probes 0) born (probes 1) sent_3) (sym killed) (record {
-      first = record { stood = S.first.stood; map = S.first.map; up = S.first.up };
-      second = record { stood = S.second.stood; map = S.second.map; up = S.second.up };
+      first = record { store_view = S.first.store_view; map = S.first.map; up = S.first.up };
+      second = record { store_view = S.second.store_view; map = S.second.map; up = S.second.up };
       wire = ap (λ (ds : List Posted). ds ++ to_monitor 2 0 (text (probe 2)) ∷ []) S.wire;
     })
 
@@ -241,9 +241,9 @@ module _ (net : Network) where
   abbrev answer_1 : List Posted
   answer_1 = to_monitor 1 0 (text (answer 1)) ∷ []
 
-  answers : (sent : List Posted) → datagram_at sent 0 ≡ Some (to_monitor 0 1 (text (probe 0))) → Scene net born (probes 0) born (probes 1) sent → Scene (on net (Comes 0 0 Whole)) born (probes 0) born (probes 1) (sent ++ answer_1)
+  answers : (sent : List Posted) → datagram_at sent 0 ≡ Some (to_monitor 0 1 (text (probe 0))) → Scene net born (probes 0) born (probes 1) sent → Scene (on net (Arrives 0 0 Whole)) born (probes 0) born (probes 1) (sent ++ answer_1)
   answers sent found S =
-      by_second net (on net (Comes 0 0 Whole)) born (probes 0) born (probes 1) sent answer_1 born (probes 1) S
+      by_second net (on net (Arrives 0 0 Whole)) born (probes 0) born (probes 1) sent answer_1 born (probes 1) S
       (hear 1 refl net born at_birth born_map (probes 1) S.second born at_birth born_map [] (message_to me_1 1 (body.ProbeReply no_ranks 0 0) 0 ∷ []) (probes 1) (same born) ((answer_mail 1 (lit≤ tt)).short, tt)
       sent S.wire 0 0 (probe 0) (probe_mail 0 (lit≤ tt)) found 0 refl (λ shared. probe_row 3 (lit≤ tt) shared 0 1 refl (only 1) (λ e. absurd (omega (arith, e)))))
 
@@ -254,9 +254,9 @@ module _ (net : Network) where
   abbrev sent_6 : List Posted
   sent_6 = sent_5 ++ to_monitor 0 1 (text (answer 0)) ∷ []
 
-  step_6 : Scene net born (probes 0) born (probes 1) sent_5 → Scene (on net (Comes 2 0 Whole)) born (probes 0) born (probes 1) sent_6
+  step_6 : Scene net born (probes 0) born (probes 1) sent_5 → Scene (on net (Arrives 2 0 Whole)) born (probes 0) born (probes 1) sent_6
   step_6 S =
-      by_first net (on net (Comes 2 0 Whole)) born (probes 0) born (probes 1) sent_5 (to_monitor 0 1 (text (answer 0)) ∷ []) born (probes 0) S
+      by_first net (on net (Arrives 2 0 Whole)) born (probes 0) born (probes 1) sent_5 (to_monitor 0 1 (text (answer 0)) ∷ []) born (probes 0) S
       (hear 0 refl net born at_birth born_map (probes 0) S.first born at_birth born_map [] (message_to me_0 1 (body.ProbeReply no_ranks 0 0) 1 ∷ []) (probes 0) (same born) ((answer_mail 0 (lit≤ tt)).short, tt)
       sent_5 S.wire 2 1 (probe 1) (probe_mail 1 (lit≤ tt)) refl 0 refl (λ shared. probe_row 3 (lit≤ tt) shared 1 0 refl (only 0) (λ e. absurd (omega (arith, e)))))
 
@@ -264,9 +264,9 @@ module _ (net : Network) where
   abbrev sent_7 : List Posted
   sent_7 = sent_6 ++ to_monitor 1 0 (text (propose 1)) ∷ to_monitor 1 2 (text (propose 1)) ∷ []
 
-  step_7 : Scene net born (probes 0) born (probes 1) sent_6 → Scene (on net (Comes 7 0 Whole)) born (probes 0) born (stands 1) sent_7
+  step_7 : Scene net born (probes 0) born (probes 1) sent_6 → Scene (on net (Arrives 7 0 Whole)) born (probes 0) born (stands 1) sent_7
   step_7 S =
-      by_second net (on net (Comes 7 0 Whole)) born (probes 0) born (probes 1) sent_6 (to_monitor 1 0 (text (propose 1)) ∷ to_monitor 1 2 (text (propose 1)) ∷ []) born (stands 1) S
+      by_second net (on net (Arrives 7 0 Whole)) born (probes 0) born (probes 1) sent_6 (to_monitor 1 0 (text (propose 1)) ∷ to_monitor 1 2 (text (propose 1)) ∷ []) born (stands 1) S
       (hear 1 refl net born at_birth born_map (probes 1) S.second born at_birth born_map [] (map (message_to me_1 1 (body.Propose None)) (others me_1)) (stands 1) (same born) ((propose_mail 1 (lit≤ tt)).short, ((propose_mail 1 (lit≤ tt)).short, tt))
       sent_6 S.wire 7 0 (answer 0) (answer_mail 0 (lit≤ tt)) refl 0 refl (λ shared. reply_enough 3 (lit≤ tt) shared 1 0 refl (only 1) (λ e. absurd (omega (arith, e))) refl))
 
@@ -274,9 +274,9 @@ module _ (net : Network) where
   abbrev sent_8 : List Posted
   sent_8 = sent_7 ++ to_monitor 0 1 (text (propose 0)) ∷ to_monitor 0 2 (text (propose 0)) ∷ []
 
-  step_8 : Scene net born (probes 0) born (stands 1) sent_7 → Scene (on net (Comes 5 0 Whole)) born (stands 0) born (stands 1) sent_8
+  step_8 : Scene net born (probes 0) born (stands 1) sent_7 → Scene (on net (Arrives 5 0 Whole)) born (stands 0) born (stands 1) sent_8
   step_8 S =
-      by_first net (on net (Comes 5 0 Whole)) born (probes 0) born (stands 1) sent_7 (to_monitor 0 1 (text (propose 0)) ∷ to_monitor 0 2 (text (propose 0)) ∷ []) born (stands 0) S
+      by_first net (on net (Arrives 5 0 Whole)) born (probes 0) born (stands 1) sent_7 (to_monitor 0 1 (text (propose 0)) ∷ to_monitor 0 2 (text (propose 0)) ∷ []) born (stands 0) S
       (hear 0 refl net born at_birth born_map (probes 0) S.first born at_birth born_map [] (map (message_to me_0 1 (body.Propose None)) (others me_0)) (stands 0) (same born) ((propose_mail 0 (lit≤ tt)).short, ((propose_mail 0 (lit≤ tt)).short, tt))
       sent_7 S.wire 5 1 (answer 1) (answer_mail 1 (lit≤ tt)) refl 0 refl (λ shared. reply_enough 3 (lit≤ tt) shared 0 1 refl (only 0) (λ e. absurd (omega (arith, e))) refl))
 
@@ -284,15 +284,15 @@ module _ (net : Network) where
   abbrev sent_9 : List Posted
   sent_9 = sent_8 ++ to_monitor 1 0 (text ack) ∷ []
 
-  step_9 : Scene net born (stands 0) born (stands 1) sent_8 → Scene (on net (Comes 10 0 Whole)) born (stands 0) born defers sent_9
+  step_9 : Scene net born (stands 0) born (stands 1) sent_8 → Scene (on net (Arrives 10 0 Whole)) born (stands 0) born defers sent_9
   step_9 S =
-      by_second net (on net (Comes 10 0 Whole)) born (stands 0) born (stands 1) sent_8 (to_monitor 1 0 (text ack) ∷ []) born defers S
+      by_second net (on net (Arrives 10 0 Whole)) born (stands 0) born (stands 1) sent_8 (to_monitor 1 0 (text ack) ∷ []) born defers S
       (hear 1 refl net born at_birth born_map (stands 1) S.second born at_birth born_map [] (message_to me_1 1 body.Ack 0 ∷ []) defers (same born) (ack_mail.short, tt)
       sent_8 S.wire 10 0 (propose 0) (propose_mail 0 (lit≤ tt)) refl 0 refl (λ shared. propose_row 3 (lit≤ tt) shared 1 refl both (lit≤ tt)))
 
-  step_10 : Scene net born (stands 0) born defers sent_9 → Scene (on net (Comes 12 0 Whole)) born has_both born defers sent_9
+  step_10 : Scene net born (stands 0) born defers sent_9 → Scene (on net (Arrives 12 0 Whole)) born has_both born defers sent_9
   step_10 S =
-      by_first net (on net (Comes 12 0 Whole)) born (stands 0) born defers sent_9 [] born has_both S
+      by_first net (on net (Arrives 12 0 Whole)) born (stands 0) born defers sent_9 [] born has_both S
       (hear 0 refl net born at_birth born_map (stands 0) S.first born at_birth born_map [] [] has_both (same born) tt
       sent_9 S.wire 12 1 ack ack_mail refl 0 refl ack_row)
 
@@ -306,9 +306,9 @@ module _ (net : Network) where
       (rings three 0 me_0 (me_is three 0 refl) born at_birth born_told has_both (reacts (Epoch 2 ∷ Numbers 100 ∷ []) (message_to me_0 2 (body.Victory both) 1 ∷ message_to me_0 2 (body.Collect 100 0 0) 1 ∷ []) wins) led led_is led_small
       (victory_mail.short, (collect_mail.short, tt)) net S.first 5000 timer.Election refl (win_row (shared_entries born)))
 
-  step_12 : Scene net led wins born defers sent_11 → Scene (on net (Comes 13 4000 Whole)) led wins served follows sent_11
+  step_12 : Scene net led wins born defers sent_11 → Scene (on net (Arrives 13 4000 Whole)) led wins served follows sent_11
   step_12 S =
-      by_second net (on net (Comes 13 4000 Whole)) led wins born defers sent_11 [] served follows S
+      by_second net (on net (Arrives 13 4000 Whole)) led wins born defers sent_11 [] served follows S
       (hear 1 refl net born at_birth born_map defers S.second served (tells (Some 2) None None) served_map (Epoch 2 ∷ []) [] follows served_is tt
       sent_11 S.wire 13 0 victory victory_mail refl 4000 refl victory_row)
 
@@ -316,9 +316,9 @@ module _ (net : Network) where
   abbrev sent_13 : List Posted
   sent_13 = sent_11 ++ to_monitor 1 0 (text last) ∷ []
 
-  step_13 : Scene net led wins served follows sent_11 → Scene (on net (Comes 14 4000 Whole)) led wins promised follows sent_13
+  step_13 : Scene net led wins served follows sent_11 → Scene (on net (Arrives 14 4000 Whole)) led wins promised follows sent_13
   step_13 S =
-      by_second net (on net (Comes 14 4000 Whole)) led wins served follows sent_11 (to_monitor 1 0 (text last) ∷ []) promised follows S
+      by_second net (on net (Arrives 14 4000 Whole)) led wins served follows sent_11 (to_monitor 1 0 (text last) ∷ []) promised follows S
       (hear 1 refl net served (tells (Some 2) None None) served_map follows S.second promised (tells (Some 2) None (Some 100)) promised_map (Promise 100 ∷ []) (message_to me_1 2 (body.Last 100 0 0 true 1 [] None) 0 ∷ []) follows promised_is (last_mail.short, tt)
       sent_11 S.wire 14 0 collects collect_mail refl 4000 refl collect_row)
 
@@ -326,9 +326,9 @@ module _ (net : Network) where
   abbrev sent_14 : List Posted
   sent_14 = sent_13 ++ to_monitor 0 1 (text lease) ∷ []
 
-  step_14 : Scene net led wins promised follows sent_13 → Scene (on net (Comes 15 5000 Whole)) led leads promised follows sent_14
+  step_14 : Scene net led wins promised follows sent_13 → Scene (on net (Arrives 15 5000 Whole)) led leads promised follows sent_14
   step_14 S =
-      by_first net (on net (Comes 15 5000 Whole)) led wins promised follows sent_13 (to_monitor 0 1 (text lease) ∷ []) led leads S
+      by_first net (on net (Arrives 15 5000 Whole)) led wins promised follows sent_13 (to_monitor 0 1 (text lease) ∷ []) led leads S
       (hear 0 refl net led (tells (Some 2) (Some 100) (Some 100)) led_map wins S.first led (tells (Some 2) (Some 100) (Some 100)) led_map [] (message_to me_0 2 (body.Lease 0) 1 ∷ []) leads (same led) (lease_short, tt)
       sent_13 S.wire 15 1 last last_mail refl 5000 refl last_row)
 
@@ -340,54 +340,54 @@ begun = Starts 2 9 (Kept 1) ∷ Starts 1 7 Whole ∷ Starts 0 7 Whole ∷ []
 
 abbrev until_elected : List Play
 until_elected =
-    Comes 15 5000 Whole ∷ Comes 14 4000 Whole ∷ Comes 13 4000 Whole ∷ Waits 0 5000 Whole ∷ Comes 12 0 Whole ∷ Comes 10 0 Whole ∷ Comes 5 0 Whole ∷ Comes 7 0 Whole ∷ Comes 2 0 Whole
-    ∷ Comes 0 0 Whole ∷ Comes 0 0 Whole ∷ begun
+    Arrives 15 5000 Whole ∷ Arrives 14 4000 Whole ∷ Arrives 13 4000 Whole ∷ Waits 0 5000 Whole ∷ Arrives 12 0 Whole ∷ Arrives 10 0 Whole ∷ Arrives 5 0 Whole ∷ Arrives 7 0 Whole ∷ Arrives 2 0 Whole
+    ∷ Arrives 0 0 Whole ∷ Arrives 0 0 Whole ∷ begun
 
 abbrev at : List Play → Network
 at ps = played three me_0.member ps
 
 abbrev net_8 : Network
-net_8 = on (on (on (on (on net_3 (Comes 0 0 Whole)) (Comes 0 0 Whole)) (Comes 2 0 Whole)) (Comes 7 0 Whole)) (Comes 5 0 Whole)
+net_8 = on (on (on (on (on net_3 (Arrives 0 0 Whole)) (Arrives 0 0 Whole)) (Arrives 2 0 Whole)) (Arrives 7 0 Whole)) (Arrives 5 0 Whole)
 
 scene_8 : Scene net_8 born (stands 0) born (stands 1) (sent_8 net_3)
 scene_8 =
-    let n_4 : Network = on net_3 (Comes 0 0 Whole) in
-    let n_5 : Network = on n_4 (Comes 0 0 Whole) in
-    let n_6 : Network = on n_5 (Comes 2 0 Whole) in
-    let n_7 : Network = on n_6 (Comes 7 0 Whole) in
+    let n_4 : Network = on net_3 (Arrives 0 0 Whole) in
+    let n_5 : Network = on n_4 (Arrives 0 0 Whole) in
+    let n_6 : Network = on n_5 (Arrives 2 0 Whole) in
+    let n_7 : Network = on n_6 (Arrives 7 0 Whole) in
     step_8 n_7 (step_7 n_6 (step_6 n_5 (answers n_4 (sent_3 ++ answer_1 net_3) refl (answers net_3 sent_3 refl scene_3))))
 
 abbrev net_11 : Network
-net_11 = on (on (on net_8 (Comes 10 0 Whole)) (Comes 12 0 Whole)) (Waits 0 5000 Whole)
+net_11 = on (on (on net_8 (Arrives 10 0 Whole)) (Arrives 12 0 Whole)) (Waits 0 5000 Whole)
 
 scene_11 : Scene net_11 led wins born defers (sent_11 net_3)
 scene_11 =
-    let n_9 : Network = on net_8 (Comes 10 0 Whole) in
-    let n_10 : Network = on n_9 (Comes 12 0 Whole) in
+    let n_9 : Network = on net_8 (Arrives 10 0 Whole) in
+    let n_10 : Network = on n_9 (Arrives 12 0 Whole) in
     step_11 n_10 (step_10 n_9 (step_9 net_8 scene_8))
 
 elected : Scene (at until_elected) led leads promised follows (sent_14 net_3)
 elected =
-    let n_12 : Network = on net_11 (Comes 13 4000 Whole) in
-    let n_13 : Network = on n_12 (Comes 14 4000 Whole) in
+    let n_12 : Network = on net_11 (Arrives 13 4000 Whole) in
+    let n_13 : Network = on n_12 (Arrives 14 4000 Whole) in
     step_14 n_13 (step_13 n_12 (step_12 net_11 scene_11))
 
 -- it only grows
 sent_more : (net : Network) (s : Step) → (more : List Posted) × ((after_step three net s).sent ≡ net.sent ++ more)
 sent_more net s = by (me_of three s.rank)
   where
-    made : (m : Me) (t : Option Turn) → (more : List Posted) × ((if_made m net s t).sent ≡ net.sent ++ more)
+    made : (m : Me) (t : Option Iteration) → (more : List Posted) × ((if_made m net s t).sent ≡ net.sent ++ more)
     made m None = ([], sym (append-nil net.sent))
-    made m (Some t) = (map (posted s.rank) (map (under (number_of (entered net s.rank s.doing).lives s.rank)) (left_by m t s.up_to).sends), refl)
+    made m (Some t) = (map (posted s.rank) (map (under (number_of (entered net s.rank s.doing).lives s.rank)) (outcome_of m t s.up_to).sends), refl)
 
     by : (x : Option Me) → (more : List Posted) × ((made_by net s x).sent ≡ net.sent ++ more)
     by None = ([], sym (append-nil net.sent))
-    by (Some m) = made m (turn_of m (net.process s.rank) s.doing)
+    by (Some m) = made m (iteration_of m (net.process s.rank) s.doing)
 
 -- The third process is started again, with another number, and datagram 1, which was sent to it before it was killed,
 -- comes to it.
 abbrev pub plays : List Play
-plays = Comes 1 5000 Whole ∷ Starts 2 4 Whole ∷ until_elected
+plays = Arrives 1 5000 Whole ∷ Starts 2 4 Whole ∷ until_elected
 
 no_number : (number : ℕ) → ¬ Contains [] number
 no_number number c = absurd (omega (arith, c.1))
@@ -407,13 +407,13 @@ one_leads =
     let again : Network = at (Starts 2 4 Whole ∷ until_elected) in
     let more = sent_more (at until_elected) (step_of me_0.member (at until_elected) (Starts 2 4 Whole)) in
     let comes_to_it : datagram_at again.sent 1 ≡ Some (to_monitor 0 2 (text (probe 0))) = ap (λ (ds : List Posted). datagram_at ds 1) (more.1 ∙ ap (λ (ds : List Posted). ds ++ more.0) S.wire) in
-    let is : step_of me_0.member again (Comes 1 5000 Whole) ≡ comes 0 2 (text (probe 0)) 5000 Whole = ap (λ (o : Option Posted). if_sent o 5000 Whole) comes_to_it in
+    let is : step_of me_0.member again (Arrives 1 5000 Whole) ≡ comes 0 2 (text (probe 0)) 5000 Whole = ap (λ (o : Option Posted). if_sent o 5000 Whole) comes_to_it in
     let untouched : (at plays).process 0 ≡ (at until_elected).process 0 =
     ap (λ (s : Step). (after_step three again s).process 0) is
     ∙ ap (λ (a : Alone). a.process) (other_rank three 0 again (comes 0 2 (text (probe 0)) 5000 Whole) refl)
     ∙ ap (λ (a : Alone). a.process) (other_rank three 0 (at until_elected) (step_of me_0.member (at until_elected) (Starts 2 4 Whole)) refl) in
     subst (λ (net : Network). Leads net 0 2) (sym (network_is three me_0.member plays)) (record {
-      serving = serving_with S.first.stood leads;
+      serving = serving_with S.first.store_view leads;
       up = untouched ∙ S.first.up;
       active = refl;
       epoch = ap (λ (m : Store). epoch_of (readings_of m)) S.first.map ∙ ap epoch_of led_told;

@@ -8,25 +8,25 @@ use Rattle.mon_link.specs.declared.link.Outgoing.{Outgoing}
 use Rattle.mon_msg.specs.Protocol.Reaction.{Reaction}
 use Rattle.mon_msg.specs.declared.view.Me.{Me}
 use Rattle.mon_node.specs.Keeping.{kept}
-use Rattle.mon_node.specs.Lasting.{IsWithinTurn, recorded, stood_kept, stood_recorded}
+use Rattle.mon_node.specs.Lasting.{IsWithinIteration, recorded, store_view_kept, store_view_recorded}
 use Rattle.mon_node.specs.Nodes.{Serving}
 use Rattle.mon_node.specs.Posting.{and_sent, datagrams, letters, boot_in}
-use Rattle.mon_node.specs.Serving.{of_came, of_input, sends_of}
-use Rattle.mon_node.specs.Turns.{Turn, map_after, next_number, numbered_by, sent_by, done, reacted, reaction_to, ended_turn, input_taken}
+use Rattle.mon_node.specs.Serving.{of_arrival, of_input, sends_of}
+use Rattle.mon_node.specs.Iterations.{Iteration, map_after, next_number, numbered_by, sent_by, done, reacted, reaction_to, ended_iteration, input_taken}
 use Rattle.mon_node.specs.declared.end.NodeEnd.TheVariants as end
 use Rattle.mon_node.specs.declared.end.NodeEnd.{NodeEnd}
 use Rattle.mon_node.specs.declared.hearing.TimedInput.{TimedInput}
 use Rattle.mon_node.proofs.Sending.{all_numbered, none_sent}
-use Rattle.mon_store.specs.Stood.{Stood}
+use Rattle.mon_store.specs.StoreView.{StoreView}
 use Rattle.mon_types.specs.declared.names.Which.TheVariants as which
 use Rattle.mon_types.specs.declared.names.Which.{Which}
-use Rattle.quorum_network.specs.Lives.{IsLeftBy}
-use Rattle.quorum_network.specs.Network.{Up, Whole, Kept, at_end, down, left_by, map_of}
+use Rattle.quorum_network.specs.Lives.{IsOutcomeOf}
+use Rattle.quorum_network.specs.Network.{Up, Whole, Kept, at_end, down, outcome_of, map_of}
 use Rattle.quorum_network.proofs.Steps.{kept_kv}
 
 -- ---- an iteration that is completed
 
-pub up_is : (me : Me) (t : Turn) (now : Serving) → ended_turn me t ≡ Ok now → left_by me t Whole ≡ record { process = Up now; sends = sends_of me t }
+pub up_is : (me : Me) (t : Iteration) (now : Serving) → ended_iteration me t ≡ Ok now → outcome_of me t Whole ≡ record { process = Up now; sends = sends_of me t }
 up_is me t now e = ap (λ (r : Result Serving NodeEnd). at_end me t r) e
 
 module _ (me : Me) (s : Serving) where
@@ -51,13 +51,13 @@ module _ (me : Me) (s : Serving) where
   by_reaction (Ok r) now e = by_size r now (nat_lt most_size (size_of (map_after s.node r))) (nat_lt (2 ^ 62 + 1) (next_number me s.node r)) refl e
   by_reaction (Err spent) now e = absurd cc
 
-  by_came : (came : Result (Option TimedInput) NodeEnd) (now : Serving) → (came >>= input_taken me s) ≡ Ok now → Sends now (of_came me s.node [] if_kept came)
+  by_came : (came : Result (Option TimedInput) NodeEnd) (now : Serving) → (came >>= input_taken me s) ≡ Ok now → Sends now (of_arrival me s.node [] if_kept came)
   by_came (Ok (Some it)) now e = by_reaction (reaction_to me s.node it) now e
   by_came (Ok None) now e = let same : s ≡ now = cc (e) in subst (λ (n : Serving). Sends n []) same (none_sent s.outside.link)
   by_came (Err x) now e = absurd cc
 
-pub ended_link : (me : Me) (t : Turn) (now : Serving) → ended_turn me t ≡ Ok now → now.outside.link ≡ option_map (and_sent (sends_of me t)) t.serving.outside.link
-unfolding ended_turn
+pub ended_link : (me : Me) (t : Iteration) (now : Serving) → ended_iteration me t ≡ Ok now → now.outside.link ≡ option_map (and_sent (sends_of me t)) t.serving.outside.link
+unfolding ended_iteration
 ended_link me t now e = by_came me t.serving t.came now e
 
 -- ---- an iteration that isn't completed
@@ -73,7 +73,7 @@ module _ (me : Me) (s : Serving) where
   abbrev some_of : Reaction → Option Reaction
   some_of r = Some r
 
-  abbrev keeps : Reaction → Stood
+  abbrev keeps : Reaction → StoreView
   keeps r = kept r.transaction s.node.store
 
   -- once its transaction is kept, a prefix of its datagrams goes out
@@ -85,38 +85,38 @@ module _ (me : Me) (s : Serving) where
   cut_reaction k (Ok r) = cut_size k r (nat_lt most_size (size_of (map_after s.node r)))
   cut_reaction k (Err spent) = sym (take_none k)
 
-  cut_came : (k : ℕ) (came : Result (Option TimedInput) NodeEnd) → (down me s.node k (of_came me s.node None (if_fits None some_of) came)).sends ≡ take k (of_came me s.node [] (if_kept me s) came)
+  cut_came : (k : ℕ) (came : Result (Option TimedInput) NodeEnd) → (down me s.node k (of_arrival me s.node None (if_fits None some_of) came)).sends ≡ take k (of_arrival me s.node [] (if_kept me s) came)
   cut_came k (Ok (Some it)) = cut_reaction k (reaction_to me s.node it)
   cut_came k (Ok None) = sym (take_none k)
   cut_came k (Err e) = sym (take_none k)
 
   -- and its map is the one that is kept, or recorded
-  map_size : (f : Reaction → Stood) → ((r : Reaction) → (f r).kv ≡ map_after s.node r) → (k : ℕ) (r : Reaction) (large : Bool) → (cond large s.node.store (f r)).kv ≡ map_of (down me s.node k (cond large None (Some r))).process
+  map_size : (f : Reaction → StoreView) → ((r : Reaction) → (f r).kv ≡ map_after s.node r) → (k : ℕ) (r : Reaction) (large : Bool) → (cond large s.node.store (f r)).kv ≡ map_of (down me s.node k (cond large None (Some r))).process
   map_size f same k r true = refl
   map_size f same k r false = same r
 
-  map_reaction : (f : Reaction → Stood) → ((r : Reaction) → (f r).kv ≡ map_after s.node r) → (k : ℕ) (x : Result Reaction Which)
+  map_reaction : (f : Reaction → StoreView) → ((r : Reaction) → (f r).kv ≡ map_after s.node r) → (k : ℕ) (x : Result Reaction Which)
       → (of_input s.node.store (if_fits s.node.store f) x).kv ≡ map_of (down me s.node k (of_input None (if_fits None some_of) x)).process
   map_reaction f same k (Ok r) = map_size f same k r (nat_lt most_size (size_of (map_after s.node r)))
   map_reaction f same k (Err spent) = refl
 
-  pub map_came : (f : Reaction → Stood) → ((r : Reaction) → (f r).kv ≡ map_after s.node r) → (k : ℕ) (came : Result (Option TimedInput) NodeEnd)
-      → (of_came me s.node s.node.store (if_fits s.node.store f) came).kv ≡ map_of (down me s.node k (of_came me s.node None (if_fits None some_of) came)).process
+  pub map_came : (f : Reaction → StoreView) → ((r : Reaction) → (f r).kv ≡ map_after s.node r) → (k : ℕ) (came : Result (Option TimedInput) NodeEnd)
+      → (of_arrival me s.node s.node.store (if_fits s.node.store f) came).kv ≡ map_of (down me s.node k (of_arrival me s.node None (if_fits None some_of) came)).process
   map_came f same k (Ok (Some it)) = map_reaction f same k (reaction_to me s.node it)
   map_came f same k (Ok None) = refl
   map_came f same k (Err e) = refl
 
-pub cut_sends : (me : Me) (t : Turn) (k : ℕ) → (left_by me t (Kept k)).sends ≡ take k (sends_of me t)
+pub cut_sends : (me : Me) (t : Iteration) (k : ℕ) → (outcome_of me t (Kept k)).sends ≡ take k (sends_of me t)
 cut_sends me t k = cut_came me t.serving k t.came
 
-pub kept_map : (me : Me) (t : Turn) (k : ℕ) → (stood_kept me t).kv ≡ map_of (left_by me t (Kept k)).process
+pub kept_map : (me : Me) (t : Iteration) (k : ℕ) → (store_view_kept me t).kv ≡ map_of (outcome_of me t (Kept k)).process
 kept_map me t k = map_came me t.serving (λ r. kept r.transaction t.serving.node.store) (λ r. kept_kv r.transaction t.serving.node.store) k t.came
 
-recorded_map : (me : Me) (t : Turn) (k : ℕ) → (stood_recorded me t).kv ≡ map_of (left_by me t (Kept k)).process
+recorded_map : (me : Me) (t : Iteration) (k : ℕ) → (store_view_recorded me t).kv ≡ map_of (outcome_of me t (Kept k)).process
 recorded_map me t k = map_came me t.serving (λ r. recorded r.transaction t.serving.node.store) (λ r. refl) k t.came
 
 -- what a crash in an iteration leaves
-pub within_is : (me : Me) (t : Turn) (x : Stood) → IsWithinTurn me t x → IsLeftBy me t x.kv
-within_is me t x (inl e) = inl (ap (λ (z : Stood). z.kv) e)
-within_is me t x (inr (inl e)) = inr (λ k. ap (λ (z : Stood). z.kv) e ∙ recorded_map me t k)
-within_is me t x (inr (inr e)) = inr (λ k. ap (λ (z : Stood). z.kv) e ∙ kept_map me t k)
+pub within_is : (me : Me) (t : Iteration) (x : StoreView) → IsWithinIteration me t x → IsOutcomeOf me t x.kv
+within_is me t x (inl e) = inl (ap (λ (z : StoreView). z.kv) e)
+within_is me t x (inr (inl e)) = inr (λ k. ap (λ (z : StoreView). z.kv) e ∙ recorded_map me t k)
+within_is me t x (inr (inr e)) = inr (λ k. ap (λ (z : StoreView). z.kv) e ∙ kept_map me t k)

@@ -10,7 +10,7 @@ use Rattle.quorum_agreement.proofs.Every.{grows}
 use Rattle.quorum_model.specs.Events.{AllFit}
 use Rattle.quorum_model.specs.Monitors.{Monitors, me_of}
 use Rattle.quorum_model.specs.Runs.{run}
-use Rattle.quorum_model.specs.World.{Acknowledged, Acknowledgement, Asked, Comes, Event, Replied, World}
+use Rattle.quorum_model.specs.World.{Acknowledged, Acknowledgement, Asked, Arrives, Event, Replied, World}
 use Rattle.quorum_network.proofs.Adding.{AllLater, IsAt, IsLater, IsRepliedAt}
 use Rattle.quorum_network.proofs.Assembling.{Assembly}
 use Rattle.quorum_network.proofs.Facts.{Facts}
@@ -70,8 +70,8 @@ module _ (A : Assembly) (ms : Monitors) (old_asks bs asks : List Asked) (old_ack
     among = λ l c. subst (λ (ls : List Letter). Contains ls l) (sym letters) (G.among l c);
   }
   one_more (Moved M) = record {
-    more = G.more ++ Comes M.plain ∷ [];
-    is = ap (λ (es : List Event). es ++ Comes M.plain ∷ []) G.is ∙ append_assoc S.reach.events G.more (Comes M.plain ∷ []);
+    more = G.more ++ Arrives M.plain ∷ [];
+    is = ap (λ (es : List Event). es ++ Arrives M.plain ∷ []) G.is ∙ append_assoc S.reach.events G.more (Arrives M.plain ∷ []);
     events = let le = G.events in let now = M.adds.events in omega (arith, le, now);
     writes = G.writes ++ M.adds.new;
     acknowledged = M.adds.acknowledged ∙ ap (λ (xs : List Acknowledged). xs ++ M.adds.new) G.acknowledged ∙ append_assoc S.w.acknowledged G.writes M.adds.new;

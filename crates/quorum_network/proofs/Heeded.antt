@@ -3,7 +3,7 @@
 use Rattle.std.proofs.Common.{◌≡◌, ℕ, ◌&&◌, eqb, not, Bool, true, false, cond, List, [], ◌∷◌, Option, Some, None, IfSome, Result, Ok, Err, refl, sym, ap, subst, ◌∙◌}
 use Rattle.std.specs.Prelude.{option_map}
 use Rattle.std.specs.List.{AllByRecursion, Contains}
-use Rattle.mon_bounds.specs.Fitting.{MayCome, answer_in as reply_in}
+use Rattle.mon_bounds.specs.Fitting.{IsValidInput, answer_in as reply_in}
 use Rattle.mon_kv.specs.Readers.{epoch}
 use Rattle.mon_link.specs.declared.link.Outgoing.{Outgoing}
 use Rattle.mon_msg.specs.declared.plan.Sent.TheVariants as sent
@@ -20,7 +20,7 @@ use Rattle.mon_msg.specs.declared.input.Input.TheVariants as input
 use Rattle.mon_msg.specs.declared.input.Input.{Input}
 use Rattle.mon_node.proofs.Letters.{may_deliver}
 use Rattle.mon_node.proofs.Requests.{may_ask}
-use Rattle.mon_node.specs.Hearing.{at_moment, from_client, from_monitor, input_in, input_of, input_read, is_request}
+use Rattle.mon_node.specs.Hearing.{at_time, from_client, from_monitor, input_in, input_of, input_read, is_request}
 use Rattle.mon_node.specs.declared.end.NodeEnd.{NodeEnd}
 use Rattle.mon_node.specs.declared.hearing.TimedInput.{TimedInput}
 use Rattle.mon_wire.specs.Message.Whole.{HasText, message_of, text}
@@ -48,7 +48,7 @@ text_cut bytes (m, has, e) = subst IsCuttable (sym e) (text_cuttable m has)
 -- ---- inputs
 
 abbrev MayBe : Option Input → Type 0
-MayBe came = IfSome came MayCome
+MayBe came = IfSome came IsValidInput
 
 may_if : (b : Bool) (came : Option Input) → MayBe came → MayBe (cond b came None)
 may_if true came h = h
@@ -67,11 +67,11 @@ of_client n c bytes (Ok m) fits e = may_if (eqb m.monitors n) (from_client c m.b
 of_client n c bytes (Err f) fits e = tt
 
 abbrev pub IfInput : Result (Option TimedInput) NodeEnd → Type 0
-IfInput (Ok (Some it)) = MayCome it.input
+IfInput (Ok (Some it)) = IsValidInput it.input
 IfInput (Ok None) = Unit {0}
 IfInput (Err e) = Unit {0}
 
-pub timed_input : (at : ℕ) (came : Option Input) → MayBe came → IfInput (Ok (option_map (at_moment at) came))
+pub timed_input : (at : ℕ) (came : Option Input) → MayBe came → IfInput (Ok (option_map (at_time at) came))
 timed_input at None h = tt
 timed_input at (Some came) h = h
 

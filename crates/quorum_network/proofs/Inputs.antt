@@ -3,7 +3,7 @@ use Rattle.std.proofs.Common.{◌≡◌, ℕ, suc, ◌<◌, ◌&&◌, eqb, not, 
 use Rattle.std.proofs.lemmas.Option.{slice_get-get_or}
 use Rattle.std.specs.Prelude.{option_map}
 use Rattle.std.specs.List.{AllByRecursion, Contains}
-use Rattle.mon_bounds.specs.Fitting.{MayCome}
+use Rattle.mon_bounds.specs.Fitting.{IsValidInput}
 use Rattle.mon_bytes.specs.Reading.{IsBytes}
 use Rattle.mon_frag.specs.Keeping.{taken}
 use Rattle.mon_frag.specs.Whole.{answer_in}
@@ -13,7 +13,7 @@ use Rattle.mon_link.specs.declared.link.Peer.{Peer}
 use Rattle.mon_link.specs.declared.link.Peer.TheVariants.{Monitor, Client}
 use Rattle.mon_msg.specs.declared.input.Input.TheVariants as input
 use Rattle.mon_msg.specs.declared.input.Input.{Input}
-use Rattle.mon_node.specs.Hearing.{from_client, from_monitor, input_of, input_read, input_in, is_request, at_moment, Heard, heard_by, answer_came, link_asked, Given}
+use Rattle.mon_node.specs.Hearing.{from_client, from_monitor, input_of, input_read, input_in, is_request, at_time, Heard, heard_by, answer_arrived, link_asked, Given}
 use Rattle.mon_node.specs.Nodes.{Outside}
 use Rattle.mon_node.specs.declared.end.NodeEnd.{NodeEnd}
 use Rattle.mon_node.specs.declared.hearing.TimedInput.{TimedInput}
@@ -28,7 +28,7 @@ use Rattle.mon_wire.specs.declared.phase.Timer.{Timer}
 use Rattle.mon_wire.specs.declared.refusal.MsgRefused.{MsgRefused}
 use Rattle.mon_bounds.proofs.Texts.{has_text}
 use Rattle.mon_wire.specs.Message.Bodies as bodies
-use Rattle.mon_wire.specs.Message.Bodies.{spelled}
+use Rattle.mon_wire.specs.Message.Bodies.{encoded}
 use Rattle.mon_wire.specs.declared.request.Request.TheVariants as request
 use Rattle.mon_wire.specs.declared.request.Request.{Request}
 use Rattle.log_model.proofs.Lists.{of_all}
@@ -46,7 +46,7 @@ pub record ComesBy (ms : Monitors) (w : World) (i : ℕ) (at : ℕ) (came : Inpu
   pub plain : Plain
   pub fits : PlainFits ms.count plain
   pub there : arrival w plain ≡ Some (record { rank = i; at = at; input = came })
-  pub may : MayCome came
+  pub may : IsValidInput came
   pub running : state_at i (w.state i) came ≡ w.state i
   pub other : came ≡ input.Start → ⊥
 
@@ -60,7 +60,7 @@ read_again m bytes has e = ap message_of e ∙ message_again m has
 found_at : (es : List Envelope) (e : Envelope) → Contains es e → (k : ℕ) × (message_at es (suc k) ≡ Some e)
 found_at es e (k, lt, is) = (k, slice_get-get_or es k e lt ∙ ap (λ (x : Envelope). Some x) is)
 
-delivered : (ms : Monitors) (w : World) (i at : ℕ) (m : Message) → Contains w.messages (record { to = i; message = m }) → MayCome (input.Deliver m) → ComesBy ms w i at (input.Deliver m)
+delivered : (ms : Monitors) (w : World) (i at : ℕ) (m : Message) → Contains w.messages (record { to = i; message = m }) → IsValidInput (input.Deliver m) → ComesBy ms w i at (input.Deliver m)
 delivered ms w i at m c may =
     let k = found_at w.messages (record { to = i; message = m }) c in
     record {
@@ -88,14 +88,14 @@ monitor_comes ms w i n at j m has c =
 
 -- ---- a client's
 
-request_may : (client id : ℕ) (r : Request) → bodies.request.Form (id, r) → MayCome (input.Client (record { client = client; id = id }) r) × RequestFits r
+request_may : (client id : ℕ) (r : Request) → bodies.request.Form (id, r) → IsValidInput (input.Client (record { client = client; id = id }) r) × RequestFits r
 request_may client id (request.Set key value) h = ((h.0, ((h.1.0, h.1.1.0), omega (arith, h.1.1.1))), (h.1.0, h.1.1.0))
 request_may client id (request.Remove key) h = ((h.0, (h.1, omega arith)), h.1)
 request_may client id (request.Log text) h = ((h.0, (h.1.0, omega (arith, h.1.1))), h.1.0)
 request_may client id (request.Show s) h = ((h.0, tt), tt)
 request_may client id (request.Since s version) h = ((h.0, h.1.1), tt)
 
-asked_comes : (ms : Monitors) (w : World) (i at c : ℕ) (m : Message) (b : Body) → i < ms.count → (spelled m.monitors m.from b).Form → IfComes ms w i at (from_client c b)
+asked_comes : (ms : Monitors) (w : World) (i at c : ℕ) (m : Message) (b : Body) → i < ms.count → (encoded m.monitors m.from b).Form → IfComes ms w i at (from_client c b)
 asked_comes ms w i at c m (body.Request id r) lt h =
     let k = request_may c id r h in
     record { plain = ClientAsks i at (record { client = c; id = id }) r; fits = (lt, k.1); there = refl; may = k.0; running = refl; other = λ e. absurd cc }
@@ -132,7 +132,7 @@ module _ (A : Assembly) (ms : Monitors) (w : World) (i : ℕ) (lt : i < ms.count
     pub parts : A.Keeps ls i h.outside.parts
     pub came : CameFine h.came
 
-  came_of : (at : ℕ) (came : Option Input) → IfComes ms w i at came → CameFine (Ok (option_map (at_moment at) came))
+  came_of : (at : ℕ) (came : Option Input) → IfComes ms w i at came → CameFine (Ok (option_map (at_time at) came))
   came_of at None h = tt
   came_of at (Some came) h = h
 
@@ -143,7 +143,7 @@ module _ (A : Assembly) (ms : Monitors) (w : World) (i : ℕ) (lt : i < ms.count
   fed net (Client c) bytes posted came = came
 
   module _ (net : Network) (posted : AllByRecursion (IsPosted ls) net.sent) (letters : AreLetters ls) where
-    answer_fine : (n later : ℕ) (answer : Result Got Stop) (o : Outside) → A.Keeps ls i o.parts → IsAnswer net i answer → HeardFine (answer_came n later answer o)
+    answer_fine : (n later : ℕ) (answer : Result Got Stop) (o : Outside) → A.Keeps ls i o.parts → IsAnswer net i answer → HeardFine (answer_arrived n later answer o)
     answer_fine n later (Ok (Datagram from bytes)) o keeps is =
         let t = A.takes ls i o.parts from bytes letters keeps (fed net from bytes posted is) in
         record { parts = t.0; came = came_of later (input_in n from (answer_in (taken o.parts from bytes))) (right_comes n later from (answer_in (taken o.parts from bytes)) t.1) }

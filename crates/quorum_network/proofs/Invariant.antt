@@ -13,7 +13,7 @@ use Rattle.mon_wire.specs.declared.message.Message.{Message}
 use Rattle.quorum_model.specs.Events.{PlainFits}
 use Rattle.quorum_model.specs.Happens.{happens}
 use Rattle.quorum_model.specs.Monitors.{Monitors, me_of}
-use Rattle.quorum_model.specs.World.{Asked, World, Plain, Comes, Envelope, Replied, Acknowledgement}
+use Rattle.quorum_model.specs.World.{Asked, World, Plain, Arrives, Envelope, Replied, Acknowledgement}
 use Rattle.quorum_network.specs.Network.{Network, Posted, Process, Up, Down, map_of, newest, number_of}
 use Rattle.quorum_network.specs.Requests.{Leadership}
 use Rattle.quorum_network.specs.Running.{answer_of}
@@ -71,7 +71,7 @@ module _ (A : Assembly) (ms : Monitors) where
     pub plain : Plain
     pub world : World
     pub fits : PlainFits ms.count plain
-    pub next : happens ms w (Comes plain) ≡ Ok world
+    pub next : happens ms w (Arrives plain) ≡ Ok world
     pub sent : List Posted
     pub wire : net.sent ≡ before ++ sent
     pub adds : Adds ms.count asks acks leads sent w world

@@ -6,10 +6,10 @@ use Rattle.std.proofs.lemmas.List.Elements.{Contains-append_left, Contains-appen
 use Rattle.std.specs.List.{AllByRecursion, Contains}
 use Rattle.std.specs.Prelude.{IfOk}
 use Rattle.mon_bounds.proofs.Table.{reaction_ok}
-use Rattle.mon_bounds.specs.Fitting.{MayCome, IsNamed, IsBounded, entries_in}
+use Rattle.mon_bounds.specs.Fitting.{IsValidInput, IsNamed, IsBounded, entries_in}
 use Rattle.mon_bounds.specs.Remembered.{IsNumber, MayRemember}
 use Rattle.mon_frag.proofs.Lists.{all_append}
-use Rattle.mon_core.specs.Reacts.{TellsNamed}
+use Rattle.mon_core.specs.Reacts.{SendsNamed}
 use Rattle.mon_kv.specs.Readers.{size_of, most_size, epoch}
 use Rattle.mon_link.specs.declared.link.Outgoing.{Outgoing}
 use Rattle.mon_link.specs.declared.link.Peer.{Peer}
@@ -23,7 +23,7 @@ use Rattle.mon_msg.specs.declared.plan.Sent.{Sent}
 use Rattle.mon_msg.specs.declared.view.Me.{Me}
 use Rattle.mon_node.specs.Nodes.{Node}
 use Rattle.mon_node.specs.Posting.{letters, datagrams, next_after, boot_in}
-use Rattle.mon_node.specs.Turns.{map_after}
+use Rattle.mon_node.specs.Iterations.{map_after}
 use Rattle.std.specs.Option.{option_map, unwrap_or}
 use Rattle.log_copies.proofs.UnderWay.{number_short}
 use Rattle.log_model.proofs.Lists.{of_all}
@@ -40,8 +40,8 @@ use Rattle.quorum_model.specs.Happens as model
 use Rattle.quorum_model.specs.Happens.{happens, is_active, moved}
 use Rattle.quorum_model.specs.Meets.{Reacts, meets, arrival, state_at}
 use Rattle.quorum_model.specs.Monitors.{Monitors, me_of}
-use Rattle.quorum_model.specs.World.{Asked, World, Plain, Event, Comes, Envelope, Replied, first_world, plain_of}
-use Rattle.quorum_network.specs.Network.{Network, Process, Up, Down, map_of, with_left, Posted, posted, number_of, under}
+use Rattle.quorum_model.specs.World.{Asked, World, Plain, Event, Arrives, Envelope, Replied, first_world, plain_of}
+use Rattle.quorum_network.specs.Network.{Network, Process, Up, Down, map_of, with_outcome, Posted, posted, number_of, under}
 use Rattle.quorum_network.proofs.Under.{Under, all_before, all_under, under_datagrams}
 use Rattle.quorum_network.specs.Requests.{acknowledged_in, led_in}
 use Rattle.quorum_network.proofs.Adding.{AllLater, IsLater, IsRepliedAt, all_numbered, all_replied, given_same, noted_as, noted_same}
@@ -55,7 +55,7 @@ use Rattle.quorum_network.proofs.Sends.{IsOwn, says_more, says_behind, SentHasTe
 abbrev Named : Envelope → Type 0
 Named e = AllByRecursion IsNamed (entries_in e.message.body)
 
-named_sends : (sends : List Sent) → ((e : Envelope) → Contains (messages_of sends) e → Named e) → AllByRecursion TellsNamed sends
+named_sends : (sends : List Sent) → ((e : Envelope) → Contains (messages_of sends) e → Named e) → AllByRecursion SendsNamed sends
 named_sends [] h = tt
 named_sends (sent.Message to m ∷ sends) h = (h (record { to = to; message = m }) (0, omega arith, refl), named_sends sends (λ e c. h e (suc c.0, omega (arith, c.1), c.2)))
 named_sends (sent.Reply to r ∷ sends) h = (tt, named_sends sends h)
@@ -111,7 +111,7 @@ module _ (A : Assembly) (ms : Monitors) (i : ℕ) (ls ks : List Letter) (by : (l
 
 module _ (A : Assembly) (ms : Monitors) (F : Facts ms) (net : Network) (w : World) (R : Reach ms w) (I : Inv A ms net w) (i : ℕ) (me : Me) (is : me_of ms i ≡ Some me)
     (n : Node) (at : ℕ) (came : Input) (p : Plain) (fits : PlainFits ms.count p) (there : arrival w p ≡ Some (record { rank = i; at = at; input = came }))
-    (kv : n.store.kv ≡ w.store i) (up : state_at i (w.state i) came ≡ Some n.state) (may : MayCome came) (remembers : MayRemember me n.state)
+    (kv : n.store.kv ≡ w.store i) (up : state_at i (w.state i) came ≡ Some n.state) (may : IsValidInput came) (remembers : MayRemember me n.state)
     (r : Reaction) (reacts : reaction me at n.store.kv n.state came ≡ Ok r) (own : AllByRecursion (IsOwn me) r.sends) where
   abbrev M : IsMe ms i me
   M = known ms i me is
@@ -124,20 +124,20 @@ module _ (A : Assembly) (ms : Monitors) (F : Facts ms) (net : Network) (w : Worl
   same_map = ap (apply r.transaction) kv
 
   module _ (small : nat_lt most_size (size_of (map_after n r)) ≡ false) where
-    pub happens_so : happens ms w (Comes p) ≡ Ok (moved w p i r)
+    pub happens_so : happens ms w (Arrives p) ≡ Ok (moved w p i r)
     happens_so = reacts_moves ms w p i came r met (subst (λ (m : Store). nat_lt most_size (size_of m) ≡ false) same_map small)
 
     pub reach : Reach ms (moved w p i r)
     reach = record {
-      events = R.events ++ Comes p ∷ [];
-      fits = all_append (λ (e : Event). PlainFits ms.count (plain_of e)) R.events (Comes p ∷ []) R.fits (fits, tt);
-      ran = ran_more ms first_world w (moved w p i r) R.events (Comes p) R.ran happens_so;
+      events = R.events ++ Arrives p ∷ [];
+      fits = all_append (λ (e : Event). PlainFits ms.count (plain_of e)) R.events (Arrives p ∷ []) R.fits (fits, tt);
+      ran = ran_more ms first_world w (moved w p i r) R.events (Arrives p) R.ran happens_so;
     }
 
     pub bounded : IsBounded me r
     bounded = subst (λ (x : Result Reaction Which). IfOk x (IsBounded me)) reacts (reaction_ok me at n.store.kv n.state came remembers may)
 
-    pub named : AllByRecursion TellsNamed r.sends
+    pub named : AllByRecursion SendsNamed r.sends
     named = named_sends r.sends (λ e c. F.named (moved w p i r) reach e (subst (λ (es : List Envelope). Contains es e) (sym (messages_moved w p i r)) (Contains-append_right w.messages (messages_of r.sends) e c)))
 
     texts : IsNumber (epoch (map_after n r)) → AllByRecursion (SentHasText me (epoch (map_after n r))) r.sends
@@ -222,7 +222,7 @@ module _ (A : Assembly) (ms : Monitors) (F : Facts ms) (net : Network) (w : Worl
       module _ (q : Process) (ds : List Outgoing) (front : (P : Posted → Type 0) → AllByRecursion P (map (posted i) (datagrams (boot_in (map_after n r)) n.next outs)) → AllByRecursion P (map (posted i) ds))
           (q_map : map_of q ≡ map_after n r) (q_up : IfUp A ms (I.ls ++ new) boot i (Some r.state) q) where
         abbrev pub then_net : Network
-        then_net = with_left net i (record { process = q; sends = ds })
+        then_net = with_outcome net i (record { process = q; sends = ds })
 
         mine_now : (j : ℕ) → j < ms.count → Mine A ms (I.ls ++ new) (number_of net.lives j) j (then_net.process j) (v.store j) (v.state j)
         unfolding moved

@@ -3,7 +3,7 @@ pub mod AnyDisk
 pub mod Anyhow
 pub mod Assembled
 pub mod Assembling
-pub mod EachTurn
+pub mod EachIteration
 pub mod Elected
 pub mod Ends
 pub mod Events

@@ -6,24 +6,24 @@ use Rattle.std.proofs.lemmas.List.{append-nil, map-append}
 use Rattle.std.specs.Option.{option_map}
 use Rattle.mon_bytes.specs.Answers.{◌>>=◌}
 use Rattle.mon_link.specs.Clocks.{Readings}
-use Rattle.mon_link.specs.Links.{Told, next_leaves}
+use Rattle.mon_link.specs.Links.{Observed, next_leaves}
 use Rattle.mon_link.specs.declared.link.Got.{Got}
 use Rattle.mon_link.specs.declared.link.Got.TheVariants.{Datagram, Idle, Closed}
 use Rattle.mon_link.specs.declared.link.Outgoing.{Outgoing}
 use Rattle.mon_msg.specs.Protocol.Timers.{due}
 use Rattle.mon_msg.specs.declared.view.Me.{Me}
-use Rattle.mon_node.specs.Hearing.{Given, answer_came, clock_read, due_by, heard_by, link_asked, wait_until}
+use Rattle.mon_node.specs.Hearing.{Given, answer_arrived, clock_read, due_by, heard_by, link_asked, wait_until}
 use Rattle.mon_node.specs.Nodes.{Outside, Serving, unstarted}
 use Rattle.mon_node.specs.Posting.{and_sent}
-use Rattle.mon_node.specs.Turns.{Turn, ended_turn, turn, start, last_turn}
+use Rattle.mon_node.specs.Iterations.{Iteration, ended_iteration, iteration, start, last_iteration}
 use Rattle.mon_node.specs.declared.end.NodeEnd.{NodeEnd}
-use Rattle.mon_store.specs.Stood.{Stood}
+use Rattle.mon_store.specs.StoreView.{StoreView}
 use Rattle.mon_types.specs.declared.names.Stop.{Stop}
 use Rattle.mon_types.specs.declared.names.Stop.TheVariants as stop
 use Rattle.mon_wire.specs.declared.phase.Timer.{Timer}
 use Rattle.quorum_model.specs.Monitors.{Monitors, me_of}
-use Rattle.quorum_network.specs.Lives.{Alone, IsSent, alone, left_at, life, lives_then, own, sent_in, sent_of}
-use Rattle.quorum_network.specs.Network.{Network, Posted, Process, Up, Doing, Begins, Turns, Until, Whole, Step, Left, entered, newest, turn_of, left_by, posted, if_made, made_by, after_step, network, number_of, under, with_left}
+use Rattle.quorum_network.specs.Lives.{Alone, IsSent, alone, outcome_at, life, lives_then, own, sent_in, sent_of}
+use Rattle.quorum_network.specs.Network.{Network, Posted, Process, Up, Doing, Begins, Iterates, Until, Whole, Step, StepOutcome, entered, newest, iteration_of, outcome_of, posted, if_made, made_by, after_step, network, number_of, under, with_outcome}
 use Rattle.quorum_network.proofs.Ends.{ended_link, up_is}
 
 -- ---- one of several
@@ -59,9 +59,9 @@ abbrev pub of_rank : ℕ → Network → Alone
 of_rank i net = record { process = net.process i; lives = net.lives i; sends = sent_of i net.sent }
 
 -- what a step of monitor j leaves of monitor i, if they are the same and if they aren't
-own_left : (i : ℕ) (net : Network) (j : ℕ) (l : Left) → j ≡ i
-    → of_rank i (with_left net j l) ≡ record { process = l.process; lives = net.lives i; sends = sent_of i net.sent ++ map (under (number_of net.lives i)) l.sends }
-own_left i net j l e =
+own_outcome : (i : ℕ) (net : Network) (j : ℕ) (l : StepOutcome) → j ≡ i
+    → of_rank i (with_outcome net j l) ≡ record { process = l.process; lives = net.lives i; sends = sent_of i net.sent ++ map (under (number_of net.lives i)) l.sends }
+own_outcome i net j l e =
     let out : List Outgoing = map (under (number_of net.lives j)) l.sends in
     let process : cond (eqb i j) l.process (net.process i) ≡ l.process = ap (λ (b : Bool). cond b l.process (net.process i)) (eq-eqb i j (sym e)) in
     let sends : sent_of i (net.sent ++ map (posted j) out) ≡ sent_of i net.sent ++ map (under (number_of net.lives i)) l.sends =
@@ -69,8 +69,8 @@ own_left i net j l e =
     ∙ ap (λ (k : ℕ). sent_of i net.sent ++ map (under (number_of net.lives k)) l.sends) e in
     λ k. record { process = process k; lives = net.lives i; sends = sends k }
 
-other_left : (i : ℕ) (net : Network) (j : ℕ) (l : Left) → eqb j i ≡ false → of_rank i (with_left net j l) ≡ of_rank i net
-other_left i net j l e =
+other_outcome : (i : ℕ) (net : Network) (j : ℕ) (l : StepOutcome) → eqb j i ≡ false → of_rank i (with_outcome net j l) ≡ of_rank i net
+other_outcome i net j l e =
     let out : List Outgoing = map (under (number_of net.lives j)) l.sends in
     let process : cond (eqb i j) l.process (net.process i) ≡ net.process i = ap (λ (b : Bool). cond b l.process (net.process i)) (turned_round i j e) in
     let sends : sent_of i (net.sent ++ map (posted j) out) ≡ sent_of i net.sent =
@@ -79,43 +79,43 @@ other_left i net j l e =
 
 -- the same of the numbers of its lives
 own_entered : (i : ℕ) (net : Network) (j : ℕ) (doing : Doing) → j ≡ i → of_rank i (entered net j doing) ≡ record (of_rank i net) { lives = lives_then doing (net.lives i) }
-own_entered i net j (Begins number stood clock link first) e =
+own_entered i net j (Begins number store_view clock link first) e =
     let lives : cond (eqb i j) (number ∷ net.lives j) (net.lives i) ≡ number ∷ net.lives i =
     ap (λ (b : Bool). cond b (number ∷ net.lives j) (net.lives i)) (eq-eqb i j (sym e)) ∙ ap (λ (k : ℕ). number ∷ net.lives k) e in
     λ k. record { process = net.process i; lives = lives k; sends = sent_of i net.sent }
-own_entered i net j (Turns g) e = refl
+own_entered i net j (Iterates g) e = refl
 
 other_entered : (i : ℕ) (net : Network) (j : ℕ) (doing : Doing) → eqb j i ≡ false → of_rank i (entered net j doing) ≡ of_rank i net
-other_entered i net j (Begins number stood clock link first) e =
+other_entered i net j (Begins number store_view clock link first) e =
     let lives : cond (eqb i j) (number ∷ net.lives j) (net.lives i) ≡ net.lives i = ap (λ (b : Bool). cond b (number ∷ net.lives j) (net.lives i)) (turned_round i j e) in
     λ k. record { process = net.process i; lives = lives k; sends = sent_of i net.sent }
-other_entered i net j (Turns g) e = refl
+other_entered i net j (Iterates g) e = refl
 
 pub other_rank : (ms : Monitors) (i : ℕ) (net : Network) (s : Step) → eqb s.rank i ≡ false → of_rank i (after_step ms net s) ≡ of_rank i net
 other_rank ms i net s e = by (me_of ms s.rank)
   where
-    made : (m : Me) (t : Option Turn) → of_rank i (if_made m net s t) ≡ of_rank i net
+    made : (m : Me) (t : Option Iteration) → of_rank i (if_made m net s t) ≡ of_rank i net
     made m None = refl
-    made m (Some t) = other_left i (entered net s.rank s.doing) s.rank (left_by m t s.up_to) e ∙ other_entered i net s.rank s.doing e
+    made m (Some t) = other_outcome i (entered net s.rank s.doing) s.rank (outcome_of m t s.up_to) e ∙ other_entered i net s.rank s.doing e
 
     by : (x : Option Me) → of_rank i (made_by net s x) ≡ of_rank i net
     by None = refl
-    by (Some m) = made m (turn_of m (net.process s.rank) s.doing)
+    by (Some m) = made m (iteration_of m (net.process s.rank) s.doing)
 
 module _ (ms : Monitors) (i : ℕ) (me : Me) (is : me_of ms i ≡ Some me) where
-  same_rank : (net : Network) (s : Step) → s.rank ≡ i → of_rank i (after_step ms net s) ≡ left_at me s (of_rank i net) (turn_of me (net.process i) s.doing)
+  same_rank : (net : Network) (s : Step) → s.rank ≡ i → of_rank i (after_step ms net s) ≡ outcome_at me s (of_rank i net) (iteration_of me (net.process i) s.doing)
   same_rank net s e =
       ap (λ (x : Option Me). of_rank i (made_by net s x)) (ap (me_of ms) e ∙ is)
-      ∙ (ap (λ (k : ℕ). of_rank i (if_made me net s (turn_of me (net.process k) s.doing))) e ∙ by (turn_of me (net.process i) s.doing))
+      ∙ (ap (λ (k : ℕ). of_rank i (if_made me net s (iteration_of me (net.process k) s.doing))) e ∙ by (iteration_of me (net.process i) s.doing))
     where
-      leaves : Left → Alone → Alone
+      leaves : StepOutcome → Alone → Alone
       leaves l a = record { process = l.process; lives = a.lives; sends = a.sends ++ map (under (newest a.lives)) l.sends }
 
-      by : (t : Option Turn) → of_rank i (if_made me net s t) ≡ left_at me s (of_rank i net) t
+      by : (t : Option Iteration) → of_rank i (if_made me net s t) ≡ outcome_at me s (of_rank i net) t
       by None = refl
       by (Some t) =
-          let l : Left = left_by me t s.up_to in
-          own_left i (entered net s.rank s.doing) s.rank l e ∙ ap (leaves l) (own_entered i net s.rank s.doing e)
+          let l : StepOutcome = outcome_of me t s.up_to in
+          own_outcome i (entered net s.rank s.doing) s.rank l e ∙ ap (leaves l) (own_entered i net s.rank s.doing e)
 
   pub rank_alone : (steps : List Step) → of_rank i (network ms steps) ≡ alone me (own i steps)
   unfolding network alone
@@ -123,7 +123,7 @@ module _ (ms : Monitors) (i : ℕ) (me : Me) (is : me_of ms i ≡ Some me) where
   rank_alone (s ∷ earlier) = by (eqb s.rank i) refl (rank_alone earlier)
     where
       by : (b : Bool) → eqb s.rank i ≡ b → of_rank i (network ms earlier) ≡ alone me (own i earlier) → of_rank i (after_step ms (network ms earlier) s) ≡ alone me (cond b (s ∷ own i earlier) (own i earlier))
-      by true e ih = same_rank (network ms earlier) s (eqb-true s.rank i e) ∙ ap (λ (a : Alone). left_at me s a (turn_of me a.process s.doing)) ih
+      by true e ih = same_rank (network ms earlier) s (eqb-true s.rank i e) ∙ ap (λ (a : Alone). outcome_at me s a (iteration_of me a.process s.doing)) ih
       by false e ih = other_rank ms i (network ms earlier) s e ∙ ih
 
   pub process_alone : (steps : List Step) → (network ms steps).process i ≡ (alone me (own i steps)).process
@@ -137,29 +137,29 @@ module _ (ms : Monitors) (i : ℕ) (me : Me) (is : me_of ms i ≡ Some me) where
 
 -- ---- what a link was asked to send
 
-pub sent_nothing : (link : Option Told) → IsSent [] link link
+pub sent_nothing : (link : Option Observed) → IsSent [] link link
 sent_nothing None = refl
 sent_nothing (Some t) = ap (λ (xs : List Outgoing). Some xs) (sym (append-nil t.sent))
 
-pub sent_now : (ds : List Outgoing) (old new : Option Told) → new ≡ option_map (and_sent ds) old → IsSent ds old new
+pub sent_now : (ds : List Outgoing) (old new : Option Observed) → new ≡ option_map (and_sent ds) old → IsSent ds old new
 sent_now ds None new e = ap sent_in e
 sent_now ds (Some t) new e = ap sent_in e
 
-pub sent_both : (ds es : List Outgoing) (a b c : Option Told) → IsSent ds a b → IsSent es b c → IsSent (ds ++ es) a c
+pub sent_both : (ds es : List Outgoing) (a b c : Option Observed) → IsSent ds a b → IsSent es b c → IsSent (ds ++ es) a c
 sent_both ds es a b c first then_ = then_ ∙ ap (option_map (λ (sent : List Outgoing). sent ++ es)) first ∙ by a
   where
-    by : (x : Option Told) → option_map (λ (sent : List Outgoing). sent ++ es) (option_map (λ (sent : List Outgoing). sent ++ ds) (sent_in x)) ≡ option_map (λ (sent : List Outgoing). sent ++ (ds ++ es)) (sent_in x)
+    by : (x : Option Observed) → option_map (λ (sent : List Outgoing). sent ++ es) (option_map (λ (sent : List Outgoing). sent ++ ds) (sent_in x)) ≡ option_map (λ (sent : List Outgoing). sent ++ (ds ++ es)) (sent_in x)
     by None = refl
     by (Some t) = ap (λ (xs : List Outgoing). Some xs) (append_assoc t.sent ds es)
 
 -- hearing sends nothing
-left_sent : (wait : ℕ) (answer : Result Got Stop) (link : Option Told) → sent_in (option_map (next_leaves wait answer) link) ≡ sent_in link
+left_sent : (wait : ℕ) (answer : Result Got Stop) (link : Option Observed) → sent_in (option_map (next_leaves wait answer) link) ≡ sent_in link
 left_sent wait answer None = refl
 left_sent wait (Ok got) (Some t) = refl
 left_sent wait (Err stop.Failed) (Some t) = refl
 left_sent wait (Err stop.OutOfMemory) (Some t) = refl
 
-came_sent : (n later : ℕ) (answer : Result Got Stop) (o : Outside) → sent_in (answer_came n later answer o).outside.link ≡ sent_in o.link
+came_sent : (n later : ℕ) (answer : Result Got Stop) (o : Outside) → sent_in (answer_arrived n later answer o).outside.link ≡ sent_in o.link
 came_sent n later (Ok (Datagram from bytes)) o = refl
 came_sent n later (Ok Idle) o = refl
 came_sent n later (Ok Closed) o = refl
@@ -170,53 +170,53 @@ heard_sent : (t : Option Timer) (n wait : ℕ) (g : Given) (o : Outside) → sen
 heard_sent (Some t) n wait g o = refl
 heard_sent None n wait g o = came_sent n g.later g.answer (link_asked wait g.answer o) ∙ left_sent wait g.answer o.link
 
-turn_sent : (me : Me) (g : Given) (s : Serving) → sent_in (turn me g s).serving.outside.link ≡ sent_in s.outside.link
-unfolding turn
-turn_sent me g s =
+iteration_sent : (me : Me) (g : Given) (s : Serving) → sent_in (iteration me g s).serving.outside.link ≡ sent_in s.outside.link
+unfolding iteration
+iteration_sent me g s =
     let next = due s.node.state.timers in
     heard_sent (due_by g.began next) me.member.monitors (wait_until g.began next) g (clock_read s.outside)
 
 -- ---- the iterations of `serve`
 
-module _ (i : ℕ) (me : Me) (number : ℕ) (stood : Stood) (clock : Option Readings) (link : Option Told) (first : ℕ) (earlier : List Step) where
+module _ (i : ℕ) (me : Me) (number : ℕ) (store_view : StoreView) (clock : Option Readings) (link : Option Observed) (first : ℕ) (earlier : List Step) where
   abbrev begun : Serving
-  begun = unstarted me.member.rank stood clock link
+  begun = unstarted me.member.rank store_view clock link
 
   abbrev lived : List Given → Until → Alone
-  lived given u = alone me (life i number stood clock link first given u earlier)
+  lived given u = alone me (life i number store_view clock link first given u earlier)
 
   -- a life whose last iteration is this one
-  pub record LastIs (given : List Given) (u : Until) (t : Turn) : Type 0 where
-    pub process : (lived given u).process ≡ (left_by me t u).process
+  pub record LastIs (given : List Given) (u : Until) (t : Iteration) : Type 0 where
+    pub process : (lived given u).process ≡ (outcome_of me t u).process
     pub number_is : newest (lived given u).lives ≡ number
     pub before : List Outgoing
-    pub sends : (lived given u).sends ≡ (alone me earlier).sends ++ map (under number) (before ++ (left_by me t u).sends)
-    pub told : IsSent before link t.serving.outside.link
+    pub sends : (lived given u).sends ≡ (alone me earlier).sends ++ map (under number) (before ++ (outcome_of me t u).sends)
+    pub observed : IsSent before link t.serving.outside.link
 
-  turn_behind : (r : Result Serving NodeEnd) (g : Given) (t : Turn) → (r >>= λ now. Ok (turn me g now)) ≡ Ok t → (now : Serving) × (r ≡ Ok now) × (turn me g now ≡ t)
-  turn_behind (Ok now) g t e = (now, refl, cc)
-  turn_behind (Err x) g t e = absurd cc
+  iteration_behind : (r : Result Serving NodeEnd) (g : Given) (t : Iteration) → (r >>= λ now. Ok (iteration me g now)) ≡ Ok t → (now : Serving) × (r ≡ Ok now) × (iteration me g now ≡ t)
+  iteration_behind (Ok now) g t e = (now, refl, cc)
+  iteration_behind (Err x) g t e = absurd cc
 
-  ended_behind : (r : Result Turn NodeEnd) (now : Serving) → (r >>= ended_turn me) ≡ Ok now → (t : Turn) × (r ≡ Ok t) × (ended_turn me t ≡ Ok now)
+  ended_behind : (r : Result Iteration NodeEnd) (now : Serving) → (r >>= ended_iteration me) ≡ Ok now → (t : Iteration) × (r ≡ Ok t) × (ended_iteration me t ≡ Ok now)
   ended_behind (Ok t) now e = (t, refl, e)
   ended_behind (Err x) now e = absurd cc
 
   started : (u : Until) → LastIs [] u (start first begun)
   unfolding alone
-  started u = record { process = refl; number_is = refl; before = []; sends = refl; told = sent_nothing link }
+  started u = record { process = refl; number_is = refl; before = []; sends = refl; observed = sent_nothing link }
 
   -- one more iteration
-  next_turn : (given : List Given) (g : Given) (u : Until) (t : Turn) (now : Serving) → ended_turn me t ≡ Ok now → LastIs given Whole t → LastIs (g ∷ given) u (turn me g now)
+  next_iteration : (given : List Given) (g : Given) (u : Until) (t : Iteration) (now : Serving) → ended_iteration me t ≡ Ok now → LastIs given Whole t → LastIs (g ∷ given) u (iteration me g now)
   unfolding alone
-  next_turn given g u t now e L =
+  next_iteration given g u t now e L =
       let whole = up_is me t now e in
-      let up : (lived given Whole).process ≡ Up now = L.process ∙ ap (λ (l : Left). l.process) whole in
-      let all : (lived given Whole).sends ≡ (alone me earlier).sends ++ map (under number) (L.before ++ (left_by me t Whole).sends) = L.sends in
-      let last : List Outgoing = (left_by me (turn me g now) u).sends in
-      let before : List Outgoing = L.before ++ (left_by me t Whole).sends in
+      let up : (lived given Whole).process ≡ Up now = L.process ∙ ap (λ (l : StepOutcome). l.process) whole in
+      let all : (lived given Whole).sends ≡ (alone me earlier).sends ++ map (under number) (L.before ++ (outcome_of me t Whole).sends) = L.sends in
+      let last : List Outgoing = (outcome_of me (iteration me g now) u).sends in
+      let before : List Outgoing = L.before ++ (outcome_of me t Whole).sends in
       let step : lived (g ∷ given) u
-      ≡ record { process = (left_by me (turn me g now) u).process; lives = (lived given Whole).lives; sends = (lived given Whole).sends ++ map (under (newest (lived given Whole).lives)) last } =
-      ap (λ (p : Process). left_at me (record { rank = i; doing = Turns g; up_to = u }) (lived given Whole) (turn_of me p (Turns g))) up in
+      ≡ record { process = (outcome_of me (iteration me g now) u).process; lives = (lived given Whole).lives; sends = (lived given Whole).sends ++ map (under (newest (lived given Whole).lives)) last } =
+      ap (λ (p : Process). outcome_at me (record { rank = i; doing = Iterates g; up_to = u }) (lived given Whole) (iteration_of me p (Iterates g))) up in
       record {
         process = ap (λ (a : Alone). a.process) step;
         number_is = ap (λ (a : Alone). newest a.lives) step ∙ L.number_is;
@@ -226,14 +226,14 @@ module _ (i : ℕ) (me : Me) (number : ℕ) (stood : Stood) (clock : Option Read
             ∙ ap (λ (xs : List Outgoing). xs ++ map (under number) last) all
             ∙ append_assoc (alone me earlier).sends (map (under number) before) (map (under number) last)
             ∙ ap (λ (xs : List Outgoing). (alone me earlier).sends ++ xs) (sym (map-append (under number) before last));
-        told = sent_both L.before (left_by me t Whole).sends link t.serving.outside.link (turn me g now).serving.outside.link L.told
-            (turn_sent me g now ∙ sent_now (left_by me t Whole).sends t.serving.outside.link now.outside.link
-            (ended_link me t now e ∙ ap (λ (l : Left). option_map (and_sent l.sends) t.serving.outside.link) (sym whole)));
+        observed = sent_both L.before (outcome_of me t Whole).sends link t.serving.outside.link (iteration me g now).serving.outside.link L.observed
+            (iteration_sent me g now ∙ sent_now (outcome_of me t Whole).sends t.serving.outside.link now.outside.link
+            (ended_link me t now e ∙ ap (λ (l : StepOutcome). option_map (and_sent l.sends) t.serving.outside.link) (sym whole)));
       }
 
-  pub last_is : (given : List Given) (u : Until) (t : Turn) → last_turn me first begun given ≡ Ok t → LastIs given u t
+  pub last_is : (given : List Given) (u : Until) (t : Iteration) → last_iteration me first begun given ≡ Ok t → LastIs given u t
   last_is [] u t e = let same : start first begun ≡ t = cc in subst (LastIs [] u) same (started u)
   last_is (g ∷ given) u t e =
-      let b = turn_behind (last_turn me first begun given >>= ended_turn me) g t e in
-      let c = ended_behind (last_turn me first begun given) b.0 b.1 in
-      subst (LastIs (g ∷ given) u) b.2 (next_turn given g u c.0 b.0 c.2 (last_is given Whole c.0 c.1))
+      let b = iteration_behind (last_iteration me first begun given >>= ended_iteration me) g t e in
+      let c = ended_behind (last_iteration me first begun given) b.0 b.1 in
+      subst (LastIs (g ∷ given) u) b.2 (next_iteration given g u c.0 b.0 c.2 (last_is given Whole c.0 c.1))

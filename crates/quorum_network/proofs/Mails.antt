@@ -7,7 +7,7 @@ use Rattle.mon_msg.specs.Protocol.Sets.{only}
 use Rattle.mon_msg.specs.declared.view.Me.{Me}
 use Rattle.mon_node.specs.Hearing.{is_request}
 use Rattle.mon_types.specs.Ranks.{no_ranks, with_rank}
-use Rattle.mon_wire.specs.Message.Bodies.{spelled as body_spelled}
+use Rattle.mon_wire.specs.Message.Bodies.{encoded as body_encoded}
 use Rattle.mon_wire.specs.Message.Fields.{number_bytes, set_bytes}
 use Rattle.mon_wire.specs.Message.Whole.{HasText, text}
 use Rattle.mon_wire.specs.declared.body.Body.TheVariants as body
@@ -39,7 +39,7 @@ pub record IsMail (j : ℕ) (m : Message) : Type 0 where
   pub count : m.monitors ≡ 3
   pub tells : is_request m.body ≡ false
 
-mail : (j e : ℕ) (b : Body) → j < 3 → e ≤ 2 ^ 62 → is_request b ≡ false → ((body_spelled 3 j b).tag ≡ 24 → ⊥) → (body_spelled 3 j b).Form → length (text (says 3 j e b)) ≤ 60000 → IsMail j (says 3 j e b)
+mail : (j e : ℕ) (b : Body) → j < 3 → e ≤ 2 ^ 62 → is_request b ≡ false → ((body_encoded 3 j b).tag ≡ 24 → ⊥) → (body_encoded 3 j b).Form → length (text (says 3 j e b)) ≤ 60000 → IsMail j (says 3 j e b)
 mail j e b lt le asks_nothing other form short = record {
   has = record { form = record { sender = lt; monitors = lit≤ tt; epoch = le; asks = λ is. absurd (other is); body = form }; short = omega (arith, short) };
   short = short;

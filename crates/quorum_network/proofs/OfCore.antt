@@ -2,7 +2,7 @@
 use Rattle.std.proofs.Common.{◌≡◌, nat_lt, Bool, true, false, cond, Option, Some, None, IfSome, Result, Ok, sym, ap, subst, ◌∙◌}
 use Rattle.std.specs.List.{AllByRecursion}
 use Rattle.mon_core.specs.Core.{Monitor}
-use Rattle.mon_core.specs.Reacts.{IsReaction, TellsNamed}
+use Rattle.mon_core.specs.Reacts.{IsReaction, SendsNamed}
 use Rattle.mon_core.specs.declared.reaction.Reaction as core
 use Rattle.mon_kv.specs.Readers.{most_size, size_of}
 use Rattle.mon_msg.specs.Protocol.Reaction.{Reaction, reaction}
@@ -10,20 +10,20 @@ use Rattle.mon_msg.specs.Protocol.State.{State}
 use Rattle.mon_msg.specs.declared.view.Me.{Me}
 use Rattle.mon_node.specs.Nodes.{Serving}
 use Rattle.mon_node.specs.Serving.{of_input}
-use Rattle.mon_node.specs.Turns.{Turn, map_after, reaction_to}
+use Rattle.mon_node.specs.Iterations.{Iteration, map_after, reaction_to}
 use Rattle.mon_node.specs.declared.hearing.TimedInput.{TimedInput}
 use Rattle.mon_types.specs.declared.names.Which.{Which}
 use Rattle.quorum_network.specs.AnyDisk.{AreNamed}
 use Rattle.quorum_network.specs.Network.{Kept, Lost, Until, Whole, kept_reaction}
 
 abbrev Named : Reaction → Type 0
-Named q = AllByRecursion TellsNamed q.sends
+Named q = AllByRecursion SendsNamed q.sends
 
 pub core_names : (me : Me) (s : Serving) (it : TimedInput) (u : Until) (old new : Monitor) (r : core.Reaction) → old.me ≡ me → old.state ≡ s.node.state → IsReaction old new s.node.store.kv it.at it.input r
     → AreNamed me u (Some (record { came = Ok (Some it); serving = s }))
 core_names me s it u old new r me_is state_is R = by u
   where
-    t : Turn
+    t : Iteration
     t = record { came = Ok (Some it); serving = s }
 
     done : Reaction

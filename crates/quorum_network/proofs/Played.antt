@@ -12,22 +12,22 @@ use Rattle.mon_link.specs.declared.link.Peer.TheVariants.{Monitor, Client}
 use Rattle.mon_msg.specs.Protocol.Timers.{due}
 use Rattle.mon_msg.specs.declared.view.Me.{Me}
 use Rattle.mon_node.specs.Hearing.{due_by}
-use Rattle.mon_node.specs.Turns.{Turn}
+use Rattle.mon_node.specs.Iterations.{Iteration}
 use Rattle.mon_store.specs.Pair.{Create}
-use Rattle.mon_store.specs.Stood.{Stood, standing_of}
+use Rattle.mon_store.specs.StoreView.{StoreView, standing_of}
 use Rattle.mon_tx.specs.Map.{Store}
 use Rattle.mon_types.specs.declared.member.Member.{Member}
 use Rattle.mon_wire.specs.declared.phase.Timer.{Timer}
 use Rattle.quorum_model.specs.Monitors.{Monitors, me_of}
 use Rattle.quorum_network.specs.Lives.{lives_then}
-use Rattle.quorum_network.specs.Network.{AllMay, Begins, Doing, Down, IsAsked, IsNew, May, Network, Posted, Process, Step, Turns, Until, Up, Whole, after_step, first_network, if_made, lives_after, made_by, map_of, network, turn_of}
+use Rattle.quorum_network.specs.Network.{AllMay, Begins, Doing, Down, IsAsked, IsNew, May, Network, Posted, Process, Step, Iterates, Until, Up, Whole, after_step, first_network, if_made, lives_after, made_by, map_of, network, iteration_of}
 use Rattle.quorum_network.proofs.Assembled.{contains_cases, contains_first, contains_later}
 use Rattle.quorum_network.proofs.Promised.{one_log}
 
 -- ---- a datagram
 
 abbrev pub comes : ℕ → ℕ → List ℕ → (clock : ℕ) → Until → Step
-comes j i bytes clock u = record { rank = i; doing = Turns (record { began = clock; answer = Ok (Datagram (Monitor j) bytes); later = clock }); up_to = u }
+comes j i bytes clock u = record { rank = i; doing = Iterates (record { began = clock; answer = Ok (Datagram (Monitor j) bytes); later = clock }); up_to = u }
 
 abbrev pub to_monitor : ℕ → ℕ → List ℕ → Posted
 to_monitor j i bytes = record { by = j; datagram = record { to = Monitor i; bytes = bytes } }
@@ -60,12 +60,12 @@ pub data Play : Type 0 where
   Starts : (rank number : ℕ) → Until → Play
   -- the datagram with this number, counted from 0 in the order of sending, arrives at the monitor that it was sent to, at
   -- this reading of that monitor's clock
-  Comes : (datagram clock : ℕ) → Until → Play
+  Arrives : (datagram clock : ℕ) → Until → Play
   -- nothing comes to a process
   Waits : (rank clock : ℕ) → Until → Play
 
 abbrev pub idle : (i now : ℕ) → Until → Step
-idle i now u = record { rank = i; doing = Turns (record { began = now; answer = Ok Idle; later = now }); up_to = u }
+idle i now u = record { rank = i; doing = Iterates (record { began = now; answer = Ok Idle; later = now }); up_to = u }
 
 abbrev comes_to : Peer → ℕ → List ℕ → (clock : ℕ) → Until → Step
 comes_to (Monitor i) j bytes clock u = comes j i bytes clock u
@@ -81,12 +81,12 @@ datagram_at (d ∷ ds) zero = Some d
 datagram_at (d ∷ ds) (suc k) = datagram_at ds k
 
 -- the store of a member, with this map
-abbrev pub store_with : Member → Store → Stood
+abbrev pub store_with : Member → Store → StoreView
 store_with member m = record (standing_of member Create empty) { kv = m }
 
 abbrev pub step_of : Member → Network → Play → Step
 step_of member net (Starts i number u) = record { rank = i; doing = Begins number (store_with member (map_of (net.process i))) None None 0; up_to = u }
-step_of member net (Comes k clock u) = if_sent (datagram_at net.sent k) clock u
+step_of member net (Arrives k clock u) = if_sent (datagram_at net.sent k) clock u
 step_of member net (Waits i now u) = idle i now u
 
 idle_may : (net : Network) (i now : ℕ) (u : Until) (p : Process) → May net i p (idle i now u).doing
@@ -106,7 +106,7 @@ datagram_among (x ∷ ds) (suc k) d e = let c = datagram_among ds k d e in (suc 
 
 abbrev and_its_number : Play → ℕ → List ℕ → List ℕ
 and_its_number (Starts rank number u) i older = cond (eqb rank i) (number ∷ older) older
-and_its_number (Comes datagram clock u) i older = older
+and_its_number (Arrives datagram clock u) i older = older
 and_its_number (Waits rank clock u) i older = older
 
 -- the numbers with which a rank begins in these plays, the newest first
@@ -117,7 +117,7 @@ numbers_in i (p ∷ earlier) = and_its_number p i (numbers_in i earlier)
 -- no rank begins twice with one number
 abbrev IsNewIn : List Play → Play → Type 0
 IsNewIn earlier (Starts rank number u) = (number ≤ 2 ^ 62) × ¬ Contains (numbers_in rank earlier) number
-IsNewIn earlier (Comes datagram clock u) = Unit {0}
+IsNewIn earlier (Arrives datagram clock u) = Unit {0}
 IsNewIn earlier (Waits rank clock u) = Unit {0}
 
 abbrev pub AreNew : List Play → Type 0
@@ -127,8 +127,8 @@ AreNew (p ∷ earlier) = AreNew earlier × IsNewIn earlier p
 -- what a step leaves of the lives of a rank
 module _ (ms : Monitors) (net : Network) (s : Step) (i : ℕ) (P : List ℕ → Type 0) (old : P (net.lives i)) (new : s.rank ≡ i → P (lives_then s.doing (net.lives i))) where
   begins_so : (doing : Doing) → (s.rank ≡ i → P (lives_then doing (net.lives i))) → P (lives_after net.lives s.rank doing i)
-  begins_so (Turns g) h = old
-  begins_so (Begins number stood clock link first) h = by (eqb i s.rank) refl
+  begins_so (Iterates g) h = old
+  begins_so (Begins number store_view clock link first) h = by (eqb i s.rank) refl
     where
       by : (b : Bool) → eqb i s.rank ≡ b → P (cond b (number ∷ net.lives s.rank) (net.lives i))
       by true e = let same : i ≡ s.rank = eqb-true i s.rank e in subst (λ (k : ℕ). P (number ∷ net.lives k)) same (h (sym same))
@@ -137,24 +137,24 @@ module _ (ms : Monitors) (net : Network) (s : Step) (i : ℕ) (P : List ℕ → 
   lives_left : P ((after_step ms net s).lives i)
   lives_left = by (me_of ms s.rank)
     where
-      made : (m : Me) (t : Option Turn) → P ((if_made m net s t).lives i)
+      made : (m : Me) (t : Option Iteration) → P ((if_made m net s t).lives i)
       made m None = old
       made m (Some t) = begins_so s.doing new
 
       by : (x : Option Me) → P ((made_by net s x).lives i)
       by None = old
-      by (Some m) = made m (turn_of m (net.process s.rank) s.doing)
+      by (Some m) = made m (iteration_of m (net.process s.rank) s.doing)
 
 abbrev IfNew : Network → Play → Type 0
 IfNew net (Starts i number u) = IsNew net i number
-IfNew net (Comes k clock u) = Unit {0}
+IfNew net (Arrives k clock u) = Unit {0}
 IfNew net (Waits i now u) = Unit {0}
 
 -- each play may happen
 may_play : (member : Member) (net : Network) (p : Play) → IfNew net p → May net (step_of member net p).rank (net.process (step_of member net p).rank) (step_of member net p).doing
 may_play member net (Starts i number u) new = (refl, new)
 may_play member net (Waits i now u) new = idle_may net i now u (net.process i)
-may_play member net (Comes k clock u) new = by (datagram_at net.sent k) refl
+may_play member net (Arrives k clock u) new = by (datagram_at net.sent k) refl
   where
     to_it : (d : Posted) → Contains net.sent d → (to : Peer) → d.datagram.to ≡ to
         → May net (comes_to to d.by d.datagram.bytes clock u).rank (net.process (comes_to to d.by d.datagram.bytes clock u).rank) (comes_to to d.by d.datagram.bytes clock u).doing
@@ -192,7 +192,7 @@ module _ (ms : Monitors) (member : Member) where
         by : (b : Bool) → Contains (cond b (other ∷ older) older) number
         by true = contains_later other older number c
         by false = c
-    still_among (Comes k clock u) older c = c
+    still_among (Arrives k clock u) older c = c
     still_among (Waits rank clock u) older c = c
 
     -- a play that begins nothing
@@ -212,7 +212,7 @@ module _ (ms : Monitors) (member : Member) where
           | inl first ↦ subst (Contains (other ∷ older)) first (contains_first other older)
           | inr later ↦ contains_later other older number (h later)
         ])
-    begun_among net (Comes k clock u) older h e c = h (if_turned (datagram_at net.sent k) clock u (net.lives i) c)
+    begun_among net (Arrives k clock u) older h e c = h (if_turned (datagram_at net.sent k) clock u (net.lives i) c)
     begun_among net (Waits rank clock u) older h e c = h c
 
     lives_among : (ps : List Play) → Contains ((played ps).lives i) number → Contains (numbers_in i ps) number
@@ -224,7 +224,7 @@ module _ (ms : Monitors) (member : Member) where
 
   if_new : (p : Play) (earlier : List Play) → IsNewIn earlier p → IfNew (played earlier) p
   if_new (Starts i number u) earlier new = (new.0, λ c. new.1 (lives_among i number earlier c))
-  if_new (Comes k clock u) earlier new = tt
+  if_new (Arrives k clock u) earlier new = tt
   if_new (Waits i now u) earlier new = tt
 
   pub all_may : (ps : List Play) → AreNew ps → AllMay ms (steps_of ps)

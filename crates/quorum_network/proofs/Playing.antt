@@ -25,15 +25,15 @@ use Rattle.mon_msg.specs.declared.plan.Sent.TheVariants as sent
 use Rattle.mon_msg.specs.declared.plan.Sent.{Sent}
 use Rattle.mon_msg.specs.declared.view.Me.{Me}
 use Rattle.mon_node.proofs.Sending.{all_numbered}
-use Rattle.mon_node.specs.Hearing.{Given, Heard, at_moment, due_by, heard_by, input_in, input_read, is_request, wait_until}
+use Rattle.mon_node.specs.Hearing.{Given, Heard, at_time, due_by, heard_by, input_in, input_read, is_request, wait_until}
 use Rattle.mon_node.specs.Keeping.{kept}
 use Rattle.mon_node.specs.Nodes.{Serving}
-use Rattle.mon_node.specs.Posting.{boot_in, datagrams, letters, next_after, next_behind, to_peer}
+use Rattle.mon_node.specs.Posting.{boot_in, datagrams, letters, next_after, next_after_message, to_peer}
 use Rattle.mon_node.specs.Serving.{of_input, sends_of}
-use Rattle.mon_node.specs.Turns.{Turn, ended_turn, map_after, numbered_by, reacted, turn}
+use Rattle.mon_node.specs.Iterations.{Iteration, ended_iteration, map_after, numbered_by, reacted, iteration}
 use Rattle.mon_node.specs.declared.end.NodeEnd.TheVariants as end
 use Rattle.mon_node.specs.declared.hearing.TimedInput.{TimedInput}
-use Rattle.mon_store.specs.Stood.{Stood}
+use Rattle.mon_store.specs.StoreView.{StoreView}
 use Rattle.mon_tx.specs.Map.{Store, apply}
 use Rattle.mon_types.specs.declared.names.Which.TheVariants as which
 use Rattle.mon_wire.specs.Message.Whole.{HasText, text}
@@ -41,7 +41,7 @@ use Rattle.mon_wire.specs.declared.message.Message.{Message}
 use Rattle.mon_wire.specs.declared.refusal.MsgRefused.{MsgRefused}
 use Rattle.mon_wire.specs.declared.phase.Timer.{Timer}
 use Rattle.quorum_model.specs.Monitors.{Monitors, me_of}
-use Rattle.quorum_network.specs.Network.{Doing, Down, Kept, Left, Network, Posted, Process, Turns, Until, Up, Whole, after_step, down, entered, if_made, left_by, made_by, number_of, posted, turn_of, under, with_left}
+use Rattle.quorum_network.specs.Network.{Doing, Down, Kept, StepOutcome, Network, Posted, Process, Iterates, Until, Up, Whole, after_step, down, entered, if_made, outcome_of, made_by, number_of, posted, iteration_of, under, with_outcome}
 use Rattle.quorum_network.proofs.Ends.{up_is}
 use Rattle.quorum_network.proofs.Played.{comes, idle}
 use Rattle.quorum_network.proofs.Steps.{kept_kv}
@@ -51,7 +51,7 @@ use Rattle.quorum_network.proofs.Steps.{kept_kv}
 abbrev pub IsShort : Outgoing → Type 0
 IsShort o = length o.bytes ≤ 60000
 
-short_behind : (next : ℕ) (o : Outgoing) → IsShort o → next_behind next (length o.bytes) ≡ next
+short_behind : (next : ℕ) (o : Outgoing) → IsShort o → next_after_message next (length o.bytes) ≡ next
 short_behind next o short = ap (λ (b : Bool). cond b (next + 1) next) (le-ltb 60000 (length o.bytes) short)
 
 short_next : (next : ℕ) (os : List Outgoing) → AllByRecursion IsShort os → next_after next os ≡ next
@@ -68,7 +68,7 @@ short_pieces boot next o short = by (leb (length o.bytes) 60000) (le-leb (length
 short_datagrams : (boot next : ℕ) (os : List Outgoing) → AllByRecursion IsShort os → datagrams boot next os ≡ os
 short_datagrams boot next [] h = refl
 short_datagrams boot next (o ∷ os) h =
-    ap (λ (pieces : List (List ℕ)). map (to_peer o.to) pieces ++ datagrams boot (next_behind next (length o.bytes)) os) (short_pieces boot next o h.0)
+    ap (λ (pieces : List (List ℕ)). map (to_peer o.to) pieces ++ datagrams boot (next_after_message next (length o.bytes)) os) (short_pieces boot next o h.0)
     ∙ ap (λ (n : ℕ). o ∷ datagrams boot n os) (short_behind next o h.0)
     ∙ ap (λ (xs : List Outgoing). o ∷ xs) (short_datagrams boot next os h.1)
 
@@ -80,20 +80,20 @@ under_letters number me m (sent.Reply to r ∷ sends) = ap (λ (os : List Outgoi
 
 -- ---- a process that joins nothing
 
-abbrev pub serving_with : Stood → State → Serving
-serving_with stood st = record {
-  node = record { state = st; store = stood; next = 1 };
+abbrev pub serving_with : StoreView → State → Serving
+serving_with store_view st = record {
+  node = record { state = st; store = store_view; next = 1 };
   outside = record { parts = []; clock = None; link = None };
 }
 
-abbrev pub left_as : Process → List Outgoing → Left
-left_as p ds = record { process = p; sends = ds }
+abbrev pub outcome_as : Process → List Outgoing → StepOutcome
+outcome_as p ds = record { process = p; sends = ds }
 
 -- process i is up, keeps this map and remembers this state
 pub record Sits (net : Network) (i : ℕ) (kv : Store) (st : State) : Type 0 where
-  pub stood : Stood
-  pub map : stood.kv ≡ kv
-  pub up : net.process i ≡ Up (serving_with stood st)
+  pub store_view : StoreView
+  pub map : store_view.kv ≡ kv
+  pub up : net.process i ≡ Up (serving_with store_view st)
 
 -- process i takes a step and sends these datagrams; the others stay as they were
 pub record Goes (net next : Network) (i : ℕ) (kv : Store) (st : State) (sent : List Posted) : Type 0 where
@@ -102,106 +102,106 @@ pub record Goes (net next : Network) (i : ℕ) (kv : Store) (st : State) (sent :
   pub wire : next.sent ≡ net.sent ++ sent
 
 pub stays : (net next : Network) (i j : ℕ) (kv other : Store) (st mine : State) (sent : List Posted) → Goes net next i other mine sent → eqb j i ≡ false → Sits net j kv st → Sits next j kv st
-stays net next i j kv other st mine sent G e S = record { stood = S.stood; map = S.map; up = G.others j e ∙ S.up }
+stays net next i j kv other st mine sent G e S = record { store_view = S.store_view; map = S.map; up = G.others j e ∙ S.up }
 
 abbrev pub IsSmall : Store → Type 0
 IsSmall m = nat_lt most_size (size_of m) ≡ false
 
 module _ (ms : Monitors) (i : ℕ) (me : Me) (is : me_of ms i ≡ Some me) where
   -- an iteration with this input, at which the core reacts so
-  module _ (stood : Stood) (st : State) (it : TimedInput) (r : Reaction) (reacts : reaction me it.at stood.kv st it.input ≡ Ok r) (small : IsSmall (apply r.transaction stood.kv))
-      (short : AllByRecursion IsShort (letters me (apply r.transaction stood.kv) r.sends)) where
+  module _ (store_view : StoreView) (st : State) (it : TimedInput) (r : Reaction) (reacts : reaction me it.at store_view.kv st it.input ≡ Ok r) (small : IsSmall (apply r.transaction store_view.kv))
+      (short : AllByRecursion IsShort (letters me (apply r.transaction store_view.kv) r.sends)) where
     abbrev s : Serving
-    s = serving_with stood st
+    s = serving_with store_view st
 
-    abbrev t : Turn
+    abbrev t : Iteration
     t = record { came = Ok (Some it); serving = s }
 
     abbrev outs : List Outgoing
-    outs = letters me (apply r.transaction stood.kv) r.sends
+    outs = letters me (apply r.transaction store_view.kv) r.sends
 
     abbrev now : ℕ → Serving
-    now n = record { node = record { state = r.state; store = kept r.transaction stood; next = n }; outside = record { parts = []; clock = None; link = None } }
+    now n = record { node = record { state = r.state; store = kept r.transaction store_view; next = n }; outside = record { parts = []; clock = None; link = None } }
 
     few : nat_lt (2 ^ 62 + 1) (next_after 1 outs) ≡ false
     few = ap (λ (n : ℕ). nat_lt (2 ^ 62 + 1) n) (short_next 1 outs short)
 
-    ended : ended_turn me t ≡ Ok (now 1)
-    unfolding ended_turn
+    ended : ended_iteration me t ≡ Ok (now 1)
+    unfolding ended_iteration
     ended =
         ap (reacted me s) reacts
-        ∙ ap (λ (b : Bool). cond b (Err (end.Full (size_of (apply r.transaction stood.kv)))) (cond (nat_lt (2 ^ 62 + 1) (next_after 1 outs)) (Err (end.Spent which.Seq)) (Ok (now (next_after 1 outs))))) small
+        ∙ ap (λ (b : Bool). cond b (Err (end.Full (size_of (apply r.transaction store_view.kv)))) (cond (nat_lt (2 ^ 62 + 1) (next_after 1 outs)) (Err (end.Spent which.Seq)) (Ok (now (next_after 1 outs))))) small
         ∙ ap (λ (b : Bool). cond b (Err (end.Spent which.Seq)) (Ok (now (next_after 1 outs)))) few
         ∙ ap (λ (n : ℕ). Ok (now n)) (short_next 1 outs short)
 
     numbered : numbered_by me s.node r ≡ outs
     numbered =
         let le = short_next 1 outs short in
-        ap (datagrams (boot_in (apply r.transaction stood.kv)) 1) (all_numbered 1 outs (omega (arith, le))) ∙ short_datagrams (boot_in (apply r.transaction stood.kv)) 1 outs short
+        ap (datagrams (boot_in (apply r.transaction store_view.kv)) 1) (all_numbered 1 outs (omega (arith, le))) ∙ short_datagrams (boot_in (apply r.transaction store_view.kv)) 1 outs short
 
     sends_are : sends_of me t ≡ outs
     sends_are =
         ap (of_input [] (λ (q : Reaction). cond (nat_lt most_size (size_of (map_after s.node q))) [] (numbered_by me s.node q))) reacts
         ∙ ap (λ (b : Bool). cond b [] (numbered_by me s.node r)) small ∙ numbered
 
-    whole : left_by me t Whole ≡ left_as (Up (now 1)) outs
-    whole = up_is me t (now 1) ended ∙ ap (left_as (Up (now 1))) sends_are
+    whole : outcome_of me t Whole ≡ outcome_as (Up (now 1)) outs
+    whole = up_is me t (now 1) ended ∙ ap (outcome_as (Up (now 1))) sends_are
 
     -- killed once these of its datagrams were sent
-    killed : (k : ℕ) → left_by me t (Kept k) ≡ left_as (Down (apply r.transaction stood.kv)) (take k outs)
+    killed : (k : ℕ) → outcome_of me t (Kept k) ≡ outcome_as (Down (apply r.transaction store_view.kv)) (take k outs)
     killed k =
         ap (down me s.node k) (ap (of_input None (λ (q : Reaction). cond (nat_lt most_size (size_of (map_after s.node q))) None (Some q))) reacts ∙ ap (λ (b : Bool). cond b None (Some r)) small)
-        ∙ ap (λ (ds : List Outgoing). left_as (Down (apply r.transaction stood.kv)) (take k ds)) numbered
+        ∙ ap (λ (ds : List Outgoing). outcome_as (Down (apply r.transaction store_view.kv)) (take k ds)) numbered
 
-  step_is : (net : Network) (doing : Doing) (u : Until) (t : Turn) → turn_of me (net.process i) doing ≡ Some t → after_step ms net (record { rank = i; doing = doing; up_to = u }) ≡ with_left (entered net i doing) i (left_by me t u)
+  step_is : (net : Network) (doing : Doing) (u : Until) (t : Iteration) → iteration_of me (net.process i) doing ≡ Some t → after_step ms net (record { rank = i; doing = doing; up_to = u }) ≡ with_outcome (entered net i doing) i (outcome_of me t u)
   step_is net doing u t e =
       ap (made_by net (record { rank = i; doing = doing; up_to = u })) is ∙ ap (if_made me net (record { rank = i; doing = doing; up_to = u })) e
 
-  goes : (net next : Network) (doing : Doing) (stood : Stood) (st : State) (outs : List Outgoing) (kv : Store) → next ≡ with_left (entered net i doing) i (left_as (Up (serving_with stood st)) outs) → stood.kv ≡ kv
+  goes : (net next : Network) (doing : Doing) (store_view : StoreView) (st : State) (outs : List Outgoing) (kv : Store) → next ≡ with_outcome (entered net i doing) i (outcome_as (Up (serving_with store_view st)) outs) → store_view.kv ≡ kv
       → ((number : ℕ) → map (under number) outs ≡ outs) → Goes net next i kv st (map (posted i) outs)
-  goes net next doing stood st outs kv e same plain = subst (λ (n : Network). Goes net n i kv st (map (posted i) outs)) (sym e) (record {
-    sits = record { stood = stood; map = same; up = ap (λ (b : Bool). cond b (Up (serving_with stood st)) (net.process i)) (eq-eqb i i refl) };
-    others = λ j ne. ap (λ (b : Bool). cond b (Up (serving_with stood st)) (net.process j)) ne;
+  goes net next doing store_view st outs kv e same plain = subst (λ (n : Network). Goes net n i kv st (map (posted i) outs)) (sym e) (record {
+    sits = record { store_view = store_view; map = same; up = ap (λ (b : Bool). cond b (Up (serving_with store_view st)) (net.process i)) (eq-eqb i i refl) };
+    others = λ j ne. ap (λ (b : Bool). cond b (Up (serving_with store_view st)) (net.process j)) ne;
     wire = ap (λ (ds : List Outgoing). net.sent ++ map (posted i) ds) (plain (number_of (entered net i doing).lives i));
   })
 
   -- what the core does by what it reads of the map
   module _ (kv : Store) (w : Readings) (told : readings_of kv ≡ w) (st : State) (r : Reaction) (kept_is : Store) (becomes : apply r.transaction kv ≡ kept_is) (small : IsSmall kept_is)
       (short : AllByRecursion IsShort (letters me kept_is r.sends)) where
-    module _ (stood : Stood) (same : stood.kv ≡ kv) (it : TimedInput) (row : any_reaction (react me (shared_entries kv) it.at w st it.input) ≡ Ok r) where
-      then_is : apply r.transaction stood.kv ≡ kept_is
+    module _ (store_view : StoreView) (same : store_view.kv ≡ kv) (it : TimedInput) (row : any_reaction (react me (shared_entries kv) it.at w st it.input) ≡ Ok r) where
+      then_is : apply r.transaction store_view.kv ≡ kept_is
       then_is = ap (apply r.transaction) same ∙ becomes
 
-      reacts_so : reaction me it.at stood.kv st it.input ≡ Ok r
+      reacts_so : reaction me it.at store_view.kv st it.input ≡ Ok r
       reacts_so = ap (λ (m : Store). reaction me it.at m st it.input) same ∙ ap (λ (x : Readings). any_reaction (react me (shared_entries kv) it.at x st it.input)) told ∙ row
 
-      small_so : IsSmall (apply r.transaction stood.kv)
+      small_so : IsSmall (apply r.transaction store_view.kv)
       small_so = subst IsSmall (sym then_is) small
 
-      short_so : AllByRecursion IsShort (letters me (apply r.transaction stood.kv) r.sends)
+      short_so : AllByRecursion IsShort (letters me (apply r.transaction store_view.kv) r.sends)
       short_so = subst (λ (m : Store). AllByRecursion IsShort (letters me m r.sends)) (sym then_is) short
 
-      pub moves : (net : Network) (doing : Doing) → turn_of me (net.process i) doing ≡ Some (record { came = Ok (Some it); serving = serving_with stood st })
+      pub moves : (net : Network) (doing : Doing) → iteration_of me (net.process i) doing ≡ Some (record { came = Ok (Some it); serving = serving_with store_view st })
           → Goes net (after_step ms net (record { rank = i; doing = doing; up_to = Whole })) i kept_is r.state (map (posted i) (letters me kept_is r.sends))
       moves net doing e =
-          goes net (after_step ms net (record { rank = i; doing = doing; up_to = Whole })) doing (kept r.transaction stood) r.state (letters me kept_is r.sends) kept_is
-          (step_is net doing Whole (record { came = Ok (Some it); serving = serving_with stood st }) e
-          ∙ ap (with_left (entered net i doing) i) (whole stood st it r reacts_so small_so short_so ∙ ap (λ (m : Store). left_as (Up (serving_with (kept r.transaction stood) r.state)) (letters me m r.sends)) then_is))
-          (kept_kv r.transaction stood ∙ then_is) (λ number. under_letters number me kept_is r.sends)
+          goes net (after_step ms net (record { rank = i; doing = doing; up_to = Whole })) doing (kept r.transaction store_view) r.state (letters me kept_is r.sends) kept_is
+          (step_is net doing Whole (record { came = Ok (Some it); serving = serving_with store_view st }) e
+          ∙ ap (with_outcome (entered net i doing) i) (whole store_view st it r reacts_so small_so short_so ∙ ap (λ (m : Store). outcome_as (Up (serving_with (kept r.transaction store_view) r.state)) (letters me m r.sends)) then_is))
+          (kept_kv r.transaction store_view ∙ then_is) (λ number. under_letters number me kept_is r.sends)
 
-      pub dies : (net : Network) (doing : Doing) (k : ℕ) → turn_of me (net.process i) doing ≡ Some (record { came = Ok (Some it); serving = serving_with stood st })
-          → after_step ms net (record { rank = i; doing = doing; up_to = Kept k }) ≡ with_left (entered net i doing) i (left_as (Down kept_is) (take k (letters me kept_is r.sends)))
+      pub dies : (net : Network) (doing : Doing) (k : ℕ) → iteration_of me (net.process i) doing ≡ Some (record { came = Ok (Some it); serving = serving_with store_view st })
+          → after_step ms net (record { rank = i; doing = doing; up_to = Kept k }) ≡ with_outcome (entered net i doing) i (outcome_as (Down kept_is) (take k (letters me kept_is r.sends)))
       dies net doing k e =
-          step_is net doing (Kept k) (record { came = Ok (Some it); serving = serving_with stood st }) e
-          ∙ ap (with_left (entered net i doing) i) (killed stood st it r reacts_so small_so short_so k ∙ ap (λ (m : Store). left_as (Down m) (take k (letters me m r.sends))) then_is)
+          step_is net doing (Kept k) (record { came = Ok (Some it); serving = serving_with store_view st }) e
+          ∙ ap (with_outcome (entered net i doing) i) (killed store_view st it r reacts_so small_so short_so k ∙ ap (λ (m : Store). outcome_as (Down m) (take k (letters me m r.sends))) then_is)
 
     -- a message comes to it
     module _ (net : Network) (S : Sits net i kv st) (j : ℕ) (m : Message) (has : HasText m) (fits : length (text m) ≤ 60000) (from : m.from ≡ j) (count : m.monitors ≡ me.member.monitors)
         (tells : is_request m.body ≡ false) (clock : ℕ) (rests : due_by clock (due st.timers) ≡ None) where
-      abbrev heard_as : Outcome → Turn
+      abbrev heard_as : Outcome → Iteration
       heard_as out = record {
-        came = Ok (option_map (at_moment clock) (input_in me.member.monitors (Monitor j) (answer_in out)));
-        serving = record { node = record { state = st; store = S.stood; next = 1 }; outside = record { parts = kept_in [] out; clock = None; link = None } };
+        came = Ok (option_map (at_time clock) (input_in me.member.monitors (Monitor j) (answer_in out)));
+        serving = record { node = record { state = st; store = S.store_view; next = 1 }; outside = record { parts = kept_in [] out; clock = None; link = None } };
       }
 
       abbrev it : TimedInput
@@ -217,34 +217,34 @@ module _ (ms : Monitors) (i : ℕ) (me : Me) (is : me_of ms i ≡ Some me) where
           ∙ ap (λ (b : Bool). cond (b && not (is_request m.body)) (Some (input.Deliver m)) None) (eq-eqb m.from j from)
           ∙ ap (λ (b : Bool). cond (not b) (Some (input.Deliver m)) None) tells
 
-      turned : turn me given (serving_with S.stood st) ≡ record { came = Ok (Some it); serving = serving_with S.stood st }
-      unfolding turn
+      turned : iteration me given (serving_with S.store_view st) ≡ record { came = Ok (Some it); serving = serving_with S.store_view st }
+      unfolding iteration
       turned =
-          ap (λ (x : Option Timer). turn_as (heard_by x me.member.monitors (wait_until clock (due st.timers)) given (record { parts = []; clock = None; link = None }))) rests
+          ap (λ (x : Option Timer). iteration_as (heard_by x me.member.monitors (wait_until clock (due st.timers)) given (record { parts = []; clock = None; link = None }))) rests
           ∙ ap heard_as (short_taken (Monitor j) (λ (x : frag.Message). Unit {0}) [] (Monitor j) (text m) fits refl)
-          ∙ ap (λ (x : Option Input). came_as (option_map (at_moment clock) x)) read_so
+          ∙ ap (λ (x : Option Input). came_as (option_map (at_time clock) x)) read_so
         where
-          turn_as : Heard → Turn
-          turn_as h = record { came = h.came; serving = record { node = record { state = st; store = S.stood; next = 1 }; outside = h.outside } }
+          iteration_as : Heard → Iteration
+          iteration_as h = record { came = h.came; serving = record { node = record { state = st; store = S.store_view; next = 1 }; outside = h.outside } }
 
-          came_as : Option TimedInput → Turn
-          came_as x = record { came = Ok x; serving = serving_with S.stood st }
+          came_as : Option TimedInput → Iteration
+          came_as x = record { came = Ok x; serving = serving_with S.store_view st }
 
       pub hears : any_reaction (react me (shared_entries kv) clock w st (input.Deliver m)) ≡ Ok r
           → Goes net (after_step ms net (comes j i (text m) clock Whole)) i kept_is r.state (map (posted i) (letters me kept_is r.sends))
-      hears row = moves S.stood S.map it row net (Turns given) (ap (λ (p : Process). turn_of me p (Turns given)) S.up ∙ ap (λ (x : Turn). Some x) turned)
+      hears row = moves S.store_view S.map it row net (Iterates given) (ap (λ (p : Process). iteration_of me p (Iterates given)) S.up ∙ ap (λ (x : Iteration). Some x) turned)
 
     -- a timer comes
     pub rings : (net : Network) (S : Sits net i kv st) (clock : ℕ) (timer : Timer) → due_by clock (due st.timers) ≡ Some timer → any_reaction (react me (shared_entries kv) clock w st (input.Timer timer)) ≡ Ok r
         → Goes net (after_step ms net (idle i clock Whole)) i kept_is r.state (map (posted i) (letters me kept_is r.sends))
-    unfolding turn
+    unfolding iteration
     rings net S clock timer is_due row =
         let given : Given = record { began = clock; answer = Ok Idle; later = clock } in
-        moves S.stood S.map (record { input = input.Timer timer; at = clock }) row net (Turns given)
-        (ap (λ (p : Process). turn_of me p (Turns given)) S.up
+        moves S.store_view S.map (record { input = input.Timer timer; at = clock }) row net (Iterates given)
+        (ap (λ (p : Process). iteration_of me p (Iterates given)) S.up
         ∙ ap (λ (x : Option Timer). Some (turned x)) is_due)
       where
-        turned : Option Timer → Turn
+        turned : Option Timer → Iteration
         turned x =
             let h : Heard = heard_by x me.member.monitors (wait_until clock (due st.timers)) (record { began = clock; answer = Ok Idle; later = clock }) (record { parts = []; clock = None; link = None }) in
-            record { came = h.came; serving = record { node = record { state = st; store = S.stood; next = 1 }; outside = h.outside } }
+            record { came = h.came; serving = record { node = record { state = st; store = S.store_view; next = 1 }; outside = h.outside } }

@@ -2,7 +2,7 @@
 use Rattle.std.proofs.Common.{◌≡◌, ◌⊎◌, inl, inr, ℕ, zero, suc, ◌<◌, ◌≤◌, List, [], ◌∷◌, ◌++◌, length, length-append, map, Option, Some, refl, sym, ap, subst, ◌∙◌, arith, true}
 use Rattle.std.proofs.lemmas.List.{get_or_append_left}
 use Rattle.std.specs.List.{AllByRecursion, Contains}
-use Rattle.log_model.proofs.Logs.{Fronts, entry_stays, fold_stays}
+use Rattle.log_model.proofs.Logs.{IsPrefixOf, entry_stays, fold_stays}
 use Rattle.mon_kv.specs.Readers.{is_marked}
 use Rattle.mon_link.specs.declared.link.Peer.{Peer}
 use Rattle.mon_link.specs.declared.link.Peer.TheVariants.{Monitor, Client}
@@ -180,7 +180,7 @@ module _ (ms : Monitors) (asks : List Asked) (net : Network) (es : List Event) (
       are_answers = letters_answer ls A sent posted (IsReply ms.count asks all_acks (map given before) w.log) letter_is
 
   value_asked : (v : ℕ) → IsAsked ms.count w.asked w.log v → IsAsked ms.count asks w.log v
-  value_asked v A = record { by = A.by; was_asked = of_all (λ a. Contains asks a) w.asked asked A.by A.was_asked; rank = A.rank; command = A.command; is = A.is; form = A.form; ops = A.ops; made = A.made; has_text = A.has_text; spells = A.spells }
+  value_asked v A = record { by = A.by; was_asked = of_all (λ a. Contains asks a) w.asked asked A.by A.was_asked; rank = A.rank; command = A.command; is = A.is; form = A.form; ops = A.ops; made = A.made; has_text = A.has_text; encodes = A.encodes }
 
   leader_has : (a : Acknowledgement) (i : ℕ) (lt : i < ms.count) (p : Process) → net.process i ≡ p → LeaderHas a (w.state i) (w.store i) → LeaderHas a (state_of p) (map_of p)
   leader_has a i lt (Down m) e h = tt
@@ -270,8 +270,8 @@ one_log ms later earlier may =
 
 -- ---- two maps
 
-fronts : (log more : List (List ℕ)) → Fronts log (log ++ more)
-fronts log more = record { short = omega (arith, length-append log more); same = λ i h. get_or_append_left log more [] i h }
+log_prefix : (log more : List (List ℕ)) → IsPrefixOf log (log ++ more)
+log_prefix log more = record { short = omega (arith, length-append log more); same = λ i h. get_or_append_left log more [] i h }
 
 two_agree : (log more : List (List ℕ)) (a b : Store) → (¬ (is_marked a ≡ true) → Agrees log a) → (¬ (is_marked b ≡ true) → Agrees (log ++ more) b) → AgreeWith a b
 two_agree log more a b A B = record {
@@ -280,12 +280,12 @@ two_agree log more a b A B = record {
       let y = B l.unmarked in
       let at = k.to in
       let within = x.within in
-      x.records v k.from k.to ∙ ap (λ (z : List ℕ). Some z) (sym (entry_stays {log = log} {more = log ++ more} (fronts log more) v (omega arith))) ∙ sym (y.records v l.from l.to);
+      x.records v k.from k.to ∙ ap (λ (z : List ℕ). Some z) (sym (entry_stays {log = log} {more = log ++ more} (log_prefix log more) v (omega arith))) ∙ sym (y.records v l.from l.to);
   contents = λ p q same.
       let x = A p in
       let y = B q in
       let within = x.within in
-      x.folded ∙ sym (fold_stays {log = log} {more = log ++ more} (fronts log more) (last_of a) (omega arith)) ∙ ap (fold (log ++ more)) same ∙ sym y.folded;
+      x.folded ∙ sym (fold_stays {log = log} {more = log ++ more} (log_prefix log more) (last_of a) (omega arith)) ∙ ap (fold (log ++ more)) same ∙ sym y.folded;
 }
 
 pub maps_agree : (ms : Monitors) (later earlier : List Step) → AllMay ms (later ++ earlier) → (i j : ℕ) → i < ms.count → j < ms.count

@@ -8,7 +8,7 @@ use Rattle.mon_bounds.proofs.Texts.{has_text}
 use Rattle.mon_bounds.specs.Fitting.{MaySend, answer_in}
 use Rattle.mon_bounds.specs.Remembered.{IsNumber}
 use Rattle.mon_bytes.specs.declared.limits.TheConstants.{MOST_MESSAGE}
-use Rattle.mon_core.specs.Reacts.{TellsNamed}
+use Rattle.mon_core.specs.Reacts.{SendsNamed}
 use Rattle.mon_frag.specs.Headers.{is_piece}
 use Rattle.mon_kv.specs.Readers.{epoch}
 use Rattle.mon_link.specs.declared.link.Outgoing.{Outgoing}
@@ -18,7 +18,7 @@ use Rattle.mon_msg.specs.Protocol.Readings.{readings_of, epoch_of, epoch_or_firs
 use Rattle.mon_msg.specs.declared.plan.Sent.TheVariants as sent
 use Rattle.mon_msg.specs.declared.plan.Sent.{Sent}
 use Rattle.mon_msg.specs.declared.view.Me.{Me}
-use Rattle.mon_node.specs.Posting.{letters, next_behind, next_after, with_number}
+use Rattle.mon_node.specs.Posting.{letters, next_after_message, next_after, with_number}
 use Rattle.mon_tx.specs.Decision.{Cell}
 use Rattle.mon_tx.specs.Keys.{cell}
 use Rattle.mon_tx.specs.Map.{Store, number_in}
@@ -66,7 +66,7 @@ abbrev pub IsOwn : Me → Sent → Type 0
 IsOwn me (sent.Message to m) = m.from ≡ me.member.rank
 IsOwn me (sent.Reply to r) = Unit {0}
 
-pub have_texts : (me : Me) (e : ℕ) (sends : List Sent) → IsNumber e → AllByRecursion (MaySend me) sends → AllByRecursion TellsNamed sends → AllByRecursion (SentHasText me e) sends
+pub have_texts : (me : Me) (e : ℕ) (sends : List Sent) → IsNumber e → AllByRecursion (MaySend me) sends → AllByRecursion SendsNamed sends → AllByRecursion (SentHasText me e) sends
 have_texts me e [] n may named = tt
 have_texts me e (sent.Message to m ∷ sends) n may named = ((has_text m).1 (may.0.1.form named.0, may.0.1.fits), have_texts me e sends n may.1 named.1)
 have_texts me e (sent.Reply to r ∷ sends) n may named = ((has_text (answer_in me e to r)).1 ((may.0 e n).form tt, (may.0 e n).fits), have_texts me e sends n may.1 named.1)
@@ -119,13 +119,13 @@ module _ (me : Me) (m : Store) (count event i : ℕ) (rank : me.member.rank ≡ 
 
 pub all_with_number : (P : Outgoing → Type 0) (next : ℕ) (os : List Outgoing) → AllByRecursion P os → AllByRecursion P (with_number next os)
 all_with_number P next [] h = tt
-all_with_number P next (o ∷ os) h = by (ltb (2 ^ 62 + 1) (next_behind next (length o.bytes))) (all_with_number P (next_behind next (length o.bytes)) os h.1)
+all_with_number P next (o ∷ os) h = by (ltb (2 ^ 62 + 1) (next_after_message next (length o.bytes))) (all_with_number P (next_after_message next (length o.bytes)) os h.1)
   where
-    by : (b : Bool) → AllByRecursion P (with_number (next_behind next (length o.bytes)) os) → AllByRecursion P (cond b [] (o ∷ with_number (next_behind next (length o.bytes)) os))
+    by : (b : Bool) → AllByRecursion P (with_number (next_after_message next (length o.bytes)) os) → AllByRecursion P (cond b [] (o ∷ with_number (next_after_message next (length o.bytes)) os))
     by true rest = tt
     by false rest = (h.0, rest)
 
-within_by : (next behind : ℕ) (o : Outgoing) (os : List Outgoing) (b : Bool) → behind ≡ next_behind next (length o.bytes) → ltb (2 ^ 62 + 1) behind ≡ b → next ≤ 2 ^ 62 + 1
+within_by : (next behind : ℕ) (o : Outgoing) (os : List Outgoing) (b : Bool) → behind ≡ next_after_message next (length o.bytes) → ltb (2 ^ 62 + 1) behind ≡ b → next ≤ 2 ^ 62 + 1
     → (behind ≤ 2 ^ 62 + 1 → next_after behind os ≤ 2 ^ 62 + 1) → next_after next (cond b [] (o ∷ os)) ≤ 2 ^ 62 + 1
 within_by next behind o os true is e le rest = le
 within_by next behind o os false is e le rest = subst (λ (k : ℕ). next_after k os ≤ 2 ^ 62 + 1) is (rest (ltb-false _ _ e))
@@ -133,7 +133,7 @@ within_by next behind o os false is e le rest = subst (λ (k : ℕ). next_after 
 pub numbers_within : (next : ℕ) (os : List Outgoing) → next ≤ 2 ^ 62 + 1 → next_after next (with_number next os) ≤ 2 ^ 62 + 1
 numbers_within next [] le = le
 numbers_within next (o ∷ os) le =
-    let behind : ℕ = next_behind next (length o.bytes) in
+    let behind : ℕ = next_after_message next (length o.bytes) in
     within_by next behind o (with_number behind os) (ltb (2 ^ 62 + 1) behind) refl refl le (λ k. numbers_within behind os k)
 
 -- ---- labels
@@ -141,7 +141,7 @@ numbers_within next (o ∷ os) le =
 pub label_of : (Q : Peer → List ℕ → Type 0) (i boot next : ℕ) (os : List Outgoing) → AllByRecursion (λ (o : Outgoing). Q o.to o.bytes) os → (l : Letter) → Contains (labelled i boot next os) l → Q l.to l.bytes
 label_of Q i boot next [] h l (k, lt, e) = absurd (omega arith)
 label_of Q i boot next (o ∷ os) h l (zero, lt, e) = subst (λ (x : Letter). Q x.to x.bytes) e h.0
-label_of Q i boot next (o ∷ os) h l (suc k, lt, e) = label_of Q i boot (next_behind next (length o.bytes)) os h.1 l (k, omega arith, e)
+label_of Q i boot next (o ∷ os) h l (suc k, lt, e) = label_of Q i boot (next_after_message next (length o.bytes)) os h.1 l (k, omega arith, e)
 
 -- ---- datagrams
 

@@ -3,12 +3,12 @@ use Rattle.std.proofs.Common.{◌∷◌, ◌≡◌, ℕ, ◌+◌, ◌^◌, ◌<�
 use Rattle.std.proofs.lemmas.Bool.{eqb-true, eq-eqb, ltb-false}
 use Rattle.std.specs.List.{AllByRecursion, Contains}
 use Rattle.mon_bounds.proofs.Table.{boot_ok}
-use Rattle.mon_bounds.specs.Fitting.{MayCome}
+use Rattle.mon_bounds.specs.Fitting.{IsValidInput}
 use Rattle.mon_bounds.specs.Remembered.{MayRemember}
 use Rattle.mon_frag.proofs.Lists.{all_append}
 use Rattle.mon_kv.specs.Readers.{size_of, most_size}
 use Rattle.mon_link.specs.Clocks.{Readings}
-use Rattle.mon_link.specs.Links.{Told}
+use Rattle.mon_link.specs.Links.{Observed}
 use Rattle.mon_link.specs.declared.link.Outgoing.{Outgoing}
 use Rattle.mon_msg.specs.Protocol.Reaction.{Reaction, reaction}
 use Rattle.mon_msg.specs.Protocol.State.{State, booting}
@@ -18,7 +18,7 @@ use Rattle.mon_msg.specs.declared.input.Input.{Input}
 use Rattle.std.proofs.lemmas.List.{append-nil}
 use Rattle.std.specs.Option.{option_map}
 use Rattle.quorum_model.specs.Clients.{with_asked}
-use Rattle.quorum_network.specs.Requests.{Leadership, acknowledged_at, acknowledged_by, acknowledged_in_turn, asked_by, asked_in_turn, asks_in, came_in, kept_by, led_at, led_by, led_in_turn}
+use Rattle.quorum_network.specs.Requests.{Leadership, acknowledged_at, acknowledged_by, acknowledged_in_iteration, asked_by, asked_in_iteration, asks_in, requests_in, kept_by, led_at, led_by, led_in_iteration}
 use Rattle.mon_msg.specs.declared.view.Me.{Me}
 use Rattle.mon_node.specs.Hearing.{Given, due_by, wait_until, clock_read, heard, Heard}
 use Rattle.mon_node.specs.Keeping.{kept}
@@ -26,14 +26,14 @@ use Rattle.mon_node.specs.Nodes.{Node, Serving, unstarted}
 use Rattle.mon_node.proofs.Sending.{all_numbered as numbers_found}
 use Rattle.mon_node.specs.Posting.{letters, datagrams, next_after, with_number, boot_in}
 use Rattle.mon_node.specs.Serving.{of_input, sends_of}
-use Rattle.mon_node.specs.Turns.{Turn, map_after, sent_by, numbered_by, next_number, done, reaction_to, reacted, ended_turn, turn, start}
+use Rattle.mon_node.specs.Iterations.{Iteration, map_after, sent_by, numbered_by, next_number, done, reaction_to, reacted, ended_iteration, iteration, start}
 use Rattle.mon_node.specs.declared.end.NodeEnd.{NodeEnd}
 use Rattle.mon_node.specs.declared.end.NodeEnd.TheVariants as end
 use Rattle.mon_node.specs.declared.hearing.TimedInput.{TimedInput}
 use Rattle.mon_store.specs.Calls.{journal_after}
 use Rattle.mon_store.specs.Sound.{is_due, next_journal}
 use Rattle.mon_types.specs.Sides.{other as other_side}
-use Rattle.mon_store.specs.Stood.{Stood}
+use Rattle.mon_store.specs.StoreView.{StoreView}
 use Rattle.mon_tx.specs.Map.{Store, apply}
 use Rattle.mon_tx.specs.declared.op.Op.{Op}
 use Rattle.mon_types.specs.declared.names.Which.{Which}
@@ -43,7 +43,7 @@ use Rattle.quorum_model.specs.Happens.{moved}
 use Rattle.quorum_model.specs.Meets.{Arrival, arrival, message_at, state_at}
 use Rattle.quorum_model.specs.Monitors.{Monitors, me_of}
 use Rattle.quorum_model.specs.World.{Acknowledgement, Asked, Client, Deliver, Envelope, Plain, Ring, Start, World}
-use Rattle.quorum_network.specs.Network.{Network, Process, Up, Down, map_of, Doing, Begins, Turns, Until, Whole, Lost, Kept, Step, Left, turn_of, kept_reaction, down, at_end, left_by, with_left, if_made, made_by, after_step, IsAsked, May, newest, number_of}
+use Rattle.quorum_network.specs.Network.{Network, Process, Up, Down, map_of, Doing, Begins, Iterates, Until, Whole, Lost, Kept, Step, StepOutcome, iteration_of, kept_reaction, down, at_end, outcome_of, with_outcome, if_made, made_by, after_step, IsAsked, May, newest, number_of}
 use Rattle.quorum_model.specs.Happens.{put_at}
 use Rattle.quorum_network.proofs.Assembled.{contains_first, contains_later}
 use Rattle.quorum_network.proofs.Assembling.{Assembly}
@@ -55,10 +55,10 @@ use Rattle.quorum_network.proofs.Kept.{moves, next_now, bounded, new}
 use Rattle.quorum_network.proofs.Letters.{Letter, IsLong, IsPosted}
 use Rattle.quorum_network.proofs.Sends.{IsOwn, all_with_number, numbers_within, posted_front}
 
-pub kept_kv : (ops : List Op) (s : Stood) → (kept ops s).kv ≡ apply ops s.kv
+pub kept_kv : (ops : List Op) (s : StoreView) → (kept ops s).kv ≡ apply ops s.kv
 kept_kv ops s = by (is_due (journal_after s.journal ops) (apply ops s.kv))
   where
-    by : (b : Bool) → (cond {A = Stood} b (record { side = other_side s.side; journal = next_journal (journal_after s.journal ops) (apply ops s.kv); kv = apply ops s.kv }) (record { side = s.side; journal = journal_after s.journal ops; kv = apply ops s.kv })).kv ≡ apply ops s.kv
+    by : (b : Bool) → (cond {A = StoreView} b (record { side = other_side s.side; journal = next_journal (journal_after s.journal ops) (apply ops s.kv); kv = apply ops s.kv }) (record { side = s.side; journal = journal_after s.journal ops; kv = apply ops s.kv })).kv ≡ apply ops s.kv
     by true = refl
     by false = refl
 
@@ -90,7 +90,7 @@ module _ (A : Assembly) (ms : Monitors) (F : Facts ms) (net : Network) (w : Worl
   M = known ms i me is
 
   -- a process that sends nothing, and keeps its map
-  still_holds : (q : Process) → map_of q ≡ map_of (net.process i) → IfUp A ms I.ls (number_of net.lives i) i (w.state i) q → IsAlive (net.lives i) q → (J : Inv A ms (with_left net i (record { process = q; sends = [] })) w) × (J.ls ≡ I.ls)
+  still_holds : (q : Process) → map_of q ≡ map_of (net.process i) → IfUp A ms I.ls (number_of net.lives i) i (w.state i) q → IsAlive (net.lives i) q → (J : Inv A ms (with_outcome net i (record { process = q; sends = [] })) w) × (J.ls ≡ I.ls)
   still_holds q e u a = (
     record {
       ls = I.ls;
@@ -121,7 +121,7 @@ module _ (A : Assembly) (ms : Monitors) (F : Facts ms) (net : Network) (w : Worl
     pub fits : PlainFits ms.count plain
     pub there : arrival w plain ≡ Some (record { rank = i; at = it.at; input = it.input })
     pub up : state_at i (w.state i) it.input ≡ Some n.state
-    pub may : MayCome it.input
+    pub may : IsValidInput it.input
     pub own : (r : Reaction) → reaction_to me n it ≡ Ok r → AllByRecursion (IsOwn me) r.sends
     pub fresh : (l : Letter) → Contains I.ls l → IsLong l → l.by ≡ i → l.boot ≡ number_of net.lives i → l.seq < n.next
 
@@ -130,7 +130,7 @@ module _ (A : Assembly) (ms : Monitors) (F : Facts ms) (net : Network) (w : Worl
   CameSo s (Ok None) = IsUp A ms I.ls (number_of net.lives i) i (w.state i) s
   CameSo s (Err e) = Unit {0}
 
-  pub record TurnFine (came : Result (Option TimedInput) NodeEnd) (s : Serving) : Type 0 where
+  pub record IterationFine (came : Result (Option TimedInput) NodeEnd) (s : Serving) : Type 0 where
     pub kv : s.node.store.kv ≡ map_of (net.process i)
     pub parts : A.Keeps I.ls i s.outside.parts
     pub most : s.node.next ≤ 2 ^ 62 + 1
@@ -138,19 +138,19 @@ module _ (A : Assembly) (ms : Monitors) (F : Facts ms) (net : Network) (w : Worl
     pub alive : Contains (net.lives i) (number_of net.lives i)
     pub so : CameSo s came
 
-  abbrev NextOf : List Asked → List Acknowledgement → List Leadership → Left → Type 0
-  NextOf olds acks leads l = Next A ms olds acks leads net.sent I.ls (with_left net i l) w
+  abbrev NextOf : List Asked → List Acknowledgement → List Leadership → StepOutcome → Type 0
+  NextOf olds acks leads l = Next A ms olds acks leads net.sent I.ls (with_outcome net i l) w
 
   -- nothing is kept, and nothing is sent
   unkept : (olds : List Asked) (q : Process) → map_of q ≡ map_of (net.process i) → IfUp A ms I.ls (number_of net.lives i) i (w.state i) q → IsAlive (net.lives i) q → NextOf olds [] [] (record { process = q; sends = [] })
   unkept olds q e u a = let holds = still_holds q e u a in Still (append-nil net.sent) refl refl holds.0 holds.1
 
-  still_down : (olds : List Asked) (came : Result (Option TimedInput) NodeEnd) (s : Serving) → TurnFine came s → NextOf olds [] [] (record { process = Down s.node.store.kv; sends = [] })
+  still_down : (olds : List Asked) (came : Result (Option TimedInput) NodeEnd) (s : Serving) → IterationFine came s → NextOf olds [] [] (record { process = Down s.node.store.kv; sends = [] })
   still_down olds came s T = unkept olds (Down s.node.store.kv) T.kv tt tt
 
   -- ---- an iteration with an input
-  module _ (s : Serving) (it : TimedInput) (T : TurnFine (Ok (Some it)) s) where
-    abbrev t : Turn
+  module _ (s : Serving) (it : TimedInput) (T : IterationFine (Ok (Some it)) s) where
+    abbrev t : Iteration
     t = record { came = Ok (Some it); serving = s }
 
     abbrev n : Node
@@ -227,23 +227,23 @@ module _ (A : Assembly) (ms : Monitors) (F : Facts ms) (net : Network) (w : Worl
             subst (λ (o : Option Reaction). NextOf (asks_in i it.input) (acknowledged_by n o) (led_by i n o) (record { process = Up (done me s r); sends = sends_of me t })) (sym kept_is)
             (subst (λ (ds : List Outgoing). NextOf (asks_in i it.input) (acknowledged_by n (Some r)) (led_by i n (Some r)) (record { process = Up (done me s r); sends = ds })) (all_of_them r e small few) (up_next r e small few))
 
-  turn_next : (came : Result (Option TimedInput) NodeEnd) (s : Serving) (u : Until) → TurnFine came s
-      → NextOf (came_in i came) (acknowledged_by s.node (kept_by me (record { came = came; serving = s }) u)) (led_by i s.node (kept_by me (record { came = came; serving = s }) u)) (left_by me (record { came = came; serving = s }) u)
-  unfolding ended_turn
-  turn_next came s Lost T = still_down (came_in i came) came s T
-  turn_next (Err e) s Whole T = still_down [] (Err e) s T
-  turn_next (Err e) s (Kept k) T = still_down [] (Err e) s T
-  turn_next (Ok None) s Whole T = unkept [] (Up s) T.kv T.so T.alive
-  turn_next (Ok None) s (Kept k) T = still_down [] (Ok None) s T
-  turn_next (Ok (Some it)) s Whole T = whole_next s it T (reaction_to me s.node it) refl
-  turn_next (Ok (Some it)) s (Kept k) T = kept_next s it T k (reaction_to me s.node it) refl
+  iteration_next : (came : Result (Option TimedInput) NodeEnd) (s : Serving) (u : Until) → IterationFine came s
+      → NextOf (requests_in i came) (acknowledged_by s.node (kept_by me (record { came = came; serving = s }) u)) (led_by i s.node (kept_by me (record { came = came; serving = s }) u)) (outcome_of me (record { came = came; serving = s }) u)
+  unfolding ended_iteration
+  iteration_next came s Lost T = still_down (requests_in i came) came s T
+  iteration_next (Err e) s Whole T = still_down [] (Err e) s T
+  iteration_next (Err e) s (Kept k) T = still_down [] (Err e) s T
+  iteration_next (Ok None) s Whole T = unkept [] (Up s) T.kv T.so T.alive
+  iteration_next (Ok None) s (Kept k) T = still_down [] (Ok None) s T
+  iteration_next (Ok (Some it)) s Whole T = whole_next s it T (reaction_to me s.node it) refl
+  iteration_next (Ok (Some it)) s (Kept k) T = kept_next s it T k (reaction_to me s.node it) refl
 
   -- ---- a start, or an iteration of a process that is up
 
-  pub begins_fine : (stood : Stood) (clock : Option Readings) (link : Option Told) (first : ℕ) → stood.kv ≡ map_of (net.process i) → Contains (net.lives i) (number_of net.lives i)
+  pub begins_fine : (store_view : StoreView) (clock : Option Readings) (link : Option Observed) (first : ℕ) → store_view.kv ≡ map_of (net.process i) → Contains (net.lives i) (number_of net.lives i)
       → ((l : Letter) → Contains I.ls l → l.by ≡ i → l.boot ≡ number_of net.lives i → ⊥)
-      → TurnFine (start first (unstarted me.member.rank stood clock link)).came (start first (unstarted me.member.rank stood clock link)).serving
-  begins_fine stood clock link first kv alive none = record {
+      → IterationFine (start first (unstarted me.member.rank store_view clock link)).came (start first (unstarted me.member.rank store_view clock link)).serving
+  begins_fine store_view clock link first kv alive none = record {
     kv = kv;
     parts = A.nothing I.ls i;
     most = omega arith;
@@ -261,9 +261,9 @@ module _ (A : Assembly) (ms : Monitors) (F : Facts ms) (net : Network) (w : Worl
   }
     where
       n : Node
-      n = record { state = booting me.member.rank; store = stood; next = 1 }
+      n = record { state = booting me.member.rank; store = store_view; next = 1 }
 
-      here : stood.kv ≡ w.store i
+      here : store_view.kv ≡ w.store i
       here = kv ∙ (I.mine i M.below).map
 
       started_up : Some (booting i) ≡ Some (booting me.member.rank)
@@ -290,8 +290,8 @@ module _ (A : Assembly) (ms : Monitors) (F : Facts ms) (net : Network) (w : Worl
       fresh = u.next;
     }
 
-    pub turns_fine : (g : Given) → IsAsked net i (due_by g.began (due s.node.state.timers)) g.answer → TurnFine (turn me g s).came (turn me g s).serving
-    unfolding turn
+    pub turns_fine : (g : Given) → IsAsked net i (due_by g.began (due s.node.state.timers)) g.answer → IterationFine (iteration me g s).came (iteration me g s).serving
+    unfolding iteration
     turns_fine g asked =
         let next = due s.node.state.timers in
         let h : Heard = heard me.member.monitors next g s.outside in
@@ -299,16 +299,16 @@ module _ (A : Assembly) (ms : Monitors) (F : Facts ms) (net : Network) (w : Worl
         record { kv = map_here; parts = f.parts; most = u.most; remembers = u.remembers me is; alive = alive; so = so_heard h h.came f.came f.parts }
 
   turns_next : (s : Serving) (g : Given) (u : Until) → net.process i ≡ Up s → IsAsked net i (due_by g.began (due s.node.state.timers)) g.answer → IfUp A ms I.ls (number_of net.lives i) i (w.state i) (Up s) → IsAlive (net.lives i) (Up s)
-      → Next A ms (asked_in_turn i (Some (turn me g s))) (acknowledged_in_turn me u (Some (turn me g s))) (led_in_turn i me u (Some (turn me g s))) net.sent I.ls (with_left net i (left_by me (turn me g s) u)) w
-  turns_next s g u e may up alive = let t : Turn = turn me g s in turn_next t.came t.serving u (turns_fine s e up alive g may)
+      → Next A ms (asked_in_iteration i (Some (iteration me g s))) (acknowledged_in_iteration me u (Some (iteration me g s))) (led_in_iteration i me u (Some (iteration me g s))) net.sent I.ls (with_outcome net i (outcome_of me (iteration me g s) u)) w
+  turns_next s g u e may up alive = let t : Iteration = iteration me g s in iteration_next t.came t.serving u (turns_fine s e up alive g may)
 
-  begins_next : (stood : Stood) (clock : Option Readings) (link : Option Told) (first : ℕ) (u : Until) → stood.kv ≡ map_of (net.process i) → Contains (net.lives i) (number_of net.lives i)
-      → ((l : Letter) → Contains I.ls l → l.by ≡ i → l.boot ≡ number_of net.lives i → ⊥) → (t : Turn) → t ≡ start first (unstarted me.member.rank stood clock link)
-      → Next A ms (asked_in_turn i (Some t)) (acknowledged_in_turn me u (Some t)) (led_in_turn i me u (Some t)) net.sent I.ls (with_left net i (left_by me t u)) w
-  begins_next stood clock link first u kv alive none t is_start =
-      let s : Turn = start first (unstarted me.member.rank stood clock link) in
-      subst (λ (t : Turn). Next A ms (asked_in_turn i (Some t)) (acknowledged_in_turn me u (Some t)) (led_in_turn i me u (Some t)) net.sent I.ls (with_left net i (left_by me t u)) w) (sym is_start)
-      (turn_next s.came s.serving u (begins_fine stood clock link first kv alive none))
+  begins_next : (store_view : StoreView) (clock : Option Readings) (link : Option Observed) (first : ℕ) (u : Until) → store_view.kv ≡ map_of (net.process i) → Contains (net.lives i) (number_of net.lives i)
+      → ((l : Letter) → Contains I.ls l → l.by ≡ i → l.boot ≡ number_of net.lives i → ⊥) → (t : Iteration) → t ≡ start first (unstarted me.member.rank store_view clock link)
+      → Next A ms (asked_in_iteration i (Some t)) (acknowledged_in_iteration me u (Some t)) (led_in_iteration i me u (Some t)) net.sent I.ls (with_outcome net i (outcome_of me t u)) w
+  begins_next store_view clock link first u kv alive none t is_start =
+      let s : Iteration = start first (unstarted me.member.rank store_view clock link) in
+      subst (λ (t : Iteration). Next A ms (asked_in_iteration i (Some t)) (acknowledged_in_iteration me u (Some t)) (led_in_iteration i me u (Some t)) net.sent I.ls (with_outcome net i (outcome_of me t u)) w) (sym is_start)
+      (iteration_next s.came s.serving u (begins_fine store_view clock link first kv alive none))
 
 -- ---- a life begins
 
@@ -374,18 +374,18 @@ module _ (A : Assembly) (ms : Monitors) (F : Facts ms) (net : Network) (w : Worl
   has_here i life false e = absurd cc
 
   made_next : (i : ℕ) (me : Me) → me_of ms i ≡ Some me → (p : Process) (doing : Doing) (u : Until) → net.process i ≡ p → May net i p doing → IfUp A ms I.ls (number_of net.lives i) i (w.state i) p → IsAlive (net.lives i) p
-      → Next A ms (asked_in_turn i (turn_of me p doing)) (acknowledged_in_turn me u (turn_of me p doing)) (led_in_turn i me u (turn_of me p doing)) net.sent I.ls (if_made me net (record { rank = i; doing = doing; up_to = u }) (turn_of me p doing)) w
-  made_next i me is p (Begins life stood clock link first) u e may up alive =
-      let t : Turn = start first (unstarted me.member.rank stood clock link) in
+      → Next A ms (asked_in_iteration i (iteration_of me p doing)) (acknowledged_in_iteration me u (iteration_of me p doing)) (led_in_iteration i me u (iteration_of me p doing)) net.sent I.ls (if_made me net (record { rank = i; doing = doing; up_to = u }) (iteration_of me p doing)) w
+  made_next i me is p (Begins life store_view clock link first) u e may up alive =
+      let t : Iteration = start first (unstarted me.member.rank store_view clock link) in
       let then_net : Network = record { process = net.process; lives = put_at net.lives i (life ∷ net.lives i); sent = net.sent } in
       let J = entered_holds A ms net w I i life may.1.0 may.1.1 in
       let one : eqb i i ≡ true = eq-eqb i i refl in
       let none : (l : Letter) → Contains J.0.ls l → l.by ≡ i → l.boot ≡ number_of then_net.lives i → ⊥ =
       λ l c own boot. none_has A ms net w I i life may.1.0 may.1.1 l (subst (λ (ls : List Letter). Contains ls l) J.1 c) own (boot ∙ newest_here i life (eqb i i) one) in
-      subst (λ (ls : List Letter). Next A ms (asked_in_turn i (Some t)) (acknowledged_in_turn me u (Some t)) (led_in_turn i me u (Some t)) net.sent ls (with_left then_net i (left_by me t u)) w) J.1
-      (begins_next A ms F then_net w R J.0 i me is stood clock link first u (may.0 ∙ ap map_of (sym e)) (has_here i life (eqb i i) one) none t refl)
-  made_next i me is (Up s) (Turns g) u e may up alive = turns_next A ms F net w R I i me is s g u e may up alive
-  made_next i me is (Down m) (Turns g) u e may up alive = Still refl refl refl I refl
+      subst (λ (ls : List Letter). Next A ms (asked_in_iteration i (Some t)) (acknowledged_in_iteration me u (Some t)) (led_in_iteration i me u (Some t)) net.sent ls (with_outcome then_net i (outcome_of me t u)) w) J.1
+      (begins_next A ms F then_net w R J.0 i me is store_view clock link first u (may.0 ∙ ap map_of (sym e)) (has_here i life (eqb i i) one) none t refl)
+  made_next i me is (Up s) (Iterates g) u e may up alive = turns_next A ms F net w R I i me is s g u e may up alive
+  made_next i me is (Down m) (Iterates g) u e may up alive = Still refl refl refl I refl
 
   pub step_next : (s : Step) → May net s.rank (net.process s.rank) s.doing → Next A ms (asked_by net s (me_of ms s.rank)) (acknowledged_at net s (me_of ms s.rank)) (led_at net s (me_of ms s.rank)) net.sent I.ls (after_step ms net s) w
   step_next s may = by (me_of ms s.rank) refl

@@ -7,27 +7,27 @@ use Rattle.mon_journal.specs.Content.{content}
 use Rattle.mon_journal.specs.Fields.{Owner}
 use Rattle.mon_journal.specs.Written.{owner_of}
 use Rattle.mon_link.specs.Clocks.{Readings}
-use Rattle.mon_link.specs.Links.{Told}
+use Rattle.mon_link.specs.Links.{Observed}
 use Rattle.mon_link.specs.declared.link.Outgoing.{Outgoing}
 use Rattle.mon_msg.specs.declared.view.Me.{Me}
 use Rattle.mon_node.specs.Hearing.{Given}
-use Rattle.mon_node.specs.Lasting.{IsLeft, IsWithinTurn, On, stood_kept}
+use Rattle.mon_node.specs.Lasting.{RemainsAfter, IsWithinIteration, On, store_view_kept}
 use Rattle.mon_node.specs.Nodes.{Serving, unstarted}
-use Rattle.mon_node.specs.Posting.{SendsFront}
+use Rattle.mon_node.specs.Posting.{SendsPrefix}
 use Rattle.mon_node.specs.Serving.{EndsAfter, Has, Serves, sends_of}
-use Rattle.mon_node.specs.Turns.{Turn, ended_turn, last_turn}
+use Rattle.mon_node.specs.Iterations.{Iteration, ended_iteration, last_iteration}
 use Rattle.mon_node.specs.declared.end.NodeEnd.TheVariants as end
 use Rattle.mon_node.specs.declared.end.NodeEnd.{NodeEnd}
-use Rattle.mon_node.proofs.Passing.{stood_then}
-use Rattle.mon_store.specs.Moments.{EachPair, WhileOpening}
+use Rattle.mon_node.proofs.Passing.{store_view_then}
+use Rattle.mon_store.specs.Times.{EachPair, WhileOpening}
 use Rattle.mon_store.specs.Opening.{Alike}
 use Rattle.mon_store.specs.Pair.{Create, Found, Live, Refusal, found, map_found, opened, owned, stands, taken}
-use Rattle.mon_store.proofs.OnPairs.{stood_map}
-use Rattle.mon_store.specs.Stood.{Stood, opens_as, standing_of}
+use Rattle.mon_store.proofs.OnPairs.{store_view_map}
+use Rattle.mon_store.specs.StoreView.{StoreView, opens_as, standing_of}
 use Rattle.mon_tx.specs.Map.{Store}
 use Rattle.mon_types.specs.declared.member.Member.{Member}
-use Rattle.quorum_network.specs.Lives.{IsLeftBy, IsLife, IsSent, OpensWith}
-use Rattle.quorum_network.specs.Network.{Kept, Left, Lost, Step, Until, Whole, left_by, map_of}
+use Rattle.quorum_network.specs.Lives.{IsOutcomeOf, IsLife, IsSent, OpensWith}
+use Rattle.quorum_network.specs.Network.{Kept, StepOutcome, Lost, Step, Until, Whole, outcome_of, map_of}
 use Rattle.quorum_network.proofs.Ends.{cut_sends, ended_link, kept_map, up_is, within_is}
 use Rattle.quorum_network.proofs.Lives.{last_is, sent_both, sent_nothing, sent_now}
 
@@ -59,21 +59,21 @@ module _ (owner : Owner) (it : Found × Store) (m : Store) where
   unfolding opened stands
   opened_map a b e is = of_found (found a b) e is
 
-opens_kv : (member : Member) (a b : List ℕ) (m : Store) (s : Stood) → stands a b ≡ Ok m → opens_as member a b ≡ Ok s → s.kv ≡ m
+opens_kv : (member : Member) (a b : List ℕ) (m : Store) (s : StoreView) → stands a b ≡ Ok m → opens_as member a b ≡ Ok s → s.kv ≡ m
 opens_kv member a b m s there e = by (opened (owner_of member) a b) refl e
   where
     by : (r : Result (Found × Store) Refusal) → opened (owner_of member) a b ≡ r → (r >>= λ it. Ok (standing_of member it.0 it.1)) ≡ Ok s → s.kv ≡ m
-    by (Ok it) is e = let same : standing_of member it.0 it.1 ≡ s = cc (e) in ap (λ (z : Stood). z.kv) (sym same) ∙ kv_of member it.0 it.1 ∙ opened_map (owner_of member) it m a b is there
+    by (Ok it) is e = let same : standing_of member it.0 it.1 ≡ s = cc (e) in ap (λ (z : StoreView). z.kv) (sym same) ∙ kv_of member it.0 it.1 ∙ opened_map (owner_of member) it m a b is there
     by (Err x) is e = absurd cc
 
 -- on images that hold a store that has P, its map is opened
-pub on_opens : (P : Stood → Type 0) (member : Member) (x y : List ℕ) (s : Stood) → On P x y → opens_as member x y ≡ Ok s → (z : Stood) × P z × (s.kv ≡ z.kv)
-on_opens P member x y s on e = let z = on.0 in (z, on.2, opens_kv member x y z.kv s (stood_map z.journal z.kv z.side x y on.1) e)
+pub on_opens : (P : StoreView → Type 0) (member : Member) (x y : List ℕ) (s : StoreView) → On P x y → opens_as member x y ≡ Ok s → (z : StoreView) × P z × (s.kv ≡ z.kv)
+on_opens P member x y s on e = let z = on.0 in (z, on.2, opens_kv member x y z.kv s (store_view_map z.journal z.kv z.side x y on.1) e)
 
-pub within_opens : (me : Me) (t : Turn) (member : Member) (x y : List ℕ) (s : Stood) → On (IsWithinTurn me t) x y → opens_as member x y ≡ Ok s → IsLeftBy me t s.kv
+pub within_opens : (me : Me) (t : Iteration) (member : Member) (x y : List ℕ) (s : StoreView) → On (IsWithinIteration me t) x y → opens_as member x y ≡ Ok s → IsOutcomeOf me t s.kv
 within_opens me t member x y s on e =
-    let z = on_opens (IsWithinTurn me t) member x y s on e in
-    subst (IsLeftBy me t) (sym z.2) (within_is me t z.0 z.1)
+    let z = on_opens (IsWithinIteration me t) member x y s on e in
+    subst (IsOutcomeOf me t) (sym z.2) (within_is me t z.0 z.1)
 
 -- ---- a crash while a store is opened
 
@@ -86,38 +86,38 @@ module _ (member : Member) (maps : List Store) (a b new_a new_b : Content) (befo
     record {
       a = W.a;
       b = W.b;
-      turn = W.turn;
+      switch_time = W.switch_time;
       from = W.from;
       to = W.to;
       each = λ s t c d p q r u on_a on_b. as_before c d (W.each s t c d p q r u on_a on_b);
       alone = λ s c d p q on_a on_b. as_before c d (W.alone s c d p q on_a on_b);
     },
-    λ c d on_a on_b. as_before c d (W.alone new_a.moment c d W.to (omega arith) on_a on_b),
+    λ c d on_a on_b. as_before c d (W.alone new_a.time c d W.to (omega arith) on_a on_b),
   )
 
 -- on two empty disks an empty map is opened
-pub opens_empty : (member : Member) → (s : Stood) × (opens_as member [] [] ≡ Ok s) × (s.kv ≡ empty)
+pub opens_empty : (member : Member) → (s : StoreView) × (opens_as member [] [] ≡ Ok s) × (s.kv ≡ empty)
 unfolding opened found content
 opens_empty member = (standing_of member Create empty, refl, refl)
 
 -- ---- an end
 
 -- the map after an end, and the datagrams that were sent, are those of a step
-pub record EndOf (me : Me) (t : Turn) (m : Store) (link : Option Told) : Type 0 where
+pub record EndOf (me : Me) (t : Iteration) (m : Store) (link : Option Observed) : Type 0 where
   pub up_to : Until
-  pub map : m ≡ map_of (left_by me t up_to).process
-  pub sent : IsSent (left_by me t up_to).sends t.serving.outside.link link
+  pub map : m ≡ map_of (outcome_of me t up_to).process
+  pub sent : IsSent (outcome_of me t up_to).sends t.serving.outside.link link
 
-module _ (me : Me) (t : Turn) (x : Stood) (link : Option Told) where
+module _ (me : Me) (t : Iteration) (x : StoreView) (link : Option Observed) where
   abbrev IsEnd : Type 0
   IsEnd = EndOf me t x.kv link
 
   -- nothing was sent, and the map is the old one
   stays : link ≡ t.serving.outside.link → x ≡ t.serving.node.store → IsEnd
-  stays same e = record { up_to = Lost; map = ap (λ (z : Stood). z.kv) e; sent = subst (IsSent [] t.serving.outside.link) (sym same) (sent_nothing t.serving.outside.link) }
+  stays same e = record { up_to = Lost; map = ap (λ (z : StoreView). z.kv) e; sent = subst (IsSent [] t.serving.outside.link) (sym same) (sent_nothing t.serving.outside.link) }
 
   -- nothing was sent, and the map is the old one or the one that is kept
-  within : link ≡ t.serving.outside.link → IsWithinTurn me t x → IsEnd
+  within : link ≡ t.serving.outside.link → IsWithinIteration me t x → IsEnd
   within same w = elim (within_is me t x w) [
     | inl e ↦ record { up_to = Lost; map = e; sent = subst (IsSent [] t.serving.outside.link) (sym same) (sent_nothing t.serving.outside.link) }
     | inr e ↦ record {
@@ -128,31 +128,31 @@ module _ (me : Me) (t : Turn) (x : Stood) (link : Option Told) where
   ]
 
   -- some was sent, and its map is kept
-  sent_some : SendsFront (sends_of me t) t.serving.outside.link link → x ≡ stood_kept me t → IsEnd
+  sent_some : SendsPrefix (sends_of me t) t.serving.outside.link link → x ≡ store_view_kept me t → IsEnd
   sent_some front e = record {
     up_to = Kept front.0;
-    map = ap (λ (z : Stood). z.kv) e ∙ kept_map me t front.0;
+    map = ap (λ (z : StoreView). z.kv) e ∙ kept_map me t front.0;
     sent = subst (λ (ds : List Outgoing). IsSent ds t.serving.outside.link link) (sym (cut_sends me t front.0)) (sent_now (take front.0 (sends_of me t)) t.serving.outside.link link front.1);
   }
 
   -- the last iteration of all is carried out whole
-  used : (clock : Option Readings) (r : Result Serving NodeEnd) → ended_turn me t ≡ r → Has r (λ now. (clock ≡ now.outside.clock) × (link ≡ now.outside.link)) → x ≡ stood_kept me t → IsEnd
+  used : (clock : Option Readings) (r : Result Serving NodeEnd) → ended_iteration me t ≡ r → Has r (λ now. (clock ≡ now.outside.clock) × (link ≡ now.outside.link)) → x ≡ store_view_kept me t → IsEnd
   used clock (Ok now) is h e =
       let whole = up_is me t now is in
       record {
         up_to = Whole;
-        map = ap (λ (z : Stood). z.kv) (e ∙ sym (stood_then me t now is)) ∙ ap (λ (l : Left). map_of l.process) (sym whole);
-        sent = subst (λ (ds : List Outgoing). IsSent ds t.serving.outside.link link) (ap (λ (l : Left). l.sends) (sym whole)) (sent_now (sends_of me t) t.serving.outside.link link (h.1 ∙ ended_link me t now is));
+        map = ap (λ (z : StoreView). z.kv) (e ∙ sym (store_view_then me t now is)) ∙ ap (λ (l : StepOutcome). map_of l.process) (sym whole);
+        sent = subst (λ (ds : List Outgoing). IsSent ds t.serving.outside.link link) (ap (λ (l : StepOutcome). l.sends) (sym whole)) (sent_now (sends_of me t) t.serving.outside.link link (h.1 ∙ ended_link me t now is));
       }
   used clock (Err y) is h e = absurd h
 
   -- it ran out of memory, or was killed
-  pub stopped : IsLeft me t end.OutOfMemory link x → IsEnd
+  pub stopped : RemainsAfter me t end.OutOfMemory link x → IsEnd
   stopped (inl left) = within left.0 left.1
   stopped (inr left) = sent_some left.0 left.1
 
-  pub end_is : (turns begun : ℕ) (e : NodeEnd) (clock : Option Readings) → EndsAfter me turns begun t e clock link → IsLeft me t e link x → IsEnd
-  end_is turns begun end.TurnsUsed clock h left = used clock (ended_turn me t) refl h.1 left
+  pub end_is : (turns begun : ℕ) (e : NodeEnd) (clock : Option Readings) → EndsAfter me turns begun t e clock link → RemainsAfter me t e link x → IsEnd
+  end_is turns begun end.TurnsUsed clock h left = used clock (ended_iteration me t) refl h.1 left
   end_is turns begun end.OutOfMemory clock h left = stopped left
   end_is turns begun end.DiskFault clock h left = within h.link_is left
   end_is turns begun (end.Spent spent) clock h left = sent_some h.link_is left
@@ -162,37 +162,37 @@ module _ (me : Me) (t : Turn) (x : Stood) (link : Option Told) where
 
 -- ---- a life
 
-module _ (i : ℕ) (me : Me) (number : ℕ) (stood : Stood) (clock : Option Readings) (link : Option Told) (first : ℕ) (given : List Given) (earlier : List Step) (left_link : Option Told) (x y : List ℕ) where
+module _ (i : ℕ) (me : Me) (number : ℕ) (store_view : StoreView) (clock : Option Readings) (link : Option Observed) (first : ℕ) (given : List Given) (earlier : List Step) (left_link : Option Observed) (x y : List ℕ) where
   abbrev start : Serving
-  start = unstarted me.member.rank stood clock link
+  start = unstarted me.member.rank store_view clock link
 
   -- a life whose last iteration leaves this map
-  life_is : (t : Turn) (m : Store) → last_turn me first start given ≡ Ok t → EndOf me t m left_link → IsLife i me number stood clock link first given earlier m left_link
+  life_is : (t : Iteration) (m : Store) → last_iteration me first start given ≡ Ok t → EndOf me t m left_link → IsLife i me number store_view clock link first given earlier m left_link
   life_is t m is E =
-      let L = last_is i me number stood clock link first earlier given E.up_to t is in
+      let L = last_is i me number store_view clock link first earlier given E.up_to t is in
       record {
         up_to = E.up_to;
         map_is = E.map ∙ ap map_of (sym L.process);
-        sends = L.before ++ (left_by me t E.up_to).sends;
+        sends = L.before ++ (outcome_of me t E.up_to).sends;
         sends_are = L.sends;
-        told_is = sent_both L.before (left_by me t E.up_to).sends link t.serving.outside.link left_link L.told E.sent;
+        observed_is = sent_both L.before (outcome_of me t E.up_to).sends link t.serving.outside.link left_link L.observed E.sent;
       }
 
-  module _ (member : Member) (s : Stood) (opens : opens_as member x y ≡ Ok s) where
+  module _ (member : Member) (s : StoreView) (opens : opens_as member x y ≡ Ok s) where
     abbrev Lived : Type 0
-    Lived = IsLife i me number stood clock link first given earlier s.kv left_link
+    Lived = IsLife i me number store_view clock link first given earlier s.kv left_link
 
-    pub killed : (t : Turn) → last_turn me first start given ≡ Ok t → On (IsLeft me t end.OutOfMemory left_link) x y → Lived
+    pub killed : (t : Iteration) → last_iteration me first start given ≡ Ok t → On (RemainsAfter me t end.OutOfMemory left_link) x y → Lived
     killed t is on =
-        let z = on_opens (IsLeft me t end.OutOfMemory left_link) member x y s on opens in
-        subst (λ (m : Store). IsLife i me number stood clock link first given earlier m left_link) (sym z.2) (life_is t z.0.kv is (stopped me t z.0 left_link z.1))
+        let z = on_opens (RemainsAfter me t end.OutOfMemory left_link) member x y s on opens in
+        subst (λ (m : Store). IsLife i me number store_view clock link first given earlier m left_link) (sym z.2) (life_is t z.0.kv is (stopped me t z.0 left_link z.1))
 
     pub ends_so : (turns begun : ℕ) (e : NodeEnd) (left_clock : Option Readings) → Serves me start turns e begun left_clock left_link first given
-        → Has (last_turn me first start given) (λ t. On (IsLeft me t e left_link) x y) → Lived
-    ends_so turns begun e left_clock S left = by (last_turn me first start given) refl S.ends left
+        → Has (last_iteration me first start given) (λ t. On (RemainsAfter me t e left_link) x y) → Lived
+    ends_so turns begun e left_clock S left = by (last_iteration me first start given) refl S.ends left
       where
-        by : (r : Result Turn NodeEnd) → last_turn me first start given ≡ r → Has r (λ t. EndsAfter me turns begun t e left_clock left_link) → Has r (λ t. On (IsLeft me t e left_link) x y) → Lived
+        by : (r : Result Iteration NodeEnd) → last_iteration me first start given ≡ r → Has r (λ t. EndsAfter me turns begun t e left_clock left_link) → Has r (λ t. On (RemainsAfter me t e left_link) x y) → Lived
         by (Ok t) is h on =
-            let z = on_opens (IsLeft me t e left_link) member x y s on opens in
-            subst (λ (m : Store). IsLife i me number stood clock link first given earlier m left_link) (sym z.2) (life_is t z.0.kv is (end_is me t z.0 left_link turns begun e left_clock h z.1))
+            let z = on_opens (RemainsAfter me t e left_link) member x y s on opens in
+            subst (λ (m : Store). IsLife i me number store_view clock link first given earlier m left_link) (sym z.2) (life_is t z.0.kv is (end_is me t z.0 left_link turns begun e left_clock h z.1))
         by (Err r) is h on = absurd h

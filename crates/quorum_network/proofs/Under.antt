@@ -7,7 +7,7 @@ use Rattle.mon_link.specs.declared.link.Outgoing.{Outgoing}
 use Rattle.mon_link.specs.declared.link.Peer.{Peer}
 use Rattle.mon_name.proofs.Numbers.{renumbered_pieces}
 use Rattle.mon_name.specs.Numbers.{renumbered}
-use Rattle.mon_node.specs.Posting.{to_peer, next_behind, datagrams_of, datagrams}
+use Rattle.mon_node.specs.Posting.{to_peer, next_after_message, datagrams_of, datagrams}
 use Rattle.quorum_network.specs.Network.{Posted, posted, under}
 use Rattle.quorum_network.proofs.Sends.{IsCuttable}
 
@@ -18,7 +18,7 @@ to_same life to (p ∷ ps) = ap (λ (ds : List Outgoing). under life (to_peer to
 pub under_datagrams : (life boot next : ℕ) (outs : List Outgoing) → AllByRecursion (λ (o : Outgoing). IsCuttable o.bytes) outs → map (under life) (datagrams boot next outs) ≡ datagrams life next outs
 under_datagrams life boot next [] h = refl
 under_datagrams life boot next (o ∷ outs) h =
-    let behind = next_behind next (length o.bytes) in
+    let behind = next_after_message next (length o.bytes) in
     map-append (under life) (datagrams_of boot next o) (datagrams boot behind outs)
     ∙ ap (λ (ds : List Outgoing). ds ++ map (under life) (datagrams boot behind outs)) (to_same life o.to (pieces_of o.bytes boot next) ∙ ap (map (to_peer o.to)) (renumbered_pieces o.bytes boot life next h.0.no_piece))
     ∙ ap (λ (ds : List Outgoing). datagrams_of life next o ++ ds) (under_datagrams life boot behind outs h.1)

@@ -14,9 +14,9 @@ use Rattle.quorum_model.specs.Monitors.{Monitors, me_of}
 use Rattle.quorum_network.specs.Requests.{Leadership, acknowledged_at, acknowledgements, asked_by, leaderships, led_at, requests}
 use Rattle.std.proofs.lemmas.List.Elements.{Contains-append_left, Contains-append_right}
 use Rattle.quorum_model.specs.Runs.{Ran, run, ran_from}
-use Rattle.quorum_model.specs.World.{Acknowledged, Asked, Replied, World, Plain, Event, Comes, first_world, plain_of, Acknowledgement}
+use Rattle.quorum_model.specs.World.{Acknowledged, Asked, Replied, World, Plain, Event, Arrives, first_world, plain_of, Acknowledgement}
 use Rattle.quorum_network.specs.Network.{Network, Step, AllMay, Posted, network, first_network, after_step, number_of}
-use Rattle.quorum_network.specs.Running.{IsOfRun, IsTold, DoesARun}
+use Rattle.quorum_network.specs.Running.{IsOfRun, IsSentInRun, DoesARun}
 use Rattle.quorum_network.proofs.Adding.{Adds, IsAt, IsBy, IsRepliedAt, IsRepliedBy, given, noted_as}
 use Rattle.quorum_network.proofs.Assembled.{all_self, all_through, assembly}
 use Rattle.quorum_network.proofs.Assembling.{Assembly}
@@ -38,11 +38,11 @@ pub record Stands (A : Assembly) (ms : Monitors) (asks : List Asked) (acks : Lis
   pub dated : AllByRecursion (IsRepliedBy w.events) w.replied
   pub active : w.active ≡ map noted_as leads
 
-unfoldable pub reach_more : (ms : Monitors) (w v : World) (p : Plain) → Reach ms w → PlainFits ms.count p → happens ms w (Comes p) ≡ Ok v → Reach ms v
+unfoldable pub reach_more : (ms : Monitors) (w v : World) (p : Plain) → Reach ms w → PlainFits ms.count p → happens ms w (Arrives p) ≡ Ok v → Reach ms v
 reach_more ms w v p R fits next = record {
-  events = R.events ++ Comes p ∷ [];
-  fits = all_append (λ (e : Event). PlainFits ms.count (plain_of e)) R.events (Comes p ∷ []) R.fits (fits, tt);
-  ran = ran_more ms first_world w v R.events (Comes p) R.ran next;
+  events = R.events ++ Arrives p ∷ [];
+  fits = all_append (λ (e : Event). PlainFits ms.count (plain_of e)) R.events (Arrives p ∷ []) R.fits (fits, tt);
+  ran = ran_more ms first_world w v R.events (Arrives p) R.ran next;
 }
 
 all_there : {X : Type 0} (xs : List X) → AllByRecursion (λ x. Contains xs x) xs
@@ -155,12 +155,12 @@ stands A ms F (s ∷ earlier) may =
 -- ---- what follows for a network
 
 told_by : (count : ℕ) (w : World) (l : Letter) (by : ℕ) (to : Peer) (bytes : List ℕ) → Says count l.by w.messages w.replied to l.bytes → l.by ≡ by → Contains (pieces_of l.bytes l.boot l.seq) bytes
-    → IsTold count w by to bytes
+    → IsSentInRun count w by to bytes
 told_by count w l by (Monitor j) bytes (m, c, has, from, e) own piece = (m, c, from ∙ own, (l.boot, l.seq, subst (λ (x : List ℕ). Contains (pieces_of x l.boot l.seq) bytes) e piece))
 told_by count w l by (Client j) bytes (r, c, has, rank, to, e) own piece = (r, c, rank ∙ own, to, (l.boot, l.seq, subst (λ (x : List ℕ). Contains (pieces_of x l.boot l.seq) bytes) e piece))
 
 all_told : (count : ℕ) (w : World) (ls : List Letter) (ds : List Posted) → ((l : Letter) → Contains ls l → Says count l.by w.messages w.replied l.to l.bytes) → AllByRecursion (IsPosted ls) ds
-    → AllByRecursion (λ (d : Posted). IsTold count w d.by d.datagram.to d.datagram.bytes) ds
+    → AllByRecursion (λ (d : Posted). IsSentInRun count w d.by d.datagram.to d.datagram.bytes) ds
 all_told count w ls [] said h = tt
 all_told count w ls (d ∷ ds) said h =
     let l = h.0.0 in (
@@ -172,7 +172,7 @@ pub of_run : (A : Assembly) (ms : Monitors) (net : Network) (w : World) → Inv 
 of_run A ms net w I = record {
   maps = λ i lt. (I.mine i lt).map;
   states = λ i s lt e. (subst (IfUp A ms I.ls (number_of net.lives i) i (w.state i)) e (I.mine i lt).up).state;
-  told = all_told ms.count w I.ls net.sent I.said I.posted;
+  sent_in_run = all_told ms.count w I.ls net.sent I.said I.posted;
 }
 
 pub facts : (ms : Monitors) → Facts ms

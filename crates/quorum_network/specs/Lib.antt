@@ -1,5 +1,5 @@
 pub mod AnyDisk
-pub mod EachTurn
+pub mod EachIteration
 pub mod History
 pub mod Lives
 pub mod Network

@@ -4,7 +4,7 @@ use Rattle.std.specs.FinMap.{empty}
 use Rattle.std.specs.List.{Contains}
 use Rattle.mon_bytes.specs.Reading.{IsBytes}
 use Rattle.mon_link.specs.Clocks.{Readings}
-use Rattle.mon_link.specs.Links.{Told}
+use Rattle.mon_link.specs.Links.{Observed}
 use Rattle.mon_link.specs.declared.link.Got.{Got}
 use Rattle.mon_link.specs.declared.link.Got.TheVariants.{Datagram, Idle, Closed}
 use Rattle.mon_link.specs.declared.link.Outgoing.{Outgoing}
@@ -17,10 +17,10 @@ use Rattle.mon_msg.specs.declared.view.Me.{Me}
 use Rattle.mon_node.specs.Hearing.{Given, due_by}
 use Rattle.mon_node.specs.Nodes.{Node, Serving, unstarted}
 use Rattle.mon_node.specs.Serving.{of_kept, sends_of}
-use Rattle.mon_node.specs.Turns.{Turn, map_after, numbered_by, start, turn, ended_turn}
+use Rattle.mon_node.specs.Iterations.{Iteration, map_after, numbered_by, start, iteration, ended_iteration}
 use Rattle.mon_node.specs.declared.end.NodeEnd.{NodeEnd}
 use Rattle.mon_name.specs.Numbers.{renumbered}
-use Rattle.mon_store.specs.Stood.{Stood}
+use Rattle.mon_store.specs.StoreView.{StoreView}
 use Rattle.mon_tx.specs.Map.{Store}
 use Rattle.mon_types.specs.declared.names.Stop.{Stop}
 use Rattle.mon_wire.specs.declared.phase.Timer.{Timer}
@@ -66,8 +66,9 @@ state_of (Down m) = None
 -- A process is started: a life of its rank begins, with a number. It has a store, a clock and a link, and begins at a
 -- reading of the clock. A process of its rank that is still up ends then. Or a process makes an iteration.
 pub data Doing : Type 0 where
-  Begins : (number : ℕ) → (stood : Stood) → (clock : Option Readings) → (link : Option Told) → (first : ℕ) → Doing
-  Turns : (given : Given) → Doing
+  Begins : (number : ℕ) → (store_view : StoreView) → (clock : Option Readings) → (link : Option Observed)
+      → (first : ℕ) → Doing
+  Iterates : (given : Given) → Doing
 
 -- How far the start or the iteration gets. It is completed. Or the process ends or is killed in it: before the
 -- transaction is kept, or after that, when some of its datagrams were sent.
@@ -84,36 +85,37 @@ pub record Step : Type 0 where
 -- ---- what a step makes of the network
 
 -- the iteration that a process makes when it starts, or with what it is given; a process that is down makes none
-abbrev pub turn_of : Me → Process → Doing → Option Turn
-turn_of me p (Begins number stood clock link first) = Some (start first (unstarted me.member.rank stood clock link))
-turn_of me (Up s) (Turns g) = Some (turn me g s)
-turn_of me (Down m) (Turns g) = None
+abbrev pub iteration_of : Me → Process → Doing → Option Iteration
+iteration_of me p (Begins number store_view clock link first) =
+    Some (start first (unstarted me.member.rank store_view clock link))
+iteration_of me (Up s) (Iterates g) = Some (iteration me g s)
+iteration_of me (Down m) (Iterates g) = None
 
 -- the process after a start or an iteration, and what was sent in it
-pub record Left : Type 0 where
+pub record StepOutcome : Type 0 where
   pub process : Process
   pub sends : List Outgoing
 
 -- the reaction to an iteration's input, if its transaction can be kept
-abbrev pub kept_reaction : Me → Turn → Option Reaction
+abbrev pub kept_reaction : Me → Iteration → Option Reaction
 kept_reaction me t = of_kept me t None (λ r. Some r)
 
 -- The process is down, after its reaction was kept and this many of the datagrams were sent. Without a reaction,
 -- nothing was.
-abbrev pub down : Me → Node → (sent : ℕ) → Option Reaction → Left
+abbrev pub down : Me → Node → (sent : ℕ) → Option Reaction → StepOutcome
 down me n k None = record { process = Down n.store.kv; sends = [] }
 down me n k (Some r) = record { process = Down (map_after n r); sends = take k (numbered_by me n r) }
 
 -- An iteration that ends the node counts here as one that sent nothing. If it sent datagrams before the end, its step
 -- is `Kept` and not `Whole`.
-abbrev pub at_end : Me → Turn → Result Serving NodeEnd → Left
+abbrev pub at_end : Me → Iteration → Result Serving NodeEnd → StepOutcome
 at_end me t (Ok s) = record { process = Up s; sends = sends_of me t }
 at_end me t (Err e) = down me t.serving.node 0 (kept_reaction me t)
 
-abbrev pub left_by : Me → Turn → Until → Left
-left_by me t Whole = at_end me t (ended_turn me t)
-left_by me t Lost = record { process = Down t.serving.node.store.kv; sends = [] }
-left_by me t (Kept k) = down me t.serving.node k (kept_reaction me t)
+abbrev pub outcome_of : Me → Iteration → Until → StepOutcome
+outcome_of me t Whole = at_end me t (ended_iteration me t)
+outcome_of me t Lost = record { process = Down t.serving.node.store.kv; sends = [] }
+outcome_of me t (Kept k) = down me t.serving.node k (kept_reaction me t)
 
 -- the number of a rank's newest life
 abbrev pub newest : List ℕ → ℕ
@@ -130,8 +132,8 @@ under number d = record { to = d.to; bytes = renumbered number d.bytes }
 abbrev pub posted : ℕ → Outgoing → Posted
 posted i d = record { by = i; datagram = d }
 
-abbrev pub with_left : Network → ℕ → Left → Network
-with_left net i l = record {
+abbrev pub with_outcome : Network → ℕ → StepOutcome → Network
+with_outcome net i l = record {
   process = put_at net.process i l.process;
   lives = net.lives;
   sent = net.sent ++ map (posted i) (map (under (number_of net.lives i)) l.sends);
@@ -139,19 +141,19 @@ with_left net i l = record {
 
 -- a start is a new life of its rank
 abbrev pub lives_after : (ℕ → List ℕ) → ℕ → Doing → ℕ → List ℕ
-lives_after lives i (Begins number stood clock link first) = put_at lives i (number ∷ lives i)
-lives_after lives i (Turns g) = lives
+lives_after lives i (Begins number store_view clock link first) = put_at lives i (number ∷ lives i)
+lives_after lives i (Iterates g) = lives
 
 abbrev pub entered : Network → ℕ → Doing → Network
 entered net i doing = record { process = net.process; lives = lives_after net.lives i doing; sent = net.sent }
 
-abbrev pub if_made : Me → Network → Step → Option Turn → Network
+abbrev pub if_made : Me → Network → Step → Option Iteration → Network
 if_made me net s None = net
-if_made me net s (Some t) = with_left (entered net s.rank s.doing) s.rank (left_by me t s.up_to)
+if_made me net s (Some t) = with_outcome (entered net s.rank s.doing) s.rank (outcome_of me t s.up_to)
 
 abbrev pub made_by : Network → Step → Option Me → Network
 made_by net s None = net
-made_by net s (Some me) = if_made me net s (turn_of me (net.process s.rank) s.doing)
+made_by net s (Some me) = if_made me net s (iteration_of me (net.process s.rank) s.doing)
 
 abbrev pub after_step : Monitors → Network → Step → Network
 after_step ms net s = made_by net s (me_of ms s.rank)
@@ -187,9 +189,9 @@ IsNew net i number = (number ≤ 2 ^ 62) × ¬ Contains (net.lives i) number
 -- A process begins on the map that its disks keep, with a new number. An iteration of one that is up is given what came
 -- to it.
 abbrev pub May : Network → ℕ → Process → Doing → Type 0
-May net i p (Begins number stood clock link first) = (stood.kv ≡ map_of p) × IsNew net i number
-May net i (Up s) (Turns g) = IsAsked net i (due_by g.began (due s.node.state.timers)) g.answer
-May net i (Down m) (Turns g) = Unit {0}
+May net i p (Begins number store_view clock link first) = (store_view.kv ≡ map_of p) × IsNew net i number
+May net i (Up s) (Iterates g) = IsAsked net i (due_by g.began (due s.node.state.timers)) g.answer
+May net i (Down m) (Iterates g) = Unit {0}
 
 unfoldable pub AllMay : Monitors → List Step → Type 0
 AllMay ms [] = Unit {0}

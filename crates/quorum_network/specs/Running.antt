@@ -31,10 +31,10 @@ IsPiece whole bytes = (life seq : ℕ) × Contains (pieces_of whole life seq) by
 
 -- What process i sent to a monitor is a message of the run, which monitor i sent to that monitor, or a piece of it.
 -- What it sent to a client is a reply of the run, by monitor i and in a session of that client, or a piece of it.
-abbrev pub IsTold : (count : ℕ) → World → (by : ℕ) → Peer → List ℕ → Type 0
-IsTold count w i (Monitor j) bytes =
+abbrev pub IsSentInRun : (count : ℕ) → World → (by : ℕ) → Peer → List ℕ → Type 0
+IsSentInRun count w i (Monitor j) bytes =
     (m : Message) × Contains w.messages (record { to = j; message = m }) × (m.from ≡ i) × IsPiece (text m) bytes
-IsTold count w i (Client c) bytes =
+IsSentInRun count w i (Client c) bytes =
     (r : Replied) × Contains w.replied r × (r.rank ≡ i) × (r.session.client ≡ c) × IsPiece (text (answer_of count r)) bytes
 
 -- Each process keeps the map that its monitor's store has in the run. A process that is up remembers what its monitor
@@ -42,7 +42,7 @@ IsTold count w i (Client c) bytes =
 pub record IsOfRun (ms : Monitors) (net : Network) (w : World) : Type 0 where
   pub maps : (i : ℕ) → i < ms.count → map_of (net.process i) ≡ w.store i
   pub states : (i : ℕ) (s : Serving) → i < ms.count → net.process i ≡ Up s → w.state i ≡ Some s.node.state
-  pub told : AllByRecursion (λ (d : Posted). IsTold ms.count w d.by d.datagram.to d.datagram.bytes) net.sent
+  pub sent_in_run : AllByRecursion (λ (d : Posted). IsSentInRun ms.count w d.by d.datagram.to d.datagram.bytes) net.sent
 
 -- A network does what some run of the model does, in which clients asked nothing but these requests. That run is safe.
 pub record DoesARun (ms : Monitors) (requests : List Asked) (net : Network) : Type 0 where

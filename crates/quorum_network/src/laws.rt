@@ -5,7 +5,7 @@ ghost use Rattle.mon_core.specs.Core.{Monitor as Core};
 ghost use Rattle.mon_core.specs.Reacts.{IsReaction};
 ghost use Rattle.mon_core.specs.declared.reaction.Reaction.{Reaction};
 ghost use Rattle.mon_link.specs.Clocks.{Readings};
-ghost use Rattle.mon_link.specs.Links.{Told};
+ghost use Rattle.mon_link.specs.Links.{Observed};
 ghost use Rattle.mon_link.specs.declared.link.Got.TheVariants.{Datagram};
 ghost use Rattle.mon_link.specs.declared.link.Got.{Got};
 ghost use Rattle.mon_link.specs.declared.link.Peer.TheVariants.{Monitor, Client};
@@ -14,26 +14,26 @@ ghost use Rattle.mon_msg.specs.declared.view.Me.{Me};
 ghost use Rattle.mon_name.specs.Frames.{framed};
 ghost use Rattle.mon_name.specs.Naming.{HandsOn, is_foreign, wired};
 ghost use Rattle.mon_node.specs.Hearing.{Given};
-ghost use Rattle.mon_node.specs.Lasting.{IsLeft, IsWithinTurn, On, stood_kept};
+ghost use Rattle.mon_node.specs.Lasting.{RemainsAfter, IsWithinIteration, On, store_view_kept};
 ghost use Rattle.mon_node.specs.Nodes.{Serving, unstarted};
 ghost use Rattle.mon_node.specs.Serving.{EndsAfter, Has, OfInput, Serves, sends_of};
-ghost use Rattle.mon_node.specs.Turns.{Turn, ended_turn, last_turn, turn};
+ghost use Rattle.mon_node.specs.Iterations.{Iteration, ended_iteration, last_iteration, iteration};
 ghost use Rattle.mon_node.specs.declared.end.NodeEnd.TheVariants as end;
 ghost use Rattle.mon_node.specs.declared.end.NodeEnd.{NodeEnd};
 ghost use Rattle.mon_node.specs.declared.hearing.TimedInput.{TimedInput};
-ghost use Rattle.mon_store.specs.Moments.{EachPair, WhileOpening};
+ghost use Rattle.mon_store.specs.Times.{EachPair, WhileOpening};
 ghost use Rattle.mon_store.specs.Opening.{Alike};
-ghost use Rattle.mon_store.specs.Stood.{Stood, opens_as};
+ghost use Rattle.mon_store.specs.StoreView.{StoreView, opens_as};
 ghost use Rattle.mon_tx.specs.Map.{Store};
 ghost use Rattle.mon_types.specs.declared.member.Member.{Member};
 ghost use Rattle.mon_types.specs.declared.names.Stop.{Stop};
 ghost use Rattle.mon_wire.specs.declared.phase.Timer.{Timer};
 ghost use Rattle.quorum_model.specs.Monitors.{Monitors, me_of};
 ghost use Rattle.quorum_network.specs.AnyDisk.{AllMayAnyhow, AreNamed, ClientsJoinWhole, JoinsWhole, mailed};
-ghost use Rattle.quorum_network.specs.EachTurn.{IsAskedInTime, IsKeptFirst, IsOfReaction, Takes};
+ghost use Rattle.quorum_network.specs.EachIteration.{IsAskedInTime, IsKeptFirst, IsOfReaction, Takes};
 ghost use Rattle.quorum_network.specs.History.{HaveHistory};
-ghost use Rattle.quorum_network.specs.Lives.{alone, life, own, sent_of, IsLeftBy, IsLife, OpensWith};
-ghost use Rattle.quorum_network.specs.Network.{AllMay, Begins, IsAnswer, Kept, May, Network, Step, Until, left_by, map_of, network, under};
+ghost use Rattle.quorum_network.specs.Lives.{alone, life, own, sent_of, IsOutcomeOf, IsLife, OpensWith};
+ghost use Rattle.quorum_network.specs.Network.{AllMay, Begins, IsAnswer, Kept, May, Network, Step, Until, outcome_of, map_of, network, under};
 ghost use Rattle.quorum_network.specs.Promises.{AgreeWith, HaveOneLog, Leads};
 ghost use Rattle.quorum_network.specs.Requests.{Leadership, leaderships, requests};
 ghost use Rattle.quorum_network.specs.Running.{DoesARun};
@@ -148,37 +148,42 @@ pub fn law_lives()
     ensures sends { (ms : Monitors) (i : ℕ) (me : Me) → me_of ms i ≡ Some me → (steps : List Step)
         → sent_of i (network ms steps).sent ≡ (alone me (own i steps)).sends }
     ensures begins { (ms : Monitors) (i : ℕ) (me : Me) → me_of ms i ≡ Some me → (steps : List Step)
-        → (number : ℕ) (s : Stood) (clock : Option Readings) (link : Option Told) (first : ℕ)
+        → (number : ℕ) (s : StoreView) (clock : Option Readings) (link : Option Observed) (first : ℕ)
         → s.kv ≡ map_of (alone me (own i steps)).process
         → number ≤ 2 ^ 62 → ¬ Contains (alone me (own i steps)).lives number
         → May (network ms steps) i ((network ms steps).process i) (Begins number s clock link first) }
-    ensures last { (i : ℕ) (me : Me) (number : ℕ) (stood : Stood) (clock : Option Readings) (link : Option Told)
-        (first : ℕ) (earlier : List Step) (given : List Given) (u : Until) (t : Turn)
-        → last_turn me first (unstarted me.member.rank stood clock link) given ≡ Ok t
-        → (alone me (life i number stood clock link first given u earlier)).process ≡ (left_by me t u).process }
-    ensures cut { (me : Me) (t : Turn) (k : ℕ) → (left_by me t (Kept k)).sends ≡ take k (sends_of me t) }
+    ensures last { (i : ℕ) (me : Me) (number : ℕ) (store_view : StoreView) (clock : Option Readings)
+        (link : Option Observed)
+        (first : ℕ) (earlier : List Step) (given : List Given) (u : Until) (t : Iteration)
+        → last_iteration me first (unstarted me.member.rank store_view clock link) given ≡ Ok t
+        → (alone me (life i number store_view clock link first given u earlier)).process ≡ (outcome_of me t u).process }
+    ensures cut { (me : Me) (t : Iteration) (k : ℕ) → (outcome_of me t (Kept k)).sends ≡ take k (sends_of me t) }
 
     // The node ends, and a crash may follow. `StandsThrough` says what the two images then hold that the crash leaves.
-    ensures ends { (i : ℕ) (me : Me) (number : ℕ) (stood : Stood) (clock : Option Readings) (link : Option Told)
+    ensures ends { (i : ℕ) (me : Me) (number : ℕ) (store_view : StoreView) (clock : Option Readings)
+        (link : Option Observed)
         (first : ℕ) (given : List Given) (earlier : List Step) (turns begun : ℕ) (e : NodeEnd)
-        (left_clock : Option Readings) (left_link : Option Told) (x y : List ℕ)
-        → Serves me (unstarted me.member.rank stood clock link) turns e begun left_clock left_link first given
-        → Has (last_turn me first (unstarted me.member.rank stood clock link) given)
-        (λ t. On (IsLeft me t e left_link) x y)
-        → (member : Member) (s : Stood) → opens_as member x y ≡ Ok s
-        → IsLife i me number stood clock link first given earlier s.kv left_link }
+        (left_clock : Option Readings) (left_link : Option Observed) (x y : List ℕ)
+        → Serves me (unstarted me.member.rank store_view clock link) turns e begun left_clock left_link first given
+        → Has (last_iteration me first (unstarted me.member.rank store_view clock link) given)
+        (λ t. On (RemainsAfter me t e left_link) x y)
+        → (member : Member) (s : StoreView) → opens_as member x y ≡ Ok s
+        → IsLife i me number store_view clock link first given earlier s.kv left_link }
 
     // A kill in an iteration, between two calls to the disks and the link.
-    ensures killed { (i : ℕ) (me : Me) (number : ℕ) (stood : Stood) (clock : Option Readings) (link : Option Told)
-        (first : ℕ) (given : List Given) (earlier : List Step) (t : Turn) (left_link : Option Told) (x y : List ℕ)
-        → last_turn me first (unstarted me.member.rank stood clock link) given ≡ Ok t
-        → On (IsLeft me t end.OutOfMemory left_link) x y
-        → (member : Member) (s : Stood) → opens_as member x y ≡ Ok s
-        → IsLife i me number stood clock link first given earlier s.kv left_link }
+    ensures killed { (i : ℕ) (me : Me) (number : ℕ) (store_view : StoreView) (clock : Option Readings)
+        (link : Option Observed)
+        (first : ℕ) (given : List Given) (earlier : List Step) (t : Iteration) (left_link : Option Observed)
+        (x y : List ℕ)
+        → last_iteration me first (unstarted me.member.rank store_view clock link) given ≡ Ok t
+        → On (RemainsAfter me t end.OutOfMemory left_link) x y
+        → (member : Member) (s : StoreView) → opens_as member x y ≡ Ok s
+        → IsLife i me number store_view clock link first given earlier s.kv left_link }
 
     // A crash within a call to a disk. `StandsThrough` says for each point which images the disks may then have.
-    ensures within { (me : Me) (t : Turn) (member : Member) (x y : List ℕ) (s : Stood) → On (IsWithinTurn me t) x y
-        → opens_as member x y ≡ Ok s → IsLeftBy me t s.kv }
+    ensures within { (me : Me) (t : Iteration) (member : Member) (x y : List ℕ) (s : StoreView)
+        → On (IsWithinIteration me t) x y
+        → opens_as member x y ≡ Ok s → IsOutcomeOf me t s.kv }
 {}
 
 /// A crash while a store is opened adds no map with which its disks may open. Whatever the point of the crash, if the
@@ -193,7 +198,7 @@ pub fn law_opening<D: Disk>(before: &NodeDisks<D>, after: &NodeDisks<D>)
         → WhileOpening (D.state before.now.a).content (D.state before.now.b).content (D.state after.now.a).content
         (D.state after.now.b).content (OpensWith member maps)
         × EachPair (D.state after.now.a).content (D.state after.now.b).content (OpensWith member maps) }
-    ensures new_store { (member : Member) → (s : Stood) × (opens_as member [] [] ≡ Ok s) × (s.kv ≡ empty) }
+    ensures new_store { (member : Member) → (s : StoreView) × (opens_as member [] [] ≡ Ok s) × (s.kv ≡ empty) }
 {}
 
 /// Each iteration that `serve` makes asks its link in time, and sends only once the state that this depends on is kept.
@@ -207,15 +212,17 @@ pub fn law_opening<D: Disk>(before: &NodeDisks<D>, after: &NodeDisks<D>)
 ///
 /// Each datagram that an iteration sends is a message of the core's reaction to its input, or a piece of one, and goes
 /// to the receiver of that message.
-pub fn law_turns()
+pub fn law_iterations()
     ensures timers { (me : Me) (g : Given) (s : Serving) (timer : Timer) (at : ℕ)
-        → due s.node.state.timers ≡ Some (timer, at) → at ≤ g.began → Takes g s timer (turn me g s) }
+        → due s.node.state.timers ≡ Some (timer, at) → at ≤ g.began → Takes g s timer (iteration me g s) }
     ensures waits { (me : Me) (g : Given) (s : Serving)
-        → IsAskedInTime g.began (due s.node.state.timers) s.outside.link (turn me g s).serving.outside.link }
-    ensures keeps { (me : Me) (t : Turn) (now : Serving) → ended_turn me t ≡ Ok now
-        → now.node.store ≡ stood_kept me t }
-    ensures ends { (me : Me) (turns begun : ℕ) (t : Turn) (e : NodeEnd) (clock : Option Readings) (link : Option Told)
-        (s : Stood) → EndsAfter me turns begun t e clock link → IsLeft me t e link s → IsKeptFirst me t link s }
-    ensures messages { (me : Me) (t : Turn) → AllByRecursion
+        → IsAskedInTime g.began (due s.node.state.timers) s.outside.link (iteration me g s).serving.outside.link }
+    ensures keeps { (me : Me) (t : Iteration) (now : Serving) → ended_iteration me t ≡ Ok now
+        → now.node.store ≡ store_view_kept me t }
+    ensures ends { (me : Me) (turns begun : ℕ) (t : Iteration) (e : NodeEnd) (clock : Option Readings)
+        (link : Option Observed)
+        (s : StoreView) → EndsAfter me turns begun t e clock link → RemainsAfter me t e link s
+        → IsKeptFirst me t link s }
+    ensures messages { (me : Me) (t : Iteration) → AllByRecursion
         (λ d. OfInput me t.serving.node (IsOfReaction me t.serving.node d) t.came) (sends_of me t) }
 {}

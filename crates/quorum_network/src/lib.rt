@@ -5,6 +5,6 @@
 mod laws;
 
 pub use laws::{
-    law_any_disk, law_history, law_lives, law_network, law_one_log, law_opening, law_turns,
+    law_any_disk, law_history, law_iterations, law_lives, law_network, law_one_log, law_opening,
     law_wire,
 };

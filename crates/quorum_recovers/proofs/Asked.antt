@@ -1,11 +1,11 @@
 -- The value of a command that is asked becomes the next version of the log.
 use Rattle.log_copies.proofs.Growing as growing
 use Rattle.log_copies.proofs.Sending.{keeps_noted}
-use Rattle.log_copies.proofs.Telling.{monitor_keeps, read_last}
+use Rattle.log_copies.proofs.Matching.{monitor_keeps, read_last}
 use Rattle.log_copies.specs.Versions.{HasVersions}
 use Rattle.log_model.proofs.Committed.{holds, texts, value_told}
 use Rattle.log_model.proofs.Lists.{length_push}
-use Rattle.log_model.proofs.Logs.{Fronts, entry_push, fold_stays, fronts_push}
+use Rattle.log_model.proofs.Logs.{IsPrefixOf, entry_push, fold_stays, log_prefix_push}
 use Rattle.log_model.proofs.Older.{older_itself}
 use Rattle.log_model.proofs.Records.{IsVersion}
 use Rattle.log_model.proofs.RowReadings as rows
@@ -85,7 +85,7 @@ module _ (log : List (List ℕ)) (short : length log ≤ 2 ^ 62) (values : AllVa
     over = subst (λ (k : ℕ). value (view_at log k) c i ≡ value (readings_of m) c i) whole (value_told log short values (readings_of m) all (last_is ∙ sym whole) c i)
 
     is_value : IsValue (readings_of m) x
-    is_value = record { command = c; form = form; asked = i; rank = omega arith; newer = x; made = is; spelled = older_itself x }
+    is_value = record { command = c; form = form; asked = i; rank = omega arith; newer = x; made = is; encoded = older_itself x }
 
     -- it is the next version of the log that has it
     next_version : IsVersion more (suc (length log)) x
@@ -95,7 +95,7 @@ module _ (log : List (List ℕ)) (short : length log ≤ 2 ^ 62) (values : AllVa
     pub learned_is : (play (Learn (suc l) x) (readings_of m)).record_of (suc l) ≡ Some (text x)
     learned_is =
         let long = length_push log (text x) in
-        let K : Keeps more l (readings_of m) = keeps_stay (fronts_push log (text x)) l (omega arith) (readings_of m) keeps in
+        let K : Keeps more l (readings_of m) = keeps_stay (log_prefix_push log (text x)) l (omega arith) (readings_of m) keeps in
         let N = keeps_noted more (omega arith) (growing.more_values log (omega arith) values (readings_of m) all (last_is ∙ sym whole) x is_value) (x ∷ []) l (suc l) (omega arith) (omega arith) (subst (λ (k : ℕ). IsVersion more (suc k) x) whole next_version, tt) (readings_of m) K in
         N.records (suc l) (omega arith) ∙ there ∙ ap Some (ap (λ (k : ℕ). entry more (suc k)) (sym whole) ∙ entry_push log (text x))
       where
@@ -103,8 +103,8 @@ module _ (log : List (List ℕ)) (short : length log ≤ 2 ^ 62) (values : AllVa
         there = rw (le-leb (log_from (suc l)) (suc l) (let h = log_high (suc l) (omega arith) in omega arith), lt-ltb (suc l) (suc (suc l)) (omega arith)) refl
 
     -- in each longer log whose next version has these bytes, that version is what was asked
-    pub asked_is : (n : ℕ) → i < n → (session : Session) (later : List (List ℕ)) → Fronts log later → entry later (suc l) ≡ text x → IsAsked n (asked_at i session c ∷ []) later l
-    asked_is n lt session later F spells = record {
+    pub asked_is : (n : ℕ) → i < n → (session : Session) (later : List (List ℕ)) → IsPrefixOf log later → entry later (suc l) ≡ text x → IsAsked n (asked_at i session c ∷ []) later l
+    asked_is n lt session later F encodes = record {
       by = asked_at i session c;
       was_asked = (0, omega arith, refl);
       rank = lt;
@@ -114,7 +114,7 @@ module _ (log : List (List ℕ)) (short : length log ≤ 2 ^ 62) (values : AllVa
       ops = x;
       made = ap (λ (r : Readings). value r c i) view ∙ over ∙ is;
       has_text = texts log (omega arith) values (readings_of m) all (last_is ∙ sym whole) x is_value;
-      spells = spells;
+      encodes = encodes;
     }
       where
         view : view_at later l ≡ view_at log l

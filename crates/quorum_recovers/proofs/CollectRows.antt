@@ -6,7 +6,7 @@ use Rattle.mon_msg.specs.Protocol.Collecting.{begin_found, collect, collect_with
 use Rattle.mon_msg.specs.Protocol.Course.{Course, change, change_if, ◌>>=◌}
 use Rattle.mon_msg.specs.Protocol.Found.{better, counts}
 use Rattle.mon_msg.specs.Protocol.Hearing.{is_heard}
-use Rattle.mon_msg.specs.Protocol.Leader.{all_answered, hear_last, hear_whole, note, note_answer, note_told, of_member}
+use Rattle.mon_msg.specs.Protocol.Leader.{all_answered, hear_last, hear_whole, note, note_answer, note_pending, of_member}
 use Rattle.mon_msg.specs.Protocol.Leading.{be_active, begin, begin_with, extend, is_alone}
 use Rattle.mon_msg.specs.Protocol.Learning.{learn, news_from}
 use Rattle.mon_msg.specs.Protocol.Length.{fits}
@@ -65,7 +65,7 @@ module _ (ms : Monitors) (several : 1 < ms.count) (i : ℕ) (lt : ltb i ms.count
 
   -- ---- a peon is asked
 
-  pub record Tells (r e : ℕ) (a : List Bool) (l p first from : ℕ) (y : Course) : Type 0 where
+  pub record Matches (r e : ℕ) (a : List Bool) (l p first from : ℕ) (y : Course) : Type 0 where
     pub stands : IsHearing r e a l p y.readings y.state
     pub tells : Body
     pub answer : IsAnswer tells p first l from
@@ -73,13 +73,13 @@ module _ (ms : Monitors) (several : 1 < ms.count) (i : ℕ) (lt : ltb i ms.count
 
   pub asked : (w : Readings) (s : State) (r e : ℕ) (a : List Bool) (l p : ℕ) → IsHearing r e a l p w s → (r ≡ i → ⊥) → (pn first last : ℕ) → pn ≤ 2 ^ 62 → suc last ≤ 2 ^ 62 → ltb (suc w.last) first ≡ false
       → w.last ≤ suc last → (w.last ≡ suc last → w.first ≤ suc last × ((x : List Op) × (record_at w.record_of (suc last) ≡ Some x) × (length (text x) ≤ most_value)))
-      → Surely (Does w (Tells r e a l (max p pn) w.first (suc last))) (react me sh now w s (input.Deliver (letter n r e (body.Collect pn first last))))
+      → Surely (Does w (Matches r e a l (max p pn) w.first (suc last))) (react me sh now w s (input.Deliver (letter n r e (body.Collect pn first last))))
   unfolding hear_collect
   asked w s r e a l p P ne pn first last short room kept high known =
-      heard ms several 0 i lt sh now (Does w (Tells r e a l (max p pn) w.first (suc last))) w s r e (body.Collect pn first last) (ap (λ p. same_phase p phase.Booting) P.phase) (meets r ne)
+      heard ms several 0 i lt sh now (Does w (Matches r e a l (max p pn) w.first (suc last))) w s r e (body.Collect pn first last) (ap (λ p. same_phase p phase.Booting) P.phase) (meets r ne)
       (by_test (not (of_leader r e (at_rest w s))) (never (ap not followed)) (λ _.
       by_test (ltb (suc w.last) first) (never kept) (λ _.
-      where_fits (Does w (Tells r e a l (max p pn) w.first (suc last))) which.Version (suc last) _ room (λ fits. by (ltb (promise_of w) pn) refl))))
+      where_fits (Does w (Matches r e a l (max p pn) w.first (suc last))) which.Version (suc last) _ room (λ fits. by (ltb (promise_of w) pn) refl))))
     where
       meets : (r : ℕ) → (r ≡ i → ⊥) → is_heard me (letter n r e (body.Collect pn first last)) ≡ true
       meets r ne = λ j. not (ne_eqb r i ne j) && eq-eqb n n refl j && true
@@ -88,7 +88,7 @@ module _ (ms : Monitors) (several : 1 < ms.count) (i : ℕ) (lt : ltb i ms.count
       followed = λ j. same_phase (P.phase j) phase.Peon && eq-eqb e (epoch_of w) (sym P.epoch) j && eq-eqb r s.peon.leader (sym P.leader) j
 
       by : (b : Bool) → ltb (promise_of w) pn ≡ b
-          → Surely (Does w (Tells r e a l (max p pn) w.first (suc last))) (Ok (record (change_if b (Promise pn) (cancel (at_rest w s))) {
+          → Surely (Does w (Matches r e a l (max p pn) w.first (suc last))) (Ok (record (change_if b (Promise pn) (cancel (at_rest w s))) {
             out = message_to me (epoch_of (change_if b (Promise pn) (cancel (at_rest w s))).readings) (last_answer n (change_if b (Promise pn) (cancel (at_rest w s))).readings (suc last)) r ∷ [];
           }))
       by true t = done (
@@ -285,7 +285,7 @@ module _ (ms : Monitors) (several : 1 < ms.count) (i : ℕ) (lt : ltb i ms.count
         },
       )
 
-      by : (t : Option Told) → ToldShort t → Surely (Does w (λ y. IsAsking i e a l pn (with_rank A f) T y.readings y.state)) (note_told f lf t x)
+      by : (t : Option Told) → ToldShort t → Surely (Does w (λ y. IsAsking i e a l pn (with_rank A f) T y.readings y.state)) (note_pending f lf t x)
       by None short = stands x.state.leader.found P.found
       by (Some t) short = where_fits (Does w (λ y. IsAsking i e a l pn (with_rank A f) T y.readings y.state)) which.Version (suc lf) _ room (λ fits.
           stands (better x.state.leader.found (record { version = suc lf; pn = t.pn; value = t.value })) (better_short x.state.leader.found (record { version = suc lf; pn = t.pn; value = t.value }) P.found short))
@@ -306,7 +306,7 @@ module _ (ms : Monitors) (several : 1 < ms.count) (i : ℕ) (lt : ltb i ms.count
       Mid : Course → Type 0
       Mid y = Does w (λ y. IsAsking i e a l pn (with_rank A f) T y.readings y.state) y × (y.readings ≡ x.readings)
 
-      note_reads : (t : Option Told) → Surely (λ y. y.readings ≡ x.readings) (note_told f lf t x)
+      note_reads : (t : Option Told) → Surely (λ y. y.readings ≡ x.readings) (note_pending f lf t x)
       note_reads None = done refl
       note_reads (Some t) = where_fits (λ y. y.readings ≡ x.readings) which.Version (suc lf) _ (omega arith) (λ fits. done refl)
 

@@ -1,7 +1,7 @@
 -- What every run says of the records of a monitor, and of what waits.
 use Rattle.log_copies.proofs.Sending.{keeps_noted}
 use Rattle.log_copies.proofs.Standing.{Agrees}
-use Rattle.log_copies.proofs.Telling.{monitor_keeps, read_last, record_there}
+use Rattle.log_copies.proofs.Matching.{monitor_keeps, read_last, record_there}
 use Rattle.log_copies.proofs.Unmarked.{OnLog}
 use Rattle.log_model.proofs.Records.{IsVersion}
 use Rattle.log_model.proofs.RuleCells.{log_high}
@@ -21,7 +21,7 @@ use Rattle.mon_tx.specs.declared.key.Key.TheVariants as key
 use Rattle.mon_tx.specs.declared.op.Op.{Op}
 use Rattle.quorum_agreement.proofs.Chosen.{IsEntry, some_rank}
 use Rattle.quorum_agreement.proofs.Grown.{first_is}
-use Rattle.quorum_agreement.proofs.Invariant.{EnvelopeTells, OfLog, remembers}
+use Rattle.quorum_agreement.proofs.Invariant.{EnvelopeMatches, OfLog, remembers}
 use Rattle.quorum_agreement.proofs.Step.{copy_marked}
 use Rattle.quorum_elects.proofs.Can.{New}
 use Rattle.quorum_laws.proofs.Invariant.{EnvelopeFine, InvOf, StateFits}
@@ -82,7 +82,7 @@ module _ (ms : Monitors) (several : 1 < ms.count) (w : World) (H : Holds ms seve
       let E : IsEntry ms.count I.g w.log (suc v) = O.chosen v lt in
       let s = some_rank ms.count I.g I.glob.triples (suc v) E.x E.chosen in
       let C = E.chosen in
-      (E.x, E.spells, I.glob.triples.fine s.0 (suc v) C.pn E.x s.1)
+      (E.x, E.encodes, I.glob.triples.fine s.0 (suc v) C.pn E.x s.1)
 
   -- a monitor has its last version
   pub value_there : (i : ℕ) → i < ms.count → (readings_at w i).marked ≡ false → (l : ℕ) → (readings_at w i).last ≡ suc l → IsThere (readings_at w i).record_of (suc l)
@@ -121,8 +121,8 @@ module _ (ms : Monitors) (several : 1 < ms.count) (w : World) (H : Holds ms seve
   pub message_fine : {sent : ℕ} {e : Envelope} → New sent w e → EnvelopeFine e
   message_fine N = at_index EnvelopeFine I.sizes N
 
-  pub message_tells : {sent : ℕ} {e : Envelope} → New sent w e → EnvelopeTells w.log e
-  message_tells N = at_index (EnvelopeTells w.log) O.sent N
+  pub message_tells : {sent : ℕ} {e : Envelope} → New sent w e → EnvelopeMatches w.log e
+  message_tells N = at_index (EnvelopeMatches w.log) O.sent N
 
   -- what a leader proposes
   pub value_fine : (i : ℕ) (s : State) → w.state i ≡ Some s → (x : List Op) → s.leader.value ≡ Some x → Val x

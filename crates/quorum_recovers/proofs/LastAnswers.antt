@@ -1,5 +1,5 @@
 -- What a peon answers to COLLECT, if neither it nor the leader lacks more than one version.
-use Rattle.mon_msg.specs.Protocol.Answers.{answer_of, answer_with, last_answer, tells_all, told_of, told_values}
+use Rattle.mon_msg.specs.Protocol.Answers.{answer_of, answer_with, last_answer, is_complete, told_of, sent_values}
 use Rattle.mon_msg.specs.Protocol.Found.{better, counts, is_newer}
 use Rattle.mon_msg.specs.Protocol.Length.{fits, message_length, most_message}
 use Rattle.mon_msg.specs.Protocol.Parts.{value_length}
@@ -64,12 +64,12 @@ run_one records v x e = ap (λ (o : Option (List Op)). elim o as (λ _. List (Li
 
 answer_known : (n promise first last from : ℕ) (values : List (List Op)) (told : Option Told) → (last < from → values ≡ []) → (last ≡ from → (x : List Op) × (values ≡ x ∷ []))
     → ToldShort told → IsAnswer (answer_with n promise first last from values told) promise first last from
-answer_known n promise first last from values told none one short = by (tells_all n promise first last from values told) refl
+answer_known n promise first last from values told none one short = by (is_complete n promise first last from values told) refl
   where
-    all : last < from → tells_all n promise first last from values told ≡ true
-    all lt = subst (λ (vs : List (List Op)). tells_all n promise first last from vs told ≡ true) (sym (none lt)) (λ j. lt-ltb last (from + 0) (omega arith) j && fits_told n promise first last from told short j)
+    all : last < from → is_complete n promise first last from values told ≡ true
+    all lt = subst (λ (vs : List (List Op)). is_complete n promise first last from vs told ≡ true) (sym (none lt)) (λ j. lt-ltb last (from + 0) (omega arith) j && fits_told n promise first last from told short j)
 
-    by : (b : Bool) → tells_all n promise first last from values told ≡ b
+    by : (b : Bool) → is_complete n promise first last from values told ≡ b
         → IsAnswer (cond b (body.Last promise first last true from values told) (body.Last promise first last false from values None)) promise first last from
     by true e = record { whole = true; values = values; told = told; is = refl; none = λ lt. (refl, none lt); one = one }
     by false e = record { whole = false; values = values; told = None; is = refl; none = λ lt. (sym e ∙ all lt, none lt); one = one }
@@ -79,12 +79,12 @@ pub answer_is : (n : ℕ) (w : Readings) (from : ℕ) → w.last ≤ from → (w
     → IsAnswer (last_answer n w from) (promise_of w) w.first w.last from
 unfolding answer_of
 answer_is n w from high known =
-    answer_known n (promise_of w) w.first w.last from (told_values n (promise_of w) w.first w.last w.record_of from) (told_of (pending w)) none one (told_short (pending w) (pending_short w))
+    answer_known n (promise_of w) w.first w.last from (sent_values n (promise_of w) w.first w.last w.record_of from) (told_of (pending w)) none one (told_short (pending w) (pending_short w))
   where
-    none : w.last < from → told_values n (promise_of w) w.first w.last w.record_of from ≡ []
+    none : w.last < from → sent_values n (promise_of w) w.first w.last w.record_of from ≡ []
     none lt = rw (lt-ltb w.last from lt) refl
 
-    one : w.last ≡ from → (x : List Op) × (told_values n (promise_of w) w.first w.last w.record_of from ≡ x ∷ [])
+    one : w.last ≡ from → (x : List Op) × (sent_values n (promise_of w) w.first w.last w.record_of from ≡ x ∷ [])
     one e =
         let k = known e in
         let count : suc w.last - from ≡ 1 = omega arith in

@@ -27,7 +27,7 @@ use Rattle.quorum_laws.specs.Accepting.{readings_at}
 use Rattle.quorum_model.specs.Monitors.{Monitors}
 use Rattle.quorum_model.specs.World.{World}
 use Rattle.quorum_near.proofs.Whole.{Holds}
-use Rattle.quorum_recovers.proofs.CollectRows.{Asks, Hears, Settles, Tells, asked, drop_none, hears_again, hears_more, hears_same}
+use Rattle.quorum_recovers.proofs.CollectRows.{Asks, Hears, Settles, Matches, asked, drop_none, hears_again, hears_more, hears_same}
 use Rattle.quorum_recovers.proofs.Known.{IsThere, learned_there, low_of, message_fine, message_tells, value_there}
 use Rattle.quorum_recovers.proofs.LastAnswers.{IsAnswer}
 use Rattle.quorum_recovers.proofs.States.{IsActive, IsAsking, IsHearing, IsProposing}
@@ -102,7 +102,7 @@ module _ (G : Majority) (Q : Term G) where
   pub fit_on : (R : Course → Type 0) (w v : World) (i : ℕ) → On w v → Did Us R w i v → Fit w → Fit v
   fit_on R w v i o D F =
       let S : Sane Us v = o.sane F.room in
-      record { room = S; holds = reached_holds ms several v S.reached; log = (let z = F.log in let y = (o.fronts).short in omega arith) }
+      record { room = S; holds = reached_holds ms several v S.reached; log = (let z = F.log in let y = (o.log_prefix).short in omega arith) }
 
   -- ---- one is asked
 
@@ -120,7 +120,7 @@ module _ (G : Majority) (Q : Term G) where
       → Does Us (plans.Hears f r kind.Collect ∷ []) 1 (Answered f l (max p pn) w) w
   ask_one w F f h ne p P pn first l short kept high low_l mail =
       does_weaker Us (omega arith) after
-      (deliver Us w F.room f (lt_of f h) (within f h) (Tells ms several f (lt_of f h) (shared_entries (w.store f)) 0 r e a (T f) (max p pn) (readings_at w f).first (suc l)) (letter n r e (body.Collect pn first l)) mail P.state P.up
+      (deliver Us w F.room f (lt_of f h) (within f h) (Matches ms several f (lt_of f h) (shared_entries (w.store f)) 0 r e a (T f) (max p pn) (readings_at w f).first (suc l)) (letter n r e (body.Collect pn first l)) mail P.state P.up
       (asked ms several f (lt_of f h) (shared_entries (w.store f)) 0 (readings_at w f) P.state r e a (T f) p H (λ z. ne (sym z)) pn first l short (terms.version_room G Q l (omega arith)) (le-ltb (suc (readings_at w f).last) first (let z = H.last in omega arith)) (let z = H.last in omega arith) known))
     where
       H : IsHearing r e a (T f) p (readings_at w f) P.state
@@ -132,9 +132,9 @@ module _ (G : Majority) (Q : Term G) where
       known : (readings_at w f).last ≡ suc l → (readings_at w f).first ≤ suc l × ((x : List Op) × (record_at (readings_at w f).record_of (suc l) ≡ Some x) × (length (text x) ≤ most_value))
       known is = let t = value_there ms several w F.holds f (below f h) H.unmarked l is in ((elim low [ inl few ↦ (omega arith) | inr far ↦ (omega arith) ]), (t.value, t.is, (let V = t.fine in V.short)))
 
-      after : (v : World) → On w v → Did Us (Tells ms several f (lt_of f h) (shared_entries (w.store f)) 0 r e a (T f) (max p pn) (readings_at w f).first (suc l)) w f v → Answered f l (max p pn) w v
+      after : (v : World) → On w v → Did Us (Matches ms several f (lt_of f h) (shared_entries (w.store f)) 0 r e a (T f) (max p pn) (readings_at w f).first (suc l)) w f v → Answered f l (max p pn) w v
       after v o D = let R = D.did in record {
-        fit = fit_on (Tells ms several f (lt_of f h) (shared_entries (w.store f)) 0 r e a (T f) (max p pn) (readings_at w f).first (suc l)) w v f o D F;
+        fit = fit_on (Matches ms several f (lt_of f h) (shared_entries (w.store f)) 0 r e a (T f) (max p pn) (readings_at w f).first (suc l)) w v f o D F;
         stands = is_now Us (IsHearing r e a (T f) (max p pn)) w v f D.y D.moved R.stands;
         others = D.moved.others;
         first = (readings_at w f).first;

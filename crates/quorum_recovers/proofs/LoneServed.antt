@@ -2,7 +2,7 @@
 use Rattle.calm_sizes.specs.Sizes.{AllShort, longest}
 use Rattle.election_rules.specs.Ranking.{allows}
 use Rattle.election_rules.specs.declared.rule.Rule.{Rule}
-use Rattle.log_copies.proofs.Telling.{record_there}
+use Rattle.log_copies.proofs.Matching.{record_there}
 use Rattle.log_copies.specs.Versions.{HasVersions}
 use Rattle.log_model.specs.LogOfValues.{IsCommand}
 use Rattle.log_model.specs.Windows.{Keeps}
@@ -36,7 +36,7 @@ use Rattle.quorum_elects.proofs.Steps.{ask, is_now, start, steps_fit}
 use Rattle.quorum_elects.proofs.Stores.{versions_short}
 use Rattle.quorum_elects.proofs.Tests.{and_false, chosen, in_phase, itself_is, otherwise, quorum_is}
 use Rattle.quorum_elects.specs.Electing as electing
-use Rattle.quorum_elects.specs.Electing.{leader_of}
+use Rattle.quorum_elects.specs.Electing.{chosen_leader}
 use Rattle.quorum_elects.specs.Plans as plans
 use Rattle.quorum_elects.specs.Plans.{PlanStep, PlannedWay}
 use Rattle.quorum_elects.specs.Ready.{AllNear, IsReady}
@@ -183,8 +183,8 @@ module _ (most : 1 ≤ 15) (rule : Rule) (events : List Event) (F : AllFit 1 eve
             let r = read u Hu in
             elim (first_low u.log (readings_at u 0) (subst (λ (c : ℕ). Keeps u.log c (readings_at u 0)) (sym r) (keeps u.log Ou.short Ou.values (u.store 0) (length u.log) Vu))) [ inl few ↦ (omega arith) | inr far ↦ (omega arith) ]
 
-        spells : entry u.log (suc (length v.log)) ≡ text C.value_is
-        spells =
+        encodes : entry u.log (suc (length v.log)) ≡ text C.value_is
+        encodes =
             ap (λ (k : ℕ). entry u.log (suc k)) same
             ∙ ap (λ (o : Option (List ℕ)). unwrap_or o []) (sym (record_read (u.store 0) (suc l) ∙ record_there u.log Ou.short Ou.values (length u.log) (u.store 0) Vu (suc l) low (let e = long in omega arith))
             ∙ ap (λ (r : Readings). r.record_of (suc l)) K.moved.reads ∙ C.kept
@@ -203,7 +203,7 @@ module _ (most : 1 ≤ 15) (rule : Rule) (events : List Event) (F : AllFit 1 eve
             near = omega arith;
             within = (let e = long in omega arith);
             made = subst (λ (x : ℕ). IsAsked 1 (record { rank = x; session = session; request = request_of cmd } ∷ []) u.log l) (sym R.rank_is)
-                (subst (λ (k : ℕ). IsAsked 1 (asked_at 0 session cmd ∷ []) u.log k) same (asked_is v.log O.short O.values (v.store 0) (length v.log) V refl room cmd form 0 (omega arith) C.value_is C.made 1 (omega arith) session u.log o2.fronts spells));
+                (subst (λ (k : ℕ). IsAsked 1 (asked_at 0 session cmd ∷ []) u.log k) same (asked_is v.log O.short O.values (v.store 0) (length v.log) V refl room cmd form 0 (omega arith) C.value_is C.made 1 (omega arith) session u.log o2.log_prefix encodes));
           });
         }
 
@@ -297,8 +297,8 @@ module _ (most : 1 ≤ 15) (rule : Rule) (events : List Event) (F : AllFit 1 eve
       idle Us (plan.accepts phase.Updating 0 0 ∷ []) (otherwise _ _ (electing.is_other (electing.quorum_at u 0) 0 0 && electing.is_in u 0 phase.Updating) (λ i. alone (electing.quorum_at u 0) i && electing.is_in u 0 phase.Updating), tt)
       (after v2 (onward_on Us w0 v v2 o o1) D2 u o2 K)))))
 
-  lowest_is : leader_of rule q ≡ 0
-  lowest_is = let L = lowest_of q (allows rule) 0 inside may_lead in let z = M.below (leader_of rule q) L.within in omega arith
+  lowest_is : chosen_leader rule q ≡ 0
+  lowest_is = let L = lowest_of q (allows rule) 0 inside may_lead in let z = M.below (chosen_leader rule q) L.within in omega arith
 
   alone_served : Plays Us (way_back (lone most rule) q session cmd) 2 (IsServed 1 session cmd w0) w0
   alone_served = subst (λ (r : ℕ). Plays Us (electing.elects 1 q r ++ plan.led 1 r session cmd) 2 (IsServed 1 session cmd w0) w0) (sym lowest_is) alone_by

@@ -139,7 +139,7 @@ module _ (G : Majority) (room : HasRoom G.c) (log : length G.from.log ≡ G.c) (
         }
 
     fit : leaders.Fit G term v
-    fit = record { room = sane; holds = reached_holds G.ms G.several v sane.reached; log = (let z = (o.fronts).short in omega (arith, log)) }
+    fit = record { room = sane; holds = reached_holds G.ms G.several v sane.reached; log = (let z = (o.log_prefix).short in omega (arith, log)) }
 
     served : Plays (scope G) (led n K.r session cmd) (2 + (2 * n + 2 * n) + ((1 * n + (2 * n + 1 * n)) + (1 + 2 * n))) (IsServed n session cmd G.from) v
     served = plays_weaker Us (omega arith) (λ u o2 S. answer u S)

@@ -23,7 +23,7 @@ use Rattle.mon_wire.specs.declared.reply.Reply.TheVariants as reply
 use Rattle.mon_wire.specs.declared.request.Session.{Session}
 use Rattle.quorum_agreement.proofs.Chosen.{Chosen, IsEntry}
 use Rattle.quorum_agreement.proofs.Invariant.{OfLog}
-use Rattle.quorum_elects.proofs.Can.{New, Onward, Scope, fronts_on, new_stays}
+use Rattle.quorum_elects.proofs.Can.{New, Onward, Scope, log_prefix_on, new_stays}
 use Rattle.quorum_elects.proofs.Majorities.{Majority, scope}
 use Rattle.quorum_elects.proofs.Moving.{Did, HasReply}
 use Rattle.quorum_elects.proofs.Planning.{Plays, plays_none, plays_then, plays_weaker, step}
@@ -306,7 +306,7 @@ module _ (G : Majority) (Q : Term G) where
                       R.low,
                       R.high,
                       C.within,
-                      subst (λ (l : ℕ). IsAsked n (asked_at r session cmd ∷ []) u.log l) same (asked_is w.log O.short O.values (w.store r) V.last V.versions (whole ∙ sym same) less cmd form r (terms.few_r G Q) P.value P.made n (below r mine) session u.log (fronts_on o.fronts o2.fronts) (ap (λ (l : ℕ). entry u.log (suc l)) same ∙ (C.version).spells)),
+                      subst (λ (l : ℕ). IsAsked n (asked_at r session cmd ∷ []) u.log l) same (asked_is w.log O.short O.values (w.store r) V.last V.versions (whole ∙ sym same) less cmd form r (terms.few_r G Q) P.value P.made n (below r mine) session u.log (log_prefix_on o.log_prefix o2.log_prefix) (ap (λ (l : ℕ). entry u.log (suc l)) same ∙ (C.version).encodes)),
                     );
                   }
           by (inr P) = plays_none Us n (plan.accepts phase.Updating r) (λ k. otherwise _ _ (electing.is_other (electing.quorum_at v r) r k && electing.is_in v r phase.Updating) (and_false (electing.is_other (electing.quorum_at v r) r k) (electing.is_in v r phase.Updating) (in_phase v r D.y.state phase.Active phase.Updating D.moved.up P.phase))) (record { later = (let p = D.moved.elapses in omega arith); answer = inr (P.why, subst (λ (x : Readings). value x cmd r ≡ Err P.why) (sym (D.moved.reads ∙ P.reads)) P.is, D.moved.replies session (refusal P.why) P.says) })

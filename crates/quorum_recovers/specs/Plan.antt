@@ -7,7 +7,7 @@ use Rattle.mon_wire.specs.declared.kind.Kind.TheVariants as kind
 use Rattle.mon_wire.specs.declared.phase.Phase.TheVariants as phase
 use Rattle.mon_wire.specs.declared.phase.Phase.{Phase}
 use Rattle.mon_wire.specs.declared.request.Session.{Session}
-use Rattle.quorum_elects.specs.Electing.{each, election, highest, is_in, is_other, leader_of, quorum_at}
+use Rattle.quorum_elects.specs.Electing.{each, election, highest, is_in, is_other, chosen_leader, quorum_at}
 use Rattle.quorum_elects.specs.Plans.{Asks, Hears, PlanStep}
 use Rattle.quorum_laws.specs.Accepting.{readings_at}
 use Rattle.quorum_model.specs.Monitors.{Monitors}
@@ -70,4 +70,4 @@ abbrev pub led : (n r : ℕ) → Session → Command → List PlanStep
 led n r session command = hearing n r ++ (settling n r ++ serving n r session command)
 
 abbrev pub way_back : Monitors → List Bool → Session → Command → List PlanStep
-way_back ms q session command = election ms q ++ led ms.count (leader_of ms.rule q) session command
+way_back ms q session command = election ms q ++ led ms.count (chosen_leader ms.rule q) session command

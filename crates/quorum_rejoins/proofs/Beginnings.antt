@@ -4,7 +4,7 @@ use Rattle.log_model.proofs.TextSizes.{area_length, key_length}
 use Rattle.mon_kv.specs.Readers.{most_size, size_of}
 use Rattle.mon_msg.proofs.Joining.{apply-joined}
 use Rattle.mon_msg.specs.Joined.{joined}
-use Rattle.mon_msg.specs.Protocol.Changes.{Boot, Change, Epoch, spelled}
+use Rattle.mon_msg.specs.Protocol.Changes.{Boot, Change, Epoch, encoded}
 use Rattle.mon_msg.specs.Protocol.Course.{Course}
 use Rattle.mon_msg.specs.Protocol.Readings.{Readings, epoch_of, readings_of, shared_entries}
 use Rattle.mon_msg.specs.Protocol.State.{booting, quorum_of}
@@ -42,7 +42,7 @@ eight : (n : ℕ) → length (number_bytes n) ≤ 8
 unfolding number_bytes
 eight n = omega arith
 
-one_put : (b : ℕ) (m : Store) → size_of (apply (spelled (Boot b ∷ [])) m) ≤ size_of m + 100
+one_put : (b : ℕ) (m : Store) → size_of (apply (encoded (Boot b ∷ [])) m) ≤ size_of m + 100
 one_put b m =
     let s = put_small m (place area.Monitor key.BootCount) (number_bytes b) in
     let e = eight b in
@@ -50,18 +50,18 @@ one_put b m =
     let k = key_length key.BootCount tt in
     omega (arith, s, e, a, k)
 
-two_puts : (b : ℕ) (m : Store) → size_of (apply (spelled (Boot b ∷ Epoch 1 ∷ [])) m) ≤ size_of m + 200
+two_puts : (b : ℕ) (m : Store) → size_of (apply (encoded (Boot b ∷ Epoch 1 ∷ [])) m) ≤ size_of m + 200
 two_puts b m =
     let f = one_put b m in
-    let s = put_small (apply (spelled (Boot b ∷ [])) m) (place area.Monitor key.ElectionEpoch) (number_bytes 1) in
+    let s = put_small (apply (encoded (Boot b ∷ [])) m) (place area.Monitor key.ElectionEpoch) (number_bytes 1) in
     let e = eight 1 in
     let a = area_length area.Monitor in
     let k = key_length key.ElectionEpoch tt in
     omega (arith, f, s, e, a, k)
 
-start_small : (b : ℕ) (m : Store) (cs : List Change) → (cs ≡ Boot b ∷ []) ⊎ (cs ≡ Boot b ∷ Epoch 1 ∷ []) → size_of m + 1000 ≤ most_size → size_of (apply (joined (spelled cs)) m) ≤ most_size
-start_small b m cs (inl e) room = let s = one_put b m in let same = ap size_of (apply-joined (spelled cs) m) in let is = ap (λ (xs : List Change). size_of (apply (spelled xs) m)) e in omega (arith, s, same, is, room)
-start_small b m cs (inr e) room = let s = two_puts b m in let same = ap size_of (apply-joined (spelled cs) m) in let is = ap (λ (xs : List Change). size_of (apply (spelled xs) m)) e in omega (arith, s, same, is, room)
+start_small : (b : ℕ) (m : Store) (cs : List Change) → (cs ≡ Boot b ∷ []) ⊎ (cs ≡ Boot b ∷ Epoch 1 ∷ []) → size_of m + 1000 ≤ most_size → size_of (apply (joined (encoded cs)) m) ≤ most_size
+start_small b m cs (inl e) room = let s = one_put b m in let same = ap size_of (apply-joined (encoded cs) m) in let is = ap (λ (xs : List Change). size_of (apply (encoded xs) m)) e in omega (arith, s, same, is, room)
+start_small b m cs (inr e) room = let s = two_puts b m in let same = ap size_of (apply-joined (encoded cs) m) in let is = ap (λ (xs : List Change). size_of (apply (encoded xs) m)) e in omega (arith, s, same, is, room)
 
 module _ (S : Scope) (several : 1 < S.ms.count) (P : Provider S) (k : ℕ) (other : k ≡ P.p → ⊥) (from : World) (lt_k : ltb k S.ms.count ≡ true) (in_k : has S.q k ≡ true) (lt_p : ltb P.p S.ms.count ≡ true) (in_p : has S.q P.p ≡ true) where
   abbrev n : ℕ

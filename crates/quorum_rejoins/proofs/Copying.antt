@@ -11,7 +11,7 @@ use Rattle.mon_msg.proofs.Changed.{readings-joined}
 use Rattle.mon_msg.proofs.Joining.{apply-joined}
 use Rattle.mon_msg.specs.Joined.{joined}
 use Rattle.mon_wire.specs.Message.PartLengths.{key_place_length}
-use Rattle.mon_msg.specs.Protocol.Changes.{Change, Last, Mark, Unmark, ops_of, put_back, spelled}
+use Rattle.mon_msg.specs.Protocol.Changes.{Change, Last, Mark, Unmark, ops_of, put_back, encoded}
 use Rattle.mon_msg.specs.Protocol.Chunks.{copy_changes}
 use Rattle.mon_msg.specs.Protocol.Course.{Course}
 use Rattle.mon_msg.specs.Protocol.Places.{after_entries, is_after, is_done}
@@ -58,17 +58,17 @@ puts_back : (k : Key) (o : Option ℕ) → AllByRecursion (PutsShort longest) (p
 puts_back k None = tt
 puts_back k (Some n) = (number_short n, tt)
 
-pub puts_mark : (floor : ℕ) (a b : Option ℕ) → AllByRecursion (PutsShort longest) (spelled (Mark floor a b ∷ []))
+pub puts_mark : (floor : ℕ) (a b : Option ℕ) → AllByRecursion (PutsShort longest) (encoded (Mark floor a b ∷ []))
 puts_mark floor a b =
     all_append (PutsShort longest) (ops_of (Mark floor a b)) [] (
       number_short 1,
       (number_short floor, (tt, (tt, (tt, all_append (PutsShort longest) (put_back key.LastPn a) (put_back key.AcceptedPn b) (puts_back key.LastPn a) (puts_back key.AcceptedPn b))))),
     ) tt
 
-puts_end : (t : ℕ) → AllByRecursion (PutsShort longest) (spelled (Last t ∷ Unmark ∷ []))
+puts_end : (t : ℕ) → AllByRecursion (PutsShort longest) (encoded (Last t ∷ Unmark ∷ []))
 puts_end t = (number_short t, (tt, (tt, tt)))
 
-puts_copies : (es : List Entry) → AllByRecursion IsBrief es → AllByRecursion (PutsShort longest) (spelled (copy_changes es))
+puts_copies : (es : List Entry) → AllByRecursion IsBrief es → AllByRecursion (PutsShort longest) (encoded (copy_changes es))
 puts_copies [] h = tt
 puts_copies (e ∷ es) h = ((let z = h.0.1 in omega arith), puts_copies es h.1)
 
@@ -76,17 +76,17 @@ copies_fit : (es : List Entry) → AllByRecursion Fits (copy_changes es)
 copies_fit [] = tt
 copies_fit (e ∷ es) = (tt, copies_fit es)
 
-short_written : (cs : List Change) (m : Store) → AllByRecursion (PutsShort longest) (spelled cs) → AllShort longest m → AllShort longest (apply (joined (spelled cs)) m)
-short_written cs m h all = subst (AllShort longest) (sym (apply-joined (spelled cs) m)) (short_apply longest (spelled cs) m h all)
+short_written : (cs : List Change) (m : Store) → AllByRecursion (PutsShort longest) (encoded cs) → AllShort longest m → AllShort longest (apply (joined (encoded cs)) m)
+short_written cs m h all = subst (AllShort longest) (sym (apply-joined (encoded cs) m)) (short_apply longest (encoded cs) m h all)
 
 -- a course of a monitor whose copy is of one version
-pub bears : (m : Store) (y : Course) (cs : List Change) → y.changes ≡ cs → y.readings ≡ played cs (readings_of m) → AllByRecursion Fits cs → AllByRecursion (PutsShort longest) (spelled cs) → y.state.phase ≡ phase.Synchronizing
+pub bears : (m : Store) (y : Course) (cs : List Change) → y.changes ≡ cs → y.readings ≡ played cs (readings_of m) → AllByRecursion Fits cs → AllByRecursion (PutsShort longest) (encoded cs) → y.state.phase ≡ phase.Synchronizing
     → IsStill y.state.requester.stage y.state.requester.start y.state.requester.place.version → Bears m y
 bears m y cs is reads fits puts at still = record {
   tells = reads ∙ ap (λ (xs : List Change). played xs (readings_of m)) (sym is);
   fits = subst (AllByRecursion Fits) (sym is) fits;
-  short = λ all. subst (λ (xs : List Change). AllShort longest (apply (joined (spelled xs)) m)) (sym is) (short_written cs m puts all);
-  small = λ short L. copy_small (apply (joined (spelled y.changes)) m) y.state at still short L;
+  short = λ all. subst (λ (xs : List Change). AllShort longest (apply (joined (encoded xs)) m)) (sym is) (short_written cs m puts all);
+  small = λ short L. copy_small (apply (joined (encoded y.changes)) m) y.state at still short L;
 }
 
 -- ---- it begins
@@ -399,15 +399,15 @@ module _ (S : Scope) (several : 1 < S.ms.count) (P : Provider S) (k : ℕ) (othe
         fit : AllByRecursion Fits (Last t ∷ Unmark ∷ [])
         fit = (omega arith, (tt, tt))
 
-        over : (y : Course) → y.changes ≡ Last t ∷ Unmark ∷ [] → (readings_of (apply (joined (spelled y.changes)) (w.store k))).marked ≡ false
-        over y e = ap (λ (xs : List Change). (readings_of (apply (joined (spelled xs)) (w.store k))).marked) e ∙ ap (λ (r : Readings). r.marked) (readings-joined (Last t ∷ Unmark ∷ []) fit (w.store k))
+        over : (y : Course) → y.changes ≡ Last t ∷ Unmark ∷ [] → (readings_of (apply (joined (encoded y.changes)) (w.store k))).marked ≡ false
+        over y e = ap (λ (xs : List Change). (readings_of (apply (joined (encoded xs)) (w.store k))).marked) e ∙ ap (λ (r : Readings). r.marked) (readings-joined (Last t ∷ Unmark ∷ []) fit (w.store k))
 
         bearing : (y : Course) → Ends S.ms several k lt_k (shared_entries (w.store k)) 0 t (readings_at w k) y → Bears (w.store k) y
         bearing y A = record {
           tells = A.reads ∙ ap (λ (xs : List Change). played xs (readings_at w k)) (sym A.changes);
           fits = subst (AllByRecursion Fits) (sym A.changes) fit;
-          short = λ all. subst (λ (xs : List Change). AllShort longest (apply (joined (spelled xs)) (w.store k))) (sym A.changes) (short_written (Last t ∷ Unmark ∷ []) (w.store k) (puts_end t) all);
-          small = λ short L. over_small (apply (joined (spelled y.changes)) (w.store k)) y.state (over y A.changes) short L;
+          short = λ all. subst (λ (xs : List Change). AllShort longest (apply (joined (encoded xs)) (w.store k))) (sym A.changes) (short_written (Last t ∷ Unmark ∷ []) (w.store k) (puts_end t) all);
+          small = λ short L. over_small (apply (joined (encoded y.changes)) (w.store k)) y.state (over y A.changes) short L;
         }
 
         after : (v : World) → Onward S w v → Did S (Ends S.ms several k lt_k (shared_entries (w.store k)) 0 t (readings_at w k)) w k v → Joined (suc most) o v

@@ -47,7 +47,7 @@ use Rattle.std.specs.Prelude.{slice_index_or}
 plain_all : (log : List (List ℕ)) (fits : length log ≤ 2 ^ 62) (all : AllValues log) (xs : List (List Op)) (v : ℕ) → v + length xs ≤ length log → AreVersions log (suc v) xs → AllByRecursion IsPlain xs
 plain_all log fits all [] v le h = tt
 plain_all log fits all (x ∷ xs) v le h = (
-  (version_spares log fits all v (omega arith) x h.0, (let e = entry_short log fits all v (omega arith) in let s = ap length h.0.spells in omega arith)),
+  (version_spares log fits all v (omega arith) x h.0, (let e = entry_short log fits all v (omega arith) in let s = ap length h.0.encodes in omega arith)),
   plain_all log fits all xs (suc v) (omega arith) h.1,
 )
 

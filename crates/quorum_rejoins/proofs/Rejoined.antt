@@ -1,7 +1,7 @@
 -- A majority that has room catches up, however far its members are from the whole log.
 use Rattle.calm_sizes.proofs.Records.{entry_short}
 use Rattle.calm_sizes.specs.Sizes.{AllShort, longest}
-use Rattle.log_copies.proofs.Telling.{monitor_keeps, read_last, record_there}
+use Rattle.log_copies.proofs.Matching.{monitor_keeps, read_last, record_there}
 use Rattle.log_model.specs.Windows.{first_read, log_from}
 use Rattle.mon_bytes.specs.declared.command.Command.{Command}
 use Rattle.mon_kv.specs.Readers.{most_size, size_of}

@@ -16,7 +16,7 @@ use Rattle.quorum_model.proofs.Continuing.{at, ran_on}
 use Rattle.quorum_model.specs.Events.{AllFit, PlainFits}
 use Rattle.quorum_model.specs.Monitors.{Monitors}
 use Rattle.quorum_model.specs.Runs.{Ran, ran, run, run_from}
-use Rattle.quorum_model.specs.World.{Client, Comes, Crash, Deliver, Event, Ring, Start, World, first_world, plain_of}
+use Rattle.quorum_model.specs.World.{Client, Arrives, Crash, Deliver, Event, Ring, Start, World, first_world, plain_of}
 use Rattle.quorum_recovers.proofs.Asked.{request_fits}
 use Rattle.quorum_near.proofs.Whole.{every}
 use Rattle.quorum_near.specs.Near.{IsNear}
@@ -38,10 +38,10 @@ several_catch_up ms several events F on q M R =
 
 -- a step of later events is one of these
 later_step : (q : List Bool) (sent more : ℕ) (asks : Option (Session × Command)) → sent ≤ more → (w : World) (e : Event) → IsStep q more asks w e → IsStep q sent asks w e
-later_step q sent more asks le w (Comes (Start rank at)) h = h
-later_step q sent more asks le w (Comes (Deliver message at)) h = ((let z = h.0 in omega arith), h.1)
-later_step q sent more asks le w (Comes (Ring rank timer at)) h = h
-later_step q sent more asks le w (Comes (Client rank at session r)) h = h
+later_step q sent more asks le w (Arrives (Start rank at)) h = h
+later_step q sent more asks le w (Arrives (Deliver message at)) h = ((let z = h.0 in omega arith), h.1)
+later_step q sent more asks le w (Arrives (Ring rank timer at)) h = h
+later_step q sent more asks le w (Arrives (Client rank at session r)) h = h
 later_step q sent more asks le w (Crash p kept) h = h
 
 later_steps : (ms : Monitors) (q : List Bool) (sent more : ℕ) (asks : Option (Session × Command)) → sent ≤ more → (w : World) (es : List Event) → AreSteps ms q more asks w es → AreSteps ms q sent asks w es

@@ -1,7 +1,7 @@
 -- What stays in the world while one member of a set copies from another one.
 use Rattle.mon_msg.proofs.Joining.{apply-joined}
 use Rattle.mon_msg.specs.Joined.{joined}
-use Rattle.mon_msg.specs.Protocol.Changes.{Change, spelled}
+use Rattle.mon_msg.specs.Protocol.Changes.{Change, encoded}
 use Rattle.mon_msg.specs.Protocol.Course.{Course}
 use Rattle.mon_msg.specs.Protocol.Phases.{same_phase}
 use Rattle.mon_msg.specs.Protocol.Readings.{Readings, readings_of}
@@ -53,8 +53,8 @@ module _ (S : Scope) (P : Provider S) (k : ℕ) (other : k ≡ P.p → ⊥) (fro
     pub gives : Gives most state
     pub rest : (j : ℕ) → (j ≡ k → ⊥) → (j ≡ P.p → ⊥) → w.store j ≡ from.store j
 
-  pub unwritten : (cs : List Change) → cs ≡ [] → (m : Store) → apply (joined (spelled cs)) m ≡ m
-  unwritten cs e m = ap (λ (xs : List Change). apply (joined (spelled xs)) m) e ∙ apply-joined [] m
+  pub unwritten : (cs : List Change) → cs ≡ [] → (m : Store) → apply (joined (encoded cs)) m ≡ m
+  unwritten cs e m = ap (λ (xs : List Change). apply (joined (encoded xs)) m) e ∙ apply-joined [] m
 
   -- This stays after an event at the provider that writes nothing.
   abbrev pub turn_p : {most : ℕ} (more : ℕ) {w v : World} (y : Course) → Turn most w → Onward S w v → Moved S w v P.p y → y.changes ≡ [] → Gives more y.state → Turn more v
@@ -72,8 +72,8 @@ module _ (S : Scope) (P : Provider S) (k : ℕ) (other : k ≡ P.p → ⊥) (fro
   abbrev pub turn_k : {most : ℕ} {w v : World} (y : Course) → Turn most w → Onward S w v → Moved S w v k y → AddsNone P.log y.readings → Turn most v
   turn_k {most} {w} {v} y T o M none = record {
     room = o.sane T.room;
-    log = M.log ∙ ap (λ (l : List (List ℕ)). grown l (apply (joined (spelled y.changes)) (w.store k))) T.log
-        ∙ adds_none P.log (apply (joined (spelled y.changes)) (w.store k)) (subst (AddsNone P.log) (sym reads) none);
+    log = M.log ∙ ap (λ (l : List (List ℕ)). grown l (apply (joined (encoded y.changes)) (w.store k))) T.log
+        ∙ adds_none P.log (apply (joined (encoded y.changes)) (w.store k)) (subst (AddsNone P.log) (sym reads) none);
     given = (M.others P.p (λ e. other (sym e))).1 ∙ T.given;
     state = T.state;
     up = (M.others P.p (λ e. other (sym e))).0 ∙ T.up;
@@ -81,5 +81,5 @@ module _ (S : Scope) (P : Provider S) (k : ℕ) (other : k ≡ P.p → ⊥) (fro
     rest = λ j a b. (M.others j a).1 ∙ T.rest j a b;
   }
     where
-      reads : readings_of (apply (joined (spelled y.changes)) (w.store k)) ≡ y.readings
+      reads : readings_of (apply (joined (encoded y.changes)) (w.store k)) ≡ y.readings
       reads = ap readings_of (sym M.stored) ∙ M.reads

@@ -13,7 +13,7 @@ use Rattle.mon_msg.specs.Protocol.Elections.{election_ends, hear_ack, hear_propo
 use Rattle.mon_msg.specs.Protocol.Entering.{adopt, bootstrap, elect, is_even, own_table}
 use Rattle.mon_msg.specs.Protocol.Found.{counts}
 use Rattle.mon_msg.specs.Protocol.Hearing.{hear, hear_client, is_heard}
-use Rattle.mon_msg.specs.Protocol.Leader.{all_accepted, all_answered, commit_any, hear_accept, hear_last, hear_lease_ack, hear_whole, note, note_told, of_member, renew}
+use Rattle.mon_msg.specs.Protocol.Leader.{all_accepted, all_answered, commit_any, hear_accept, hear_last, hear_lease_ack, hear_whole, note, note_pending, of_member, renew}
 use Rattle.mon_msg.specs.Protocol.Leading.{extend, has_queue}
 use Rattle.mon_msg.specs.Protocol.Learning.{learn, news, news_from}
 use Rattle.mon_msg.specs.Protocol.Peon.{hear_begin, hear_collect, hear_commit, hear_lease, of_leader}
@@ -173,7 +173,7 @@ module _ (me : Me) (now : ℕ) (t : Session) (b : ℕ) (w : Readings) (s : State
       and_then Fits Fits (learn (news_from w.last from) (news w.last from values) x0) _ (learned (news_from w.last from) (news w.last from values))
       (λ y k. by_test whole (λ _. heard_whole y k) (λ _. acts.collects me now t b y.state.leader.quorum 0 y k))))))
     where
-      notes : (o : Option Told) (y : Course) → Fits y → Then Fits (note_told f last o y)
+      notes : (o : Option Told) (y : Course) → Fits y → Then Fits (note_pending f last o y)
       notes None y k = done k
       notes (Some u) y k = where_fits Fits which.Version (suc last) _ (λ _. done k)
 

@@ -6,7 +6,7 @@ use Rattle.mon_bytes.specs.declared.command.Command.{Command}
 use Rattle.mon_bytes.specs.declared.entry.Entry.{Entry}
 use Rattle.mon_msg.proofs.Changed.{readings-joined}
 use Rattle.mon_msg.specs.Joined.{joined}
-use Rattle.mon_msg.specs.Protocol.Changes.{Boot, Change, Copy, Epoch, Last, Learn, Mark, Numbers, Promise, Record, Unmark, Vote, ops_of, spelled}
+use Rattle.mon_msg.specs.Protocol.Changes.{Boot, Change, Copy, Epoch, Last, Learn, Mark, Numbers, Promise, Record, Unmark, Vote, ops_of, encoded}
 use Rattle.mon_msg.specs.Protocol.Course.{Course}
 use Rattle.mon_msg.specs.Protocol.Played.{Fits, IsShort, play, played}
 use Rattle.mon_msg.specs.Protocol.Readings.{Readings, cell_after, epoch_of, epoch_or_first, readings_of}
@@ -275,7 +275,7 @@ module _ {me : Me} {w0 : Base me} {w : Readings} {cs : List Change} {found : Opt
 
   -- what is read after the changes so far is what some store's readers return
   pub stored_now : FineAt Calm me w0 w cs found value pn stage queue out → IsStored w
-  stored_now A = (apply (joined (spelled cs)) A.stored.0, A.tells ∙ ap (played cs) A.stored.1 ∙ sym (readings-joined cs (fit_fits cs A.fits) A.stored.0))
+  stored_now A = (apply (joined (encoded cs)) A.stored.0, A.tells ∙ ap (played cs) A.stored.1 ∙ sym (readings-joined cs (fit_fits cs A.fits) A.stored.0))
 
   -- a number alone
   pub number_fine : (c : Change) → FineAt Calm me w0 w cs found value pn stage queue out → IsCalm c → Fit c → (play c w).record_of ≡ w.record_of → (play c w).boot ≡ w.boot → OwnFine (own_of (play c w))

@@ -1,9 +1,9 @@
 -- The rows of leaders and peons pass on only values of commands, and their numbers fit.
-use Rattle.mon_msg.specs.Protocol.Answers.{answer_of, last_answer, tells_all, told_of, told_values}
+use Rattle.mon_msg.specs.Protocol.Answers.{answer_of, last_answer, is_complete, told_of, sent_values}
 use Rattle.mon_msg.specs.Protocol.Changes.{Promise}
 use Rattle.mon_msg.specs.Protocol.Course.{Course, change_if, leader_is, ◌▸◌}
 use Rattle.mon_msg.specs.Protocol.Found.{better, counts, is_newer}
-use Rattle.mon_msg.specs.Protocol.Leader.{all_accepted, all_answered, commit_any, hear_accept, hear_last, hear_lease_ack, note, note_told, of_member, renew}
+use Rattle.mon_msg.specs.Protocol.Leader.{all_accepted, all_answered, commit_any, hear_accept, hear_last, hear_lease_ack, note, note_pending, of_member, renew}
 use Rattle.mon_msg.specs.Protocol.Leading.{extend}
 use Rattle.mon_msg.specs.Protocol.Learning.{learn, news, news_from}
 use Rattle.mon_msg.specs.Protocol.Length.{fits}
@@ -47,10 +47,10 @@ better_fine f new k V = cond_both (is_newer new.version new.pn f) (Some new) f F
 answer_fine : (n promise first last : ℕ) (records : ℕ → Cell) (found : Option Found) (from : ℕ) → RecordsFine records → FoundFine found → BodyFine (answer_of n promise first last records found from)
 unfolding answer_of
 answer_fine n promise first last records found from R F =
-    let told = told_values n promise first last records from in
+    let told = sent_values n promise first last records from in
     let values : AllByRecursion Val told = cond_both (ltb last from || ltb from first) [] _ (AllByRecursion Val) (λ _. tt)
     (λ _. longest_fine Val (λ vs. fits n (body.Last promise first last false from vs None)) (run_from records last from) (run_fine records R last from)) in
-    cond_both (tells_all n promise first last from told (told_of found)) (body.Last promise first last true from told (told_of found)) (body.Last promise first last false from told None) BodyFine
+    cond_both (is_complete n promise first last from told (told_of found)) (body.Last promise first last true from told (told_of found)) (body.Last promise first last false from told None) BodyFine
     (λ _. (values, told_fine found F)) (λ _. (values, tt))
 
 module _ (me : Me) (now : ℕ) (w0 : Base me) where
@@ -100,7 +100,7 @@ module _ (me : Me) (now : ℕ) (w0 : Base me) where
   note_fine : (f last : ℕ) (told : Option Told) (x : Course) → ToldFine told → Fine w0 x → Then (Fine w0) (note f last told x)
   note_fine f last told x k A = by (counts told) (counts_fine told k)
     where
-      by : (t : Option Told) → ToldFine t → Then (Fine w0) (note_told f last t x)
+      by : (t : Option Told) → ToldFine t → Then (Fine w0) (note_pending f last t x)
       by None k = done A
       by (Some t) k = where_fits (Fine w0) which.Version (suc last) _ (λ short.
           let new : Found = record { version = suc last; pn = t.pn; value = t.value } in

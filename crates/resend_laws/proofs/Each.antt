@@ -9,7 +9,7 @@ use Rattle.mon_resend.specs.declared.note.Note.{Note}
 use Rattle.mon_resend.specs.declared.shelf.Kept.{Kept}
 use Rattle.mon_resend.specs.Copied.{datagram}
 use Rattle.mon_resend.specs.Notes.{after, is_ended, is_spent}
-use Rattle.mon_resend.specs.Shelves.{with_note, if_gone, went}
+use Rattle.mon_resend.specs.Shelves.{with_note, after_sending_if_due, due_sent}
 use Rattle.resend_laws.specs.Copies.{EachOf, IsOver, IsOther, StaysOver}
 use Rattle.resend_laws.specs.Runs.{Step, Sends, Hears, Passes, step}
 use Rattle.mon_resend.proofs.Walk.{Lasts, Grows, sent_at, arrived_at, passed_at}
@@ -47,8 +47,8 @@ never event now n h = h
 pub over_lasts : (x : Outgoing) → Lasts (EachOf x (λ n. ⊥))
 over_lasts x = each_lasts x (λ n. ⊥) never
 
-pub over_goes : (x : Outgoing) (again : Bool) (now : ℕ) (kept : List Kept) → EachOf x (λ n. ⊥) kept → EachOf x (λ n. ⊥) (went again now kept)
-over_goes x again now kept h = each_changed x (λ n. ⊥) (λ n. ⊥) (if_gone again now) (λ k. not (is_spent now k.note)) (λ k e g. g) kept h
+pub over_goes : (x : Outgoing) (again : Bool) (now : ℕ) (kept : List Kept) → EachOf x (λ n. ⊥) kept → EachOf x (λ n. ⊥) (due_sent again now kept)
+over_goes x again now kept h = each_changed x (λ n. ⊥) (λ n. ⊥) (after_sending_if_due again now) (λ k. not (is_spent now k.note)) (λ k e g. g) kept h
 
 pub over_step : (rank : ℕ) (x : Outgoing) (s : Step) (c : Copies) → IsOther x s → IsOver rank x c → IsOver rank x (step s c)
 over_step rank x (Sends memory to bytes now) c other h = sent_at (EachOf x (λ n. ⊥)) tt (over_lasts x) rank memory to bytes now c (each_grows x (λ n. ⊥) (datagram (Monitor to) bytes) other) h

@@ -10,7 +10,7 @@ use Rattle.mon_link.specs.declared.link.Peer.TheVariants.{Monitor}
 use Rattle.mon_resend.specs.declared.copies.Copies.{Copies}
 use Rattle.mon_resend.specs.declared.datagram.Part.{Part}
 use Rattle.mon_resend.specs.declared.datagram.Part.TheVariants.{Whole, First, Later}
-use Rattle.mon_resend.specs.declared.note.Event.TheVariants.{Sent, Turn}
+use Rattle.mon_resend.specs.declared.note.Event.TheVariants.{Sent, Released}
 use Rattle.mon_resend.specs.declared.note.Note.{Note}
 use Rattle.mon_resend.specs.declared.outbox.Outbox.{Outbox}
 use Rattle.mon_resend.specs.declared.outbox.UnderWay.{UnderWay}
@@ -18,18 +18,18 @@ use Rattle.mon_resend.specs.declared.outbox.UnderWay.TheVariants as under_way
 use Rattle.mon_resend.specs.declared.rows.Way.{Way}
 use Rattle.mon_resend.specs.declared.rows.Way.TheVariants as way
 use Rattle.mon_resend.specs.declared.shelf.Kept.{Kept}
-use Rattle.mon_resend.specs.Again.{nothing, turned_by, turned, turn_of, cleared, with_copy, first_kept, first_forward, begun as begins_to_go, begun_as, begins_as, note_of, under_way_of, fits, went_on_with, went_on, goes_on_now}
+use Rattle.mon_resend.specs.Again.{nothing, released_by, released, held_forward, cleared, with_copy, first_kept, first_forward, begun as begins_to_go, begun_as, begins_as, note_of, under_way_of, fits, continued_with, continued, continues_now}
 use Rattle.mon_resend.specs.Copied.{datagram}
 use Rattle.mon_resend.specs.Datagrams.{part_of}
-use Rattle.mon_resend.specs.Notes.{after, gone, is_ended, is_spent, is_when_asked, plus}
+use Rattle.mon_resend.specs.Notes.{after, after_sending, is_ended, is_spent, is_when_asked, plus}
 use Rattle.mon_resend.specs.Rows.{way_of}
-use Rattle.mon_resend.specs.Shelves.{applied, if_gone, went, has_room}
-use Rattle.mon_resend.specs.World.{box_of, began, begins, sent_part, part_goes}
+use Rattle.mon_resend.specs.Shelves.{applied, after_sending_if_due, due_sent, has_room}
+use Rattle.mon_resend.specs.World.{box_of, began, begins, sent_part, is_part_sent}
 use Rattle.resend_laws.specs.Forwards.{number_of, numbers, long, kept_for, begun_in, begun_by, begun, sent_in, leave_in, leave, IsBeforeEnd}
 use Rattle.resend_laws.specs.Runs.{Step, Sends, Hears, Passes, step, run, time_of}
 use Rattle.mon_resend.proofs.Steps.{At, Of, Lasts, put_own, risen_at, begins_at, sent_other, arrived_at, passed_at}
-use Rattle.resend_laws.proofs.Lines.{All, Climbs, EachNumber, Queue, Same, Steady, Waits, all_are, all_changed, all_more, changed, climbs_all, climbs_changed, climbs_lower, climbs_more, each_number, first_goes, first_or, if_first, if_none, is_forward, numbers_more, numbers_same, queue_changed, queue_more, queue_turned, turn_first, waits_on}
-use Rattle.resend_laws.proofs.Unchanged.{header_stays, forward_by_time, forward_no_chunk, not_turned, passes_header}
+use Rattle.resend_laws.proofs.Lines.{All, Climbs, EachNumber, Queue, Same, Steady, Waits, all_are, all_changed, all_more, changed, climbs_all, climbs_changed, climbs_lower, climbs_more, each_number, first_goes, first_or, if_first, if_none, is_forward, numbers_more, numbers_same, queue_changed, queue_more, queue_released, release_first, waits_on}
+use Rattle.resend_laws.proofs.Unchanged.{header_stays, forward_by_time, forward_no_chunk, not_released, passes_header}
 
 -- ---- what holds of the copies for a monitor
 
@@ -78,29 +78,29 @@ line_changed low from f same steady p kept u h = record {
   long = long_changed low from (numbers kept) (numbers (changed f (filter p kept))) (λ P a. all_changed f same p P kept a) u h.long;
 }
 
-turned_in_line : (low from now : ℕ) (kept : List Kept) (u : UnderWay) → InLine low from kept u → InLine low from (turned now kept) u
-turned_in_line low from now kept u h = if_turned (turn_of kept) refl
+released_in_line : (low from now : ℕ) (kept : List Kept) (u : UnderWay) → InLine low from kept u → InLine low from (released now kept) u
+released_in_line low from now kept u h = if_released (held_forward kept) refl
   where
-    if_turned : (turn : Option ℕ) → turn_of kept ≡ turn → InLine low from (turned_by now kept turn) u
-    if_turned None e = h
-    if_turned (Some seq) e =
-        let f = after (Turn seq) now in
-        let same = header_stays (Turn seq) now in
+    if_released : (next_forward : Option ℕ) → held_forward kept ≡ next_forward → InLine low from (released_by now kept next_forward) u
+    if_released None e = h
+    if_released (Some seq) e =
+        let f = after (Released seq) now in
+        let same = header_stays (Released seq) now in
         record {
           line = record {
             bound = h.line.bound;
             climbs = climbs_changed f same (λ k. true) kept low h.line.climbs;
             above = all_changed f same (λ k. true) (λ q. q ≤ from) kept h.line.above;
-            queue = queue_turned seq now kept (turn_first kept seq e) h.line.queue;
+            queue = queue_released seq now kept (release_first kept seq e) h.line.queue;
           };
-          long = long_changed low from (numbers kept) (numbers (applied (Turn seq) now kept)) (λ P a. all_changed f same (λ k. true) P kept a) u h.long;
+          long = long_changed low from (numbers kept) (numbers (applied (Released seq) now kept)) (λ P a. all_changed f same (λ k. true) P kept a) u h.long;
         }
 
 in_line_lasts : (low from : ℕ) → Lasts (InLine low from)
 in_line_lasts low from event now kept u other h =
     let f = after event now in
-    let stays : Steady f = λ n is waits. subst Waits (sym (not_turned event now n other (forward_by_time n.header.kind is) (forward_no_chunk n.header.kind is))) waits in
-    turned_in_line low from now (applied event now kept) u (line_changed low from f (header_stays event now) stays (λ k. not (is_ended event k.note)) kept u h)
+    let stays : Steady f = λ n is waits. subst Waits (sym (not_released event now n other (forward_by_time n.header.kind is) (forward_no_chunk n.header.kind is))) waits in
+    released_in_line low from now (applied event now kept) u (line_changed low from f (header_stays event now) stays (λ k. not (is_ended event k.note)) kept u h)
 
 -- ---- time passes
 
@@ -120,11 +120,11 @@ raised low from (q ∷ ns) u c le b l = (c.0, omega (arith, b.0), (omega arith, 
     raises under_way.Lost l = tt
     raises under_way.Nothing l = tt
 
-passed_in_line : (low from : ℕ) (again : Bool) (now : ℕ) → now < 2 ^ 64 - 1 → (kept : List Kept) (u : UnderWay) → InLine low from kept u → InLine low from (turned now (went again now kept)) u
+passed_in_line : (low from : ℕ) (again : Bool) (now : ℕ) → now < 2 ^ 64 - 1 → (kept : List Kept) (u : UnderWay) → InLine low from kept u → InLine low from (released now (due_sent again now kept)) u
 passed_in_line low from again now before kept u h =
-    let f = if_gone again now in
-    let stays : Steady f = λ n is waits. subst (λ b. Waits (cond b (gone now n) n)) (sym (waits_on again now n before waits)) waits in
-    turned_in_line low from now (went again now kept) u (line_changed low from f (passes_header again now) stays (λ k. not (is_spent now k.note)) kept u h)
+    let f = after_sending_if_due again now in
+    let stays : Steady f = λ n is waits. subst (λ b. Waits (cond b (after_sending now n) n)) (sym (waits_on again now n before waits)) waits in
+    released_in_line low from now (due_sent again now kept) u (line_changed low from f (passes_header again now) stays (λ k. not (is_spent now k.note)) kept u h)
 
 -- ---- one more
 
@@ -188,12 +188,12 @@ begun_in_line low from way.Never memory out h total now b g last = g
 begun_in_line low from way.ByTime memory out h total now b g last = first_in_line low from memory out (note_of h total (length out.bytes) now b) total b g.line last
 begun_in_line low from way.WhenAsked memory out h total now b g last = first_in_line low from memory out (note_of h total (length out.bytes) now b) total b g.line last
 
-went_on_in_line : (low from : ℕ) (u : UnderWay) (memory : Bool) (out : Outgoing) (b : Outbox) → b.under_way ≡ u → InLine low from b.shelf u → Of (InLine low from) (went_on_with u memory out b)
-went_on_in_line low from (under_way.Kept n) memory out b e g =
+continued_in_line : (low from : ℕ) (u : UnderWay) (memory : Bool) (out : Outgoing) (b : Outbox) → b.under_way ≡ u → InLine low from b.shelf u → Of (InLine low from) (continued_with u memory out b)
+continued_in_line low from (under_way.Kept n) memory out b e g =
     let c = copied low from memory out n b.shelf g.line g.long in
     record { line = c.0; long = subst (IsLong low from (numbers (with_copy memory out n b.shelf))) (sym e) c.1 }
-went_on_in_line low from under_way.Lost memory out b e g = subst (InLine low from b.shelf) (sym e) g
-went_on_in_line low from under_way.Nothing memory out b e g = subst (InLine low from b.shelf) (sym e) g
+continued_in_line low from under_way.Lost memory out b e g = subst (InLine low from b.shelf) (sym e) g
+continued_in_line low from under_way.Nothing memory out b e g = subst (InLine low from b.shelf) (sym e) g
 
 -- ---- a FORWARD is given to send
 
@@ -257,14 +257,14 @@ module _ (memory : Bool) (to : ℕ) (bytes : List ℕ) (now : ℕ) (c : Copies) 
         put_own (InLine l f) (none_in_line l f le) (begins h now c).boxes to (begins_to_go memory out h total now found)
         (begun_in_line l f (way_of h.kind) memory out h total now ready (record { line = line; long = tt }) last)
 
-    abbrev goes_now : Bool
-    goes_now = begins_as (way_of h.kind) note
+    abbrev is_sent_now : Bool
+    is_sent_now = begins_as (way_of h.kind) note
 
-    other_begins : is_forward h ≡ false → Went low (cond goes_now [] []) (λ l. At (InLine l from) to then_kept.boxes)
+    other_begins : is_forward h ≡ false → Went low (cond is_sent_now [] []) (λ l. At (InLine l from) to then_kept.boxes)
     other_begins e = record {
       now = low;
       up = omega arith;
-      all = cond_both goes_now [] [] (All (λ q. q ≡ low)) (λ f. tt) (λ f. tt);
+      all = cond_both is_sent_now [] [] (All (λ q. q ≡ low)) (λ f. tt) (λ f. tt);
       holds = began_in_line low from ready_in_line.bound ready_in_line (λ f. absurd cc);
     }
 
@@ -273,10 +273,10 @@ module _ (memory : Bool) (to : ℕ) (bytes : List ℕ) (now : ℕ) (c : Copies) 
         let held : (is_forward h && is_some (first_forward ready.shelf)) ≡ true = and_from (is_forward h) (is_some (first_forward ready.shelf)) e s in
         record { held = held; due = subst (λ b. cond (b || is_when_asked (way_of h.kind)) (2 ^ 64 - 1) (plus now note.every) ≡ 2 ^ 64 - 1) (sym held) refl }
 
-    waits_its_turn : is_forward h ≡ true → note.held ≡ true → goes_now ≡ false
-    waits_its_turn e held = subst (λ w. begins_as w note ≡ false) (sym (forward_by_time h.kind e)) (subst (λ b. not b ≡ false) (sym held) refl)
+    waits_for_release : is_forward h ≡ true → note.held ≡ true → is_sent_now ≡ false
+    waits_for_release e held = subst (λ w. begins_as w note ≡ false) (sym (forward_by_time h.kind e)) (subst (λ b. not b ≡ false) (sym held) refl)
 
-    forward_begins : is_forward h ≡ true → from ≤ h.first → Went low (cond goes_now (h.first ∷ []) []) (λ l. At (InLine l h.first) to then_kept.boxes)
+    forward_begins : is_forward h ≡ true → from ≤ h.first → Went low (cond is_sent_now (h.first ∷ []) []) (λ l. At (InLine l h.first) to then_kept.boxes)
     forward_begins e le = elim (cases_Bool (is_some (first_forward ready.shelf))) [
       | inl s ↦
           let waits = waits_behind e s in
@@ -284,7 +284,7 @@ module _ (memory : Bool) (to : ℕ) (bytes : List ℕ) (now : ℕ) (c : Copies) 
           record {
             now = low;
             up = omega arith;
-            all = subst (λ b. All (λ q. q ≡ low) (cond b (h.first ∷ []) [])) (sym (waits_its_turn e waits.held)) tt;
+            all = subst (λ b. All (λ q. q ≡ low) (cond b (h.first ∷ []) [])) (sym (waits_for_release e waits.held)) tt;
             holds =
                 began_in_line low h.first (omega (arith, le, b.bound))
                 (record { bound = omega (arith, le, b.bound); climbs = b.climbs; above = all_are (λ q. q ≤ from) (λ q. q ≤ h.first) (λ q l. omega (arith, l, le)) (numbers ready.shelf) b.above; queue = b.queue })
@@ -296,7 +296,7 @@ module _ (memory : Bool) (to : ℕ) (bytes : List ℕ) (now : ℕ) (c : Copies) 
           record {
             now = h.first;
             up = omega (arith, le, b.bound);
-            all = cond_both goes_now (h.first ∷ []) [] (All (λ q. q ≡ h.first)) (λ f. (refl, tt)) (λ f. tt);
+            all = cond_both is_sent_now (h.first ∷ []) [] (All (λ q. q ≡ h.first)) (λ f. (refl, tt)) (λ f. tt);
             holds =
                 began_in_line h.first h.first (omega arith)
                 (record { bound = omega arith; climbs = subst (Climbs h.first) none tt; above = subst (All (λ q. q ≤ h.first)) none tt; queue = b.queue })
@@ -304,25 +304,25 @@ module _ (memory : Bool) (to : ℕ) (bytes : List ℕ) (now : ℕ) (c : Copies) 
           }
     ]
 
-    message_begins : Climbs from (number_of h) → Went low (cond goes_now (number_of h) []) (λ l. At (InLine l (past from (number_of h))) to then_kept.boxes)
+    message_begins : Climbs from (number_of h) → Went low (cond is_sent_now (number_of h) []) (λ l. At (InLine l (past from (number_of h))) to then_kept.boxes)
     message_begins rises =
-        let W : Bool → Type 0 = λ b. Climbs from (cond b (h.first ∷ []) []) → Went low (cond goes_now (cond b (h.first ∷ []) []) []) (λ l. At (InLine l (past from (cond b (h.first ∷ []) []))) to then_kept.boxes) in
+        let W : Bool → Type 0 = λ b. Climbs from (cond b (h.first ∷ []) []) → Went low (cond is_sent_now (cond b (h.first ∷ []) []) []) (λ l. At (InLine l (past from (cond b (h.first ∷ []) []))) to then_kept.boxes) in
         elim (cases_Bool (is_forward h)) [
           | inl e ↦ subst W (sym e) (λ r. forward_begins e r.0) rises
           | inr e ↦ subst W (sym e) (λ r. other_begins e) rises
         ]
 
-  piece_leaves : (u : UnderWay) → IsLong low from (numbers (box_of to c).shelf) u → All (λ q. q ≡ low) (cond (goes_on_now u) (long u) [])
+  piece_leaves : (u : UnderWay) → IsLong low from (numbers (box_of to c).shelf) u → All (λ q. q ≡ low) (cond (continues_now u) (long u) [])
   piece_leaves (under_way.Kept n) l =
       cond_both (not n.held) (number_of n.header) [] (All (λ q. q ≡ low))
-      (λ e. cond_both (is_forward n.header) (n.header.first ∷ []) [] (All (λ q. q ≡ low)) (λ is. (went n e (l is).either, tt)) (λ isnt. tt)) (λ e. tt)
+      (λ e. cond_both (is_forward n.header) (n.header.first ∷ []) [] (All (λ q. q ≡ low)) (λ is. (due_sent n e (l is).either, tt)) (λ isnt. tt)) (λ e. tt)
     where
-      went : (n : Note) → not n.held ≡ true → Waits n ⊎ (low ≡ n.header.first) → n.header.first ≡ low
-      went n e either = elim either [ inl waits ↦ let f = waits.held in absurd cc | inr same ↦ sym same ]
+      due_sent : (n : Note) → not n.held ≡ true → Waits n ⊎ (low ≡ n.header.first) → n.header.first ≡ low
+      due_sent n e either = elim either [ inl waits ↦ let f = waits.held in absurd cc | inr same ↦ sym same ]
   piece_leaves under_way.Lost l = tt
   piece_leaves under_way.Nothing l = tt
 
-  sent_here : (p : Option Part) → Climbs from (begun_in p) → Went low (cond (part_goes p to bytes now c) (sent_in p (box_of to c).under_way) []) (λ l. At (InLine l (past from (begun_in p))) to (sent_part p memory to bytes now c).boxes)
+  sent_here : (p : Option Part) → Climbs from (begun_in p) → Went low (cond (is_part_sent p to bytes now c) (sent_in p (box_of to c).under_way) []) (λ l. At (InLine l (past from (begun_in p))) to (sent_part p memory to bytes now c).boxes)
   sent_here (Some (Whole h)) rises = message_begins h (length bytes) rises
   sent_here (Some (First h total)) rises = message_begins h total rises
   sent_here (Some (Later p)) rises =
@@ -331,7 +331,7 @@ module _ (memory : Bool) (to : ℕ) (bytes : List ℕ) (now : ℕ) (c : Copies) 
         now = low;
         up = omega arith;
         all = piece_leaves b.under_way g.long;
-        holds = put_own (InLine low from) (none_in_line low from g.line.bound) c.boxes to (went_on memory out b) (went_on_in_line low from b.under_way memory out b refl g);
+        holds = put_own (InLine low from) (none_in_line low from g.line.bound) c.boxes to (continued memory out b) (continued_in_line low from b.under_way memory out b refl g);
       }
   sent_here None rises = record { now = low; up = omega arith; all = tt; holds = g }
 
@@ -343,11 +343,11 @@ stepped r (Sends memory to bytes now) c low from before g rises =
     let p = part_of bytes in
     let W : Bool → Type 0 =
     λ b. Climbs from (cond b (begun_in p) [])
-    → Went low (cond (b && part_goes p to bytes now c) (sent_in p (box_of to c).under_way) []) (λ l. At (InLine l (past from (cond b (begun_in p) []))) r (sent_part p memory to bytes now c).boxes) in
+    → Went low (cond (b && is_part_sent p to bytes now c) (sent_in p (box_of to c).under_way) []) (λ l. At (InLine l (past from (cond b (begun_in p) []))) r (sent_part p memory to bytes now c).boxes) in
     let here : (r : ℕ) → to ≡ r → At (InLine low from) r c.boxes → Climbs from (begun_in p)
-    → Went low (cond (part_goes p to bytes now c) (sent_in p (box_of to c).under_way) []) (λ l. At (InLine l (past from (begun_in p))) r (sent_part p memory to bytes now c).boxes) =
+    → Went low (cond (is_part_sent p to bytes now c) (sent_in p (box_of to c).under_way) []) (λ l. At (InLine l (past from (begun_in p))) r (sent_part p memory to bytes now c).boxes) =
     λ r same. subst (λ r. At (InLine low from) r c.boxes → Climbs from (begun_in p)
-    → Went low (cond (part_goes p to bytes now c) (sent_in p (box_of to c).under_way) []) (λ l. At (InLine l (past from (begun_in p))) r (sent_part p memory to bytes now c).boxes)) same
+    → Went low (cond (is_part_sent p to bytes now c) (sent_in p (box_of to c).under_way) []) (λ l. At (InLine l (past from (begun_in p))) r (sent_part p memory to bytes now c).boxes)) same
     (λ g rises. sent_here memory to bytes now c low from g p rises) in
     elim (cases_Bool (eqb to r)) [
       | inl e ↦ subst W (sym e) (λ rises. here r (grind (arith, nat_tests, e)) g rises) rises

@@ -1,9 +1,9 @@
 mod Unchanged
 mod Each
 mod Answered
-mod Gone
+mod Dropped
 mod Older
 mod Tried
 mod Lines
 mod Forwards
-mod Turn
+mod Released

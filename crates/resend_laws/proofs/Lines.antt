@@ -8,11 +8,11 @@ use Rattle.std.proofs.lemmas.Bool.Decides.{nat_tests}
 use Rattle.std.proofs.lemmas.List.Concat.{flat_map-append}
 use Rattle.mon_decode.specs.declared.header.Header.{Header}
 use Rattle.mon_decode.specs.Headers.{same_kind}
-use Rattle.mon_resend.specs.declared.note.Event.TheVariants.{Turn}
+use Rattle.mon_resend.specs.declared.note.Event.TheVariants.{Released}
 use Rattle.mon_resend.specs.declared.note.Note.{Note}
 use Rattle.mon_resend.specs.declared.shelf.Kept.{Kept}
-use Rattle.mon_resend.specs.Again.{first_forward, if_held, turn_of}
-use Rattle.mon_resend.specs.Notes.{after, called, goes}
+use Rattle.mon_resend.specs.Again.{first_forward, if_held, held_forward}
+use Rattle.mon_resend.specs.Notes.{after, called, is_due}
 use Rattle.mon_resend.specs.Shelves.{applied, with_note}
 use Rattle.mon_wire.specs.declared.kind.Kind.TheVariants as kind
 use Rattle.resend_laws.specs.Forwards.{number_of, numbers}
@@ -197,7 +197,7 @@ queue_changed f same steady p low (k ∷ kept) c q =
     ))
     (λ e. more)
 
--- ---- the first one's turn
+-- ---- the first FORWARD is released
 
 abbrev pub FirstIs : ℕ → List Kept → Type 0
 FirstIs seq [] = Unit {0}
@@ -207,31 +207,31 @@ held_number : (held : Bool) (q seq : ℕ) → cond held (Some q) None ≡ Some s
 held_number true q seq e = cc
 held_number false q seq e = absurd cc
 
-pub turn_first : (kept : List Kept) (seq : ℕ) → turn_of kept ≡ Some seq → FirstIs seq kept
-turn_first [] seq e = tt
-turn_first (k ∷ kept) seq e = (
+pub release_first : (kept : List Kept) (seq : ℕ) → held_forward kept ≡ Some seq → FirstIs seq kept
+release_first [] seq e = tt
+release_first (k ∷ kept) seq e = (
   λ w. held_number k.note.held k.note.header.first seq (subst (λ b. if_held (cond b (Some k) (first_forward kept)) ≡ Some seq) w e),
-  λ w. turn_first kept seq (subst (λ b. if_held (cond b (Some k) (first_forward kept)) ≡ Some seq) w e),
+  λ w. release_first kept seq (subst (λ b. if_held (cond b (Some k) (first_forward kept)) ≡ Some seq) w e),
 )
 
-unless_called : (seq now : ℕ) → SteadyBut seq (after (Turn seq) now)
+unless_called : (seq now : ℕ) → SteadyBut seq (after (Released seq) now)
 unless_called seq now n is waits =
     elim (cases_Bool (n.held && eqb n.header.first seq)) [
       | inl e ↦ inl (grind (arith, nat_tests, e))
       | inr e ↦ inr (subst (λ b. Waits (cond b (called now n) n)) (sym e) waits)
     ]
 
-pub queue_turned : (seq now : ℕ) (kept : List Kept) → FirstIs seq kept → Queue kept → Queue (applied (Turn seq) now kept)
-queue_turned seq now [] first q = tt
-queue_turned seq now (k ∷ kept) first q =
-    let f = after (Turn seq) now in
-    let same = header_stays (Turn seq) now in
+pub queue_released : (seq now : ℕ) (kept : List Kept) → FirstIs seq kept → Queue kept → Queue (applied (Released seq) now kept)
+queue_released seq now [] first q = tt
+queue_released seq now (k ∷ kept) first q =
+    let f = after (Released seq) now in
+    let same = header_stays (Released seq) now in
     let back : (b : Bool) → is_forward (f k.note).header ≡ b → is_forward k.note.header ≡ b = λ b e. subst (λ g. is_forward g ≡ b) (same k.note) e in (
       λ e. let is = first.0 (back true e) in
-          subst (λ g. Waiting g.first (applied (Turn seq) now kept)) (sym (same k.note))
-          (subst (λ q. Waiting q (applied (Turn seq) now kept)) (sym is)
+          subst (λ g. Waiting g.first (applied (Released seq) now kept)) (sym (same k.note))
+          (subst (λ q. Waiting q (applied (Released seq) now kept)) (sym is)
           (waiting_changed f same (λ k. true) seq (unless_called seq now) kept (subst (λ q. Waiting q kept) is (q.0 (back true e))))),
-      λ e. queue_turned seq now kept (first.1 (back false e)) (q.1 (back false e)),
+      λ e. queue_released seq now kept (first.1 (back false e)) (q.1 (back false e)),
     )
 
 -- ---- one more
@@ -257,7 +257,7 @@ queue_more (x ∷ kept) k q either = (
 -- ---- FORWARDs that are sent
 
 -- a copy that waits isn't sent
-pub waits_on : (again : Bool) (now : ℕ) (n : Note) → now < 2 ^ 64 - 1 → Waits n → goes again now n ≡ false
+pub waits_on : (again : Bool) (now : ℕ) (n : Note) → now < 2 ^ 64 - 1 → Waits n → is_due again now n ≡ false
 waits_on again now n before waits = elim (cases_Bool (leb n.due now)) [
   | inl e ↦ absurd (grind (arith, nat_tests, e, before, waits.due))
   | inr e ↦ subst (λ b. (b && (again || n.held) && ltb n.times 16) ≡ false) (sym e) refl
@@ -265,13 +265,13 @@ waits_on again now n before waits = elim (cases_Bool (leb n.due now)) [
 
 module _ (again : Bool) (now : ℕ) (before : now < 2 ^ 64 - 1) where
   abbrev those : List Kept → List Kept
-  those kept = filter (λ k. goes again now k.note) kept
+  those kept = filter (λ k. is_due again now k.note) kept
 
   waiting_go : (q : ℕ) (kept : List Kept) → Waiting q kept → All (λ n. n ≡ q) (numbers (those kept))
   waiting_go q [] w = tt
   waiting_go q (k ∷ kept) w =
       let more = waiting_go q kept w.1 in
-      cond_both (goes again now k.note) (k ∷ those kept) (those kept) (λ ks. All (λ n. n ≡ q) (numbers ks))
+      cond_both (is_due again now k.note) (k ∷ those kept) (those kept) (λ ks. All (λ n. n ≡ q) (numbers ks))
       (λ e. with_first (All (λ n. n ≡ q)) k.note.header (numbers (those kept))
       (λ is. (elim (w.0 is) [ inl same ↦ same | inr waits ↦ let f = waits_on again now k.note before waits in absurd cc ], more)) (λ is. more))
       (λ e. more)
@@ -283,8 +283,8 @@ module _ (again : Bool) (now : ℕ) (before : now < 2 ^ 64 - 1) where
       let P : List ℕ → List ℕ → Type 0 = λ ns ms. All (λ n. n ≡ first_or low ns) ms in
       with_first (λ ns. P ns (numbers (those (k ∷ kept)))) h (numbers kept)
       (λ is. let more = waiting_go h.first kept (q.0 is) in
-      cond_both (goes again now k.note) (k ∷ those kept) (those kept) (λ ks. All (λ n. n ≡ h.first) (numbers ks))
+      cond_both (is_due again now k.note) (k ∷ those kept) (those kept) (λ ks. All (λ n. n ≡ h.first) (numbers ks))
       (λ e. with_first (All (λ n. n ≡ h.first)) h (numbers (those kept)) (λ w. (refl, more)) (λ w. more)) (λ e. more))
       (λ isnt. let more = first_goes low kept (q.1 isnt) in
-      cond_both (goes again now k.note) (k ∷ those kept) (those kept) (λ ks. P (numbers kept) (numbers ks))
+      cond_both (is_due again now k.note) (k ∷ those kept) (those kept) (λ ks. P (numbers kept) (numbers ks))
       (λ e. with_first (P (numbers kept)) h (numbers (those kept)) (λ w. absurd cc) (λ w. more)) (λ e. more))

@@ -44,8 +44,8 @@ new_tried h held wait now by_time other first le =
     let every = every_at_most h.kind wait le in
     record {
       by_time = by_time;
-      waits_for_none = other;
-      went = first;
+      no_chunk = other;
+      not_held = first;
       every = every;
       due = due_at_most (way_of h.kind) held _ now (every_of h.kind 1 wait) by_time first every;
       times = omega arith;

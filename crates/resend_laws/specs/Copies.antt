@@ -45,8 +45,8 @@ StaysOver rank x c = (steps : List Step) → IsNotSent x steps → IsOver rank x
 -- most `wait`. It is no GET_CHUNK, since that waits longer for each piece that arrives.
 pub record IsTried (wait since : ℕ) (n : Note) : Type 0 where
   pub by_time : way_of n.header.kind ≡ way.ByTime
-  pub waits_for_none : same_kind n.header.kind kind.GetChunk ≡ false
-  pub went : n.held ≡ false
+  pub no_chunk : same_kind n.header.kind kind.GetChunk ≡ false
+  pub not_held : n.held ≡ false
   pub every : n.every ≤ wait
   pub due : n.due ≤ since + wait
   pub times : n.times ≤ 16

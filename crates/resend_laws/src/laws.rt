@@ -13,7 +13,7 @@ ghost use Rattle.mon_resend.specs.declared.rows.Way.TheVariants.{ByTime};
 ghost use Rattle.mon_resend.specs.declared.shelf.Kept.{Kept};
 ghost use Rattle.mon_resend.specs.Again.{first_forward, note_of};
 ghost use Rattle.mon_resend.specs.Datagrams.{part_of};
-ghost use Rattle.mon_resend.specs.Notes.{goes};
+ghost use Rattle.mon_resend.specs.Notes.{is_due};
 ghost use Rattle.mon_resend.specs.Rows.{is_answered, way_of};
 ghost use Rattle.mon_resend.specs.World.{all_passed, arrived, asks, box_of, is_taken};
 ghost use Rattle.mon_wire.specs.declared.kind.Kind.TheVariants.{GetChunk};
@@ -24,14 +24,14 @@ ghost use Rattle.resend_laws.specs.Runs.{IsInOrder, Step, rounds, run};
 /// No copy that is sent again by time is kept for ever, unless it is held or a GET_CHUNK. Let each of its waits be at
 /// most `wait` milliseconds, and `wait` a second or more. The copy is dropped by the time that copies could be sent 17
 /// times, each at least `wait` after the one before, whatever else is sent and arrives.
-pub fn law_gone()
+pub fn law_dropped()
     ensures { (c : Copies) (rank : ℕ) (x : Outgoing) (wait since : ℕ) (steps : List Step) → 1000 ≤ wait
         → EachAt rank x (IsTried wait since) c → IsNotSent x steps → IsInOrder since steps
         → 16 < rounds wait since steps → IsOver rank x (run steps c) }
 {}
 
 /// A message in one datagram that is sent now, is sent again by time and is no GET_CHUNK waits at most 2 seconds each
-/// time. So, by `law_gone`, its copy is dropped by the time that copies could be sent 17 times, 2 seconds apart.
+/// time. So, by `law_dropped`, its copy is dropped by the time that copies could be sent 17 times, 2 seconds apart.
 pub fn law_tried()
     ensures { (h : Header) (length now : ℕ) (b : Outbox) → way_of h.kind ≡ ByTime → same_kind h.kind GetChunk ≡ false
         → (note_of h length length now b).held ≡ false → IsTried 2000 now (note_of h length length now b) }
@@ -67,8 +67,8 @@ pub fn law_forwards()
 
 /// The next FORWARD is sent once none before it is kept. After a time at which copies could be sent, the first FORWARD
 /// that is kept was sent already, or it is sent at the next such time.
-pub fn law_turn()
+pub fn law_next_forward()
     ensures { (c : Copies) (rank : ℕ) (before again : Bool) (since now : ℕ) (k : Kept)
         → first_forward (box_of rank (all_passed before since c)).shelf ≡ Some k → k.note.held ≡ true → since ≤ now
-        → goes again now k.note ≡ true }
+        → is_due again now k.note ≡ true }
 {}

@@ -3,4 +3,4 @@
 
 mod laws;
 
-pub use laws::{law_answered, law_forwards, law_gone, law_older, law_tried, law_turn};
+pub use laws::{law_answered, law_dropped, law_forwards, law_next_forward, law_older, law_tried};

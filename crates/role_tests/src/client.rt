@@ -2,7 +2,7 @@ ghost use Rattle.std.specs.Prelude.{IsTrue};
 ghost use Rattle.mon_client.specs.Rows.{is_input};
 
 use crate::comes::Comes;
-use crate::given::{may_come, me, number, view};
+use crate::given::{input_is_short, me, number, view};
 use crate::site::{Role, Site, all_are};
 use election_rules::Rule;
 use mon_bytes::Items;
@@ -33,7 +33,7 @@ impl Role for Clients {
         site: &Site<Clients>,
         input: &Input,
     ) -> Option<Result<Plan<Clients>, RoleStop>> {
-        if !is_input(input) || !may_come(&site.me, input) {
+        if !is_input(input) || !input_is_short(&site.me, input) {
             return None;
         }
         let now = Moment::known(7);

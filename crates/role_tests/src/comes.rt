@@ -98,7 +98,7 @@ fn meanwhile(alloc: Global) -> Result<Items<Transaction>, Fail> {
 }
 
 /// The place after the key `kv/7`.
-fn behind_seven(alloc: Global) -> Result<KeyPlace, Fail> {
+fn after_seven(alloc: Global) -> Result<KeyPlace, Fail> {
     let prefix = Area::Kv.prefix(alloc)?;
     let key = Key::Version(7).name(alloc)?;
     Ok(KeyPlace::After { prefix, key })
@@ -106,7 +106,7 @@ fn behind_seven(alloc: Global) -> Result<KeyPlace, Fail> {
 
 fn last_chunk(alloc: Global) -> Result<Body, Fail> {
     let values = meanwhile(alloc)?;
-    let key = behind_seven(alloc)?;
+    let key = after_seven(alloc)?;
     Ok(Body::LastChunk {
         cookie: COOKIE,
         place: Place {

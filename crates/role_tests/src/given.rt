@@ -1,7 +1,7 @@
 //! What the tests of several roles give: numbers, monitors, stores and values.
 
 ghost use Rattle.std.specs.Prelude.{◌<◌, ◌≤◌, IsTrue};
-ghost use Rattle.mon_plan.specs.Inputs.{may_come};
+ghost use Rattle.mon_plan.specs.Inputs.{input_is_short};
 ghost use Rattle.mon_msg.specs.Protocol.Length.{fits};
 
 use election_rules::Rule;
@@ -73,9 +73,9 @@ fn may_be_sent(message: &Message) -> bool
     }
 }
 
-/// Whether an input may come to a monitor.
-pub(crate) fn may_come(me: &Me, input: &Input) -> bool
-    ensures { IsTrue result → IsTrue (may_come me.now.member.monitors input.now) }
+/// Whether the input, if it is a message, is of the monitor's map and may be sent.
+pub(crate) fn input_is_short(me: &Me, input: &Input) -> bool
+    ensures { IsTrue result → IsTrue (input_is_short me.now.member.monitors input.now) }
 {
     match input {
         Input::Deliver(message) => {

@@ -3,7 +3,7 @@ ghost use Rattle.mon_msg.specs.Protocol.Records.{may_begin};
 ghost use Rattle.paxos_leader.specs.Inputs.{is_input, may_begin_all};
 
 use crate::comes::Comes;
-use crate::given::{may_come, me, number, store, value, view};
+use crate::given::{input_is_short, me, number, store, value, view};
 use crate::site::{Role, Site, all_are, begun, done};
 use election_rules::Rule;
 use mon_kv::Kv;
@@ -52,7 +52,7 @@ impl Role for Leader {
         site: &Site<Leader>,
         input: &Input,
     ) -> Option<Result<Plan<Leader>, RoleStop>> {
-        if !is_input(input) || !may_come(&site.me, input) || !may_begin_all(&site.role) {
+        if !is_input(input) || !input_is_short(&site.me, input) || !may_begin_all(&site.role) {
             return None;
         }
         let phase = match site.role.stage {

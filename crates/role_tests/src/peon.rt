@@ -2,7 +2,7 @@ ghost use Rattle.std.specs.Prelude.{IsTrue};
 ghost use Rattle.paxos_peon.specs.Rows.{is_input};
 
 use crate::comes::Comes;
-use crate::given::{keep, may_come, me, number, put_records, store, view};
+use crate::given::{input_is_short, keep, me, number, put_records, store, view};
 use crate::site::{Role, Site, all_are};
 use election_rules::Rule;
 use mon_bytes::Bytes;
@@ -35,7 +35,7 @@ impl Role for Peon {
         site: &Site<Peon>,
         input: &Input,
     ) -> Option<Result<Plan<Peon>, RoleStop>> {
-        if !is_input(input) || !may_come(&site.me, input) {
+        if !is_input(input) || !input_is_short(&site.me, input) {
             return None;
         }
         let now = Moment::known(7);

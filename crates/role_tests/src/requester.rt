@@ -2,7 +2,7 @@ ghost use Rattle.std.specs.Prelude.{IsTrue};
 ghost use Rattle.sync_requester.specs.Inputs.{is_input};
 
 use crate::comes::Comes;
-use crate::given::{may_come, me, number, put_records, store, view};
+use crate::given::{input_is_short, me, number, put_records, store, view};
 use crate::probe::probing;
 use crate::site::{Role, Site, all_are, begun};
 use election_rules::Rule;
@@ -36,7 +36,7 @@ impl Role for Requester {
         site: &Site<Requester>,
         input: &Input,
     ) -> Option<Result<Plan<Requester>, RoleStop>> {
-        if !is_input(input) || !may_come(&site.me, input) {
+        if !is_input(input) || !input_is_short(&site.me, input) {
             return None;
         }
         let now = Moment::known(7);

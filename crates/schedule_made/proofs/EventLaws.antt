@@ -14,7 +14,7 @@ use Rattle.mon_wire.specs.declared.phase.Timer.TheVariants.{Probe, Election, Col
 use Rattle.schedule_text.specs.declared.event.Event.{Event}
 use Rattle.schedule_text.specs.Fields.{digit}
 use Rattle.schedule_text.specs.Words.{printable, timer_text}
-use Rattle.schedule_text.specs.Spelling.{request_text, request_fits, event_fits, event_line}
+use Rattle.schedule_text.specs.Encoding.{request_text, request_fits, event_fits, event_line}
 use Rattle.schedule_text.proofs.Lengths.{at_most_20_digits}
 use Rattle.schedule_text.proofs.Numerals.{own}
 use Rattle.schedule_text.proofs.FieldLaws.{digit_graphic, list_all-weaker}

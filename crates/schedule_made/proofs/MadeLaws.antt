@@ -10,9 +10,9 @@ use Rattle.rand_pcg.specs.Lcg.{Lcg}
 use Rattle.schedule_text.proofs.Lengths.{at_most_20_digits}
 use Rattle.schedule_text.specs.Schedule.{schedule_at}
 use Rattle.schedule_text.proofs.ScheduleLaws.{schedule_again}
-use Rattle.schedule_text.specs.Spelling.{event_fits, event_line, schedule_text, request_fits, request_text, HasText}
+use Rattle.schedule_text.specs.Encoding.{event_fits, event_line, schedule_text, request_fits, request_text, HasText}
 use Rattle.schedule_made.specs.Draws.{draw, passed, generator_of}
-use Rattle.schedule_made.specs.Made.{Turn, start, deliver, timer, ask, set, command, deliveries, opening, round, rounds, turn, turns, later, made_schedule}
+use Rattle.schedule_made.specs.Made.{MadeEvent, start, deliver, timer, ask, set, command, deliveries, opening, round, rounds, made_event, made_events, later, made_schedule}
 use Rattle.schedule_made.proofs.DrawLaws.{draw_small}
 use Rattle.schedule_made.proofs.EventLaws.{is_short, short_fits, short_line, start_short, deliver_short, ask_short, timer_short, set_fits, set_short, log_fits, log_short}
 use Rattle.schedule_made.proofs.ListLaws.{list_all-append, list_all-take, list_all-weaker, length-flat_map_le}
@@ -37,18 +37,18 @@ length-rounds zero j g = refl
 length-rounds (suc n) j g =
     omega (arith, length-append (round j g) (rounds n (suc j) (passed 5 g)), length-round j g, length-rounds n (suc j) (passed 5 g))
 
-length-turns : (n i next : ℕ) (g : Lcg) → length (turns n i next g) ≡ n
-unfolding turns
-length-turns zero i next g = refl
-length-turns (suc n) i next g =
-    omega (arith, length-turns n (suc i) (turn i next g).next (passed (turn i next g).draws g))
+length-made_events : (n i next : ℕ) (g : Lcg) → length (made_events n i next g) ≡ n
+unfolding made_events
+length-made_events zero i next g = refl
+length-made_events (suc n) i next g =
+    omega (arith, length-made_events n (suc i) (made_event i next g).next (passed (made_event i next g).draws g))
 
 length-later : (number events : ℕ) → events ≤ length (later number events)
 unfolding later
 length-later number events =
     elim (cases_eq (number % 2) 0) [
       | inl e ↦ rw (eq-eqb (number % 2) 0 e) (omega (arith, length-rounds events 0 (generator_of number)))
-      | inr ne ↦ rw (ne_eqb (number % 2) 0 ne) (omega (arith, length-turns events 34 31 (generator_of number)))
+      | inr ne ↦ rw (ne_eqb (number % 2) 0 ne) (omega (arith, length-made_events events 34 31 (generator_of number)))
     ]
 
 pub length-made : (number events : ℕ) → length (made_schedule number events).events ≡ events
@@ -104,32 +104,32 @@ rounds_short (suc n) j g small =
 
 -- ---- what is true of each kind of iteration is true of an iteration
 
-turn_is : (P : Turn → Type 0) (i next : ℕ) (g : Lcg)
+made_event_is : (P : MadeEvent → Type 0) (i next : ℕ) (g : Lcg)
     → P (record { event = deliver next (10 * i); draws = 1; next = next + 1 })
     → P (record { event = deliver (1 + draw 1 g % (next - 1)) (10 * i); draws = 2; next = next })
     → P (record { event = ask (draw 1 g % 3) (10 * i) 3 i (set (draw 2 g % 20) (draw 3 g)); draws = 4; next = next })
     → P (record { event = timer (draw 1 g % 3) (draw 2 g % 11) (10 * i); draws = 3; next = next })
     → P (record { event = start (draw 1 g % 3) (10 * i); draws = 2; next = next })
-    → P (turn i next g)
-unfolding turn
-turn_is P i next g ordered random asked due started =
+    → P (made_event i next g)
+unfolding made_event
+made_event_is P i next g ordered random asked due started =
     cond_both (ltb (draw 0 g % 16) 10) _ _ P (λ _. ordered)
     (λ _. cond_both (ltb (draw 0 g % 16) 12) _ _ P (λ _. random)
     (λ _. cond_both (ltb (draw 0 g % 16) 14) _ _ P (λ _. asked)
     (λ _. cond_both (eqb (draw 0 g % 16) 14) _ _ P (λ _. due) (λ _. started))))
 
-pub next_of_turn : (i next : ℕ) (g : Lcg) → (next ≤ (turn i next g).next) × ((turn i next g).next ≤ next + 1)
-next_of_turn i next g =
+pub next_of_made_event : (i next : ℕ) (g : Lcg) → (next ≤ (made_event i next g).next) × ((made_event i next g).next ≤ next + 1)
+next_of_made_event i next g =
     let same : (next ≤ next) × (next ≤ next + 1) = (omega arith, omega arith) in
-    turn_is (λ t. (next ≤ t.next) × (t.next ≤ next + 1)) i next g (omega arith, omega arith) same same same same
+    made_event_is (λ t. (next ≤ t.next) × (t.next ≤ next + 1)) i next g (omega arith, omega arith) same same same same
 
-turn_short : (i next : ℕ) (g : Lcg) → 31 ≤ next → next ≤ 2 ^ 40 → i ≤ 2 ^ 40 → IsTrue (is_short (turn i next g).event)
-turn_short i next g least most small =
+made_event_short : (i next : ℕ) (g : Lcg) → 31 ≤ next → next ≤ 2 ^ 40 → i ≤ 2 ^ 40 → IsTrue (is_short (made_event i next g).event)
+made_event_short i next g least most small =
     let at = 10 * i in
     let y = draw 1 g in
     let key : draw 2 g % 20 < 2 ^ 32 = omega arith in
     let earlier : y % (next - 1) < next - 1 = mod-lt y (omega arith) in
-    turn_is (λ t. IsTrue (is_short t.event)) i next g
+    made_event_is (λ t. IsTrue (is_short t.event)) i next g
     (deliver_short next at (omega arith) (omega arith) (omega arith))
     (deliver_short (1 + y % (next - 1)) at (omega arith) (omega arith) (omega arith))
     (ask_short (y % 3) at 3 i (set (draw 2 g % 20) (draw 3 g)) (third y) (omega arith) (omega arith) (omega arith)
@@ -137,14 +137,14 @@ turn_short i next g least most small =
     (timer_short (y % 3) (draw 2 g % 11) at (third y) (omega arith))
     (start_short (y % 3) at (third y) (omega arith))
 
-turns_short : (n i next : ℕ) (g : Lcg) → 31 ≤ next → next + n ≤ 2 ^ 40 → i + n ≤ 2 ^ 40 → IsTrue (list_all is_short (turns n i next g))
-unfolding turns
-turns_short zero i next g least most small = refl
-turns_short (suc n) i next g least most small =
-    let bounds = next_of_turn i next g in
+made_events_short : (n i next : ℕ) (g : Lcg) → 31 ≤ next → next + n ≤ 2 ^ 40 → i + n ≤ 2 ^ 40 → IsTrue (list_all is_short (made_events n i next g))
+unfolding made_events
+made_events_short zero i next g least most small = refl
+made_events_short (suc n) i next g least most small =
+    let bounds = next_of_made_event i next g in
     rw (
-      turn_short i next g least (omega arith) (omega arith),
-      turns_short n (suc i) (turn i next g).next (passed (turn i next g).draws g) (omega (arith, bounds.0)) (omega (arith, bounds.1)) (omega arith),
+      made_event_short i next g least (omega arith) (omega arith),
+      made_events_short n (suc i) (made_event i next g).next (passed (made_event i next g).draws g) (omega (arith, bounds.0)) (omega (arith, bounds.1)) (omega arith),
     ) refl
 
 later_short : (number events : ℕ) → events ≤ 100000 → IsTrue (list_all is_short (later number events))
@@ -152,7 +152,7 @@ unfolding later
 later_short number events most =
     elim (cases_eq (number % 2) 0) [
       | inl e ↦ rw (eq-eqb (number % 2) 0 e) (rounds_short events 0 (generator_of number) (omega arith))
-      | inr ne ↦ rw (ne_eqb (number % 2) 0 ne) (turns_short events 34 31 (generator_of number) (omega arith) (omega arith) (omega arith))
+      | inr ne ↦ rw (ne_eqb (number % 2) 0 ne) (made_events_short events 34 31 (generator_of number) (omega arith) (omega arith) (omega arith))
     ]
 
 made_short : (number events : ℕ) → events ≤ 100000 → IsTrue (list_all is_short (made_schedule number events).events)

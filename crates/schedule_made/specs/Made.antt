@@ -66,14 +66,14 @@ rounds (suc n) j g = round j g ++ rounds n (suc j) (passed 5 g)
 -- ---- of an odd number: events in a random order
 
 -- an event, how many draws it takes, and which message is the next in order after it
-pub record Turn : Type 0 where
+pub record MadeEvent : Type 0 where
   pub event : Event
   pub draws : ℕ
   pub next : ℕ
 
 -- event i, where this message is the next in order: its kind, by the first draw modulo 16
-unfoldable pub turn : ℕ → ℕ → Lcg → Turn
-turn i next g =
+unfoldable pub made_event : ℕ → ℕ → Lcg → MadeEvent
+made_event i next g =
     let at = 10 * i in
     let kind = draw 0 g % 16 in
     let y = draw 1 g in
@@ -84,18 +84,18 @@ turn i next g =
     else record { event = start (y % 3) at; draws = 2; next = next })))
 
 -- this many events, from event i on
-unfoldable pub turns : ℕ → ℕ → ℕ → Lcg → List Event
-turns zero i next g = []
-turns (suc n) i next g =
-    let t = turn i next g in
-    t.event ∷ turns n (suc i) t.next (passed t.draws g)
+unfoldable pub made_events : ℕ → ℕ → ℕ → Lcg → List Event
+made_events zero i next g = []
+made_events (suc n) i next g =
+    let t = made_event i next g in
+    t.event ∷ made_events n (suc i) t.next (passed t.draws g)
 
 -- ---- the schedule
 
 -- what follows the opening: at least this many events
 unfoldable pub later : ℕ → ℕ → List Event
 later number events =
-    if number % 2 == 0 then rounds events 0 (generator_of number) else turns events 34 31 (generator_of number)
+    if number % 2 == 0 then rounds events 0 (generator_of number) else made_events events 34 31 (generator_of number)
 
 unfoldable pub made_schedule : ℕ → ℕ → Schedule
 made_schedule number events =

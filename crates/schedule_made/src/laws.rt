@@ -1,7 +1,7 @@
 //! What is known of a number's schedule before it is made.
 
 ghost use Rattle.std.specs.Prelude.{◌≡◌, ℕ, ◌≤◌, length, Ok};
-ghost use Rattle.schedule_text.specs.Spelling.{schedule_text, HasText};
+ghost use Rattle.schedule_text.specs.Encoding.{schedule_text, HasText};
 ghost use Rattle.schedule_text.specs.Schedule.{schedule_at};
 ghost use Rattle.schedule_made.specs.Made.{made_schedule};
 

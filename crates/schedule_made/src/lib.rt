@@ -4,8 +4,8 @@
 mod draws;
 mod events;
 mod laws;
+mod made_events;
 mod rounds;
-mod turns;
 mod whole;
 
 pub use laws::law_made;

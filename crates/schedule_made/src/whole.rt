@@ -1,13 +1,13 @@
 //! The schedule of a number.
 
 ghost use Rattle.std.specs.Prelude.{◌≡◌, ◌≤◌, ◌++◌, take, length, IfOk};
-ghost use Rattle.schedule_text.specs.Spelling.{HasText};
+ghost use Rattle.schedule_text.specs.Encoding.{HasText};
 ghost use Rattle.schedule_made.specs.Made.{opening, later, made_schedule};
 
 use crate::draws::generator_of;
 use crate::events::put_opening;
+use crate::made_events::put_made_events;
 use crate::rounds::put_rounds;
-use crate::turns::put_turns;
 use election_rules::Rule;
 use mon_bytes::{Items, OutOfMemory};
 use schedule_text::{Event, Schedule};
@@ -25,7 +25,7 @@ fn events_of(alloc: Global, number: u64, events: u32) -> Result<Items<Event>, Ou
     if number % 2 == 0 {
         put_rounds(alloc, &mut list, &mut generator, events)?;
     } else {
-        put_turns(alloc, &mut list, &mut generator, events)?;
+        put_made_events(alloc, &mut list, &mut generator, events)?;
     }
     list.truncate(events as usize);
     Ok(Items::from_vec(list))

@@ -21,7 +21,7 @@ use Rattle.schedule_text.specs.declared.refusal.ScheduleKind.{ScheduleKind}
 use Rattle.schedule_text.specs.declared.refusal.ScheduleKind.TheVariants as kind
 use Rattle.schedule_text.specs.Words.{printable, service_text, side_text, timer_text}
 use Rattle.schedule_text.specs.Fields.{◌>>=◌, cut, digit, next, field_at, ended, text_at, within, number_of, rank_of, name_of, service_of, side_of, timer_among, timer_of}
-use Rattle.schedule_text.specs.Spelling.{spaced}
+use Rattle.schedule_text.specs.Encoding.{spaced}
 use Rattle.mon_bytes.proofs.Fields.{guard_ok, chosen_ok, ok_is}
 use Rattle.mon_bytes.proofs.Formats.{bind_ok}
 use Rattle.schedule_text.proofs.Numerals.{own, number_takes, number_again, rank_takes, rank_again, within_most}

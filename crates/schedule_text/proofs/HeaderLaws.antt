@@ -13,51 +13,51 @@ use Rattle.schedule_text.specs.declared.refusal.ScheduleKind.{ScheduleKind}
 use Rattle.schedule_text.specs.declared.refusal.ScheduleKind.TheVariants as kind
 use Rattle.schedule_text.specs.Words.{printable}
 use Rattle.schedule_text.specs.Fields.{◌>>=◌, cut, digit, next, ended, field_at, within}
-use Rattle.schedule_text.specs.Ranks.{behind, ranks_from, ranks_text, set_of}
-use Rattle.schedule_text.specs.Spelling.{spaced, rule_text, header, RuleFits}
+use Rattle.schedule_text.specs.Ranks.{separated, ranks_from, ranks_text, set_of}
+use Rattle.schedule_text.specs.Encoding.{spaced, rule_text, header, RuleFits}
 use Rattle.schedule_text.specs.Schedule.{disallow_of, connectivity_of, rule_of, monitors_at, header_at}
 use Rattle.mon_bytes.proofs.Fields.{ok_is}
 use Rattle.mon_bytes.proofs.Formats.{bind_ok}
 use Rattle.schedule_text.proofs.Numerals.{own}
 use Rattle.schedule_text.proofs.FieldLaws.{list_all-weaker, list_all-append, digit_graphic, cut_joined, cut_again, Reads-then, Reads-last, next_reads, IsWord, IsWord-printable, next_again, number_form, chosen_word, last_word, field_step, field_again, ended_takes}
-use Rattle.schedule_text.proofs.RankLaws.{cases_true, joined-behind, set_takes, set_again}
+use Rattle.schedule_text.proofs.RankLaws.{cases_true, joined-separated, set_takes, set_again}
 
 -- ---- parsed, and then printed
 
 -- a word and what follows its equals sign
-with_ranks : (field : List ℕ) (word : List ℕ) → (cut 61 field).0 ≡ word → field ≡ word ++ behind 61 (cut 61 field).1
+with_ranks : (field : List ℕ) (word : List ℕ) → (cut 61 field).0 ≡ word → field ≡ word ++ separated 61 (cut 61 field).1
 with_ranks field word same =
-    sym (cut_joined 61 field) ∙ joined-behind 61 (cut 61 field).0 (cut 61 field).1 ∙ ap (λ (w : List ℕ). w ++ behind 61 (cut 61 field).1) same
+    sym (cut_joined 61 field) ∙ joined-separated 61 (cut 61 field).0 (cut 61 field).1 ∙ ap (λ (w : List ℕ). w ++ separated 61 (cut 61 field).1) same
 
-abbrev pub Spells : ℕ → List ℕ → Rule → Type 0
-Spells n field rule = (field ≡ rule_text rule) × RuleFits n rule
+abbrev pub Encodes : ℕ → List ℕ → Rule → Type 0
+Encodes n field rule = (field ≡ rule_text rule) × RuleFits n rule
 
-classic_takes : (n : ℕ) (field : List ℕ) (rule : Rule) → (cut 61 field).0 ≡ codes "classic" → ended (cut 61 field).1 Classic ≡ Ok rule → Spells n field rule
+classic_takes : (n : ℕ) (field : List ℕ) (rule : Rule) → (cut 61 field).0 ≡ codes "classic" → ended (cut 61 field).1 Classic ≡ Ok rule → Encodes n field rule
 classic_takes n field rule same e =
     let end = ended_takes (cut 61 field).1 Classic rule e in
-    subst (Spells n field) end.1 (with_ranks field (codes "classic") same ∙ ap (λ (a : Option (List ℕ)). codes "classic" ++ behind 61 a) end.0, tt)
+    subst (Encodes n field) end.1 (with_ranks field (codes "classic") same ∙ ap (λ (a : Option (List ℕ)). codes "classic" ++ separated 61 a) end.0, tt)
 
 is_some_of : (ranks : List ℕ) (set : List Bool) → Some ranks ≡ ranks_text set → IsTrue (is_some (ranks_text set))
 is_some_of ranks set e = ap (λ (a : Option (List ℕ)). is_some a) (sym e)
 
-disallow_takes : (n : ℕ) (ranks : Option (List ℕ)) (rule : Rule) → disallow_of n ranks ≡ Ok rule → (codes "disallow" ++ behind 61 ranks ≡ rule_text rule) × RuleFits n rule
+disallow_takes : (n : ℕ) (ranks : Option (List ℕ)) (rule : Rule) → disallow_of n ranks ≡ Ok rule → (codes "disallow" ++ separated 61 ranks ≡ rule_text rule) × RuleFits n rule
 unfolding disallow_of
 disallow_takes n None rule e = absurd cc
 disallow_takes n (Some ranks) rule e =
     let a = bind_ok (set_of n (Some ranks)) (λ set. Ok (Disallow set)) rule e in
     let t = set_takes n (Some ranks) a.0 a.1 in
-    subst (λ (r : Rule). (codes "disallow" ++ behind 61 (Some ranks) ≡ rule_text r) × RuleFits n r) (ok_is (Disallow a.0) rule a.2)
-    (ap (λ (x : Option (List ℕ)). codes "disallow" ++ behind 61 x) t.0, (t.1, is_some_of ranks a.0 t.0))
+    subst (λ (r : Rule). (codes "disallow" ++ separated 61 (Some ranks) ≡ rule_text r) × RuleFits n r) (ok_is (Disallow a.0) rule a.2)
+    (ap (λ (x : Option (List ℕ)). codes "disallow" ++ separated 61 x) t.0, (t.1, is_some_of ranks a.0 t.0))
 
-connectivity_takes : (n : ℕ) (ranks : Option (List ℕ)) (rule : Rule) → connectivity_of n ranks ≡ Ok rule → (codes "connectivity" ++ behind 61 ranks ≡ rule_text rule) × RuleFits n rule
+connectivity_takes : (n : ℕ) (ranks : Option (List ℕ)) (rule : Rule) → connectivity_of n ranks ≡ Ok rule → (codes "connectivity" ++ separated 61 ranks ≡ rule_text rule) × RuleFits n rule
 unfolding connectivity_of
 connectivity_takes n ranks rule e =
     let a = bind_ok (set_of n ranks) (λ set. Ok (Connectivity set)) rule e in
     let t = set_takes n ranks a.0 a.1 in
-    subst (λ (r : Rule). (codes "connectivity" ++ behind 61 ranks ≡ rule_text r) × RuleFits n r) (ok_is (Connectivity a.0) rule a.2)
-    (ap (λ (x : Option (List ℕ)). codes "connectivity" ++ behind 61 x) t.0, t.1)
+    subst (λ (r : Rule). (codes "connectivity" ++ separated 61 ranks ≡ rule_text r) × RuleFits n r) (ok_is (Connectivity a.0) rule a.2)
+    (ap (λ (x : Option (List ℕ)). codes "connectivity" ++ separated 61 x) t.0, t.1)
 
-pub rule_takes : (n : ℕ) (field : List ℕ) (rule : Rule) → rule_of n field ≡ Ok rule → Spells n field rule
+pub rule_takes : (n : ℕ) (field : List ℕ) (rule : Rule) → rule_of n field ≡ Ok rule → Encodes n field rule
 unfolding rule_of
 rule_takes n field rule e =
     let word = (cut 61 field).0 in
@@ -113,11 +113,11 @@ header_takes line h e =
 abbrev AllGraphic : List ℕ → Type 0
 AllGraphic f = IsTrue (list_all graphic f)
 
-graphic_rank : (separator r : ℕ) (rest : Option (List ℕ)) → IsTrue (graphic separator) → r < 2 ^ 64 → AllGraphic (behind 44 rest) → AllGraphic (behind separator (Some (decimal r ++ behind 44 rest)))
+graphic_rank : (separator r : ℕ) (rest : Option (List ℕ)) → IsTrue (graphic separator) → r < 2 ^ 64 → AllGraphic (separated 44 rest) → AllGraphic (separated separator (Some (decimal r ++ separated 44 rest)))
 graphic_rank separator r rest h small more =
-    rw h (list_all-append graphic (decimal r) (behind 44 rest) (list_all-weaker digit graphic digit_graphic (decimal r) (digits_decimal own r small)) more)
+    rw h (list_all-append graphic (decimal r) (separated 44 rest) (list_all-weaker digit graphic digit_graphic (decimal r) (digits_decimal own r small)) more)
 
-graphic_behind : (separator count r : ℕ) (set : List Bool) → IsTrue (graphic separator) → r + count ≤ 15 → AllGraphic (behind separator (ranks_from count r set))
+graphic_behind : (separator count r : ℕ) (set : List Bool) → IsTrue (graphic separator) → r + count ≤ 15 → AllGraphic (separated separator (ranks_from count r set))
 graphic_behind separator zero r set h le = refl
 graphic_behind separator (suc count) r set h le =
     elim (cases_true (has set r)) [
@@ -128,11 +128,11 @@ graphic_behind separator (suc count) r set h le =
 pub rule_word : (rule : Rule) → IsWord (rule_text rule)
 unfolding ranks_text
 rule_word Classic = record { long = omega arith; graphics = refl }
-rule_word (Disallow set) = record { long = omega arith; graphics = list_all-append graphic (codes "disallow") (behind 61 (ranks_text set)) refl (graphic_behind 61 15 0 set refl (omega arith)) }
-rule_word (Connectivity set) = record { long = omega arith; graphics = list_all-append graphic (codes "connectivity") (behind 61 (ranks_text set)) refl (graphic_behind 61 15 0 set refl (omega arith)) }
+rule_word (Disallow set) = record { long = omega arith; graphics = list_all-append graphic (codes "disallow") (separated 61 (ranks_text set)) refl (graphic_behind 61 15 0 set refl (omega arith)) }
+rule_word (Connectivity set) = record { long = omega arith; graphics = list_all-append graphic (codes "connectivity") (separated 61 (ranks_text set)) refl (graphic_behind 61 15 0 set refl (omega arith)) }
 
-cut_word : (word : List ℕ) (ranks : Option (List ℕ)) → IsTrue (list_all (λ b. not (eqb b 61)) word) → cut 61 (word ++ behind 61 ranks) ≡ (word, ranks)
-cut_word word ranks h = ap (cut 61) (sym (joined-behind 61 word ranks)) ∙ cut_again 61 word ranks h
+cut_word : (word : List ℕ) (ranks : Option (List ℕ)) → IsTrue (list_all (λ b. not (eqb b 61)) word) → cut 61 (word ++ separated 61 ranks) ≡ (word, ranks)
+cut_word word ranks h = ap (cut 61) (sym (joined-separated 61 word ranks)) ∙ cut_again 61 word ranks h
 
 disallow_again : (n : ℕ) (ranks : Option (List ℕ)) (set : List Bool) → IsTrue (is_some ranks) → set_of n ranks ≡ Ok set → disallow_of n ranks ≡ Ok (Disallow set)
 unfolding disallow_of

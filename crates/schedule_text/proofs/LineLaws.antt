@@ -16,9 +16,9 @@ use Rattle.schedule_text.specs.declared.refusal.ScheduleKind.{ScheduleKind}
 use Rattle.schedule_text.specs.declared.refusal.ScheduleKind.TheVariants as kind
 use Rattle.schedule_text.specs.Words.{printable, service_text, side_text, timer_text}
 use Rattle.schedule_text.specs.Fields.{next, within, text_at}
-use Rattle.schedule_text.specs.Spelling.{spaced, request_text, plain_text, upset_text, event_text, request_fits, plain_fits, upset_fits, event_fits}
+use Rattle.schedule_text.specs.Encoding.{spaced, request_text, plain_text, injected_text, event_text, request_fits, plain_fits, injected_fits, event_fits}
 use Rattle.schedule_text.specs.Requests.{set_at, remove_at, log_at, show_at, since_at, request_at}
-use Rattle.schedule_text.specs.Lines.{start_at, deliver_at, timer_at, client_at, plain_by, plain_at, upset_at, event_by, fields_event, event_at}
+use Rattle.schedule_text.specs.Lines.{start_at, deliver_at, timer_at, client_at, plain_by, plain_at, injected_at, event_by, fields_event, event_at}
 use Rattle.mon_bytes.proofs.Fields.{chosen_ok, ok_is}
 use Rattle.mon_bytes.proofs.Formats.{bind_ok}
 use Rattle.schedule_text.proofs.FieldLaws.{list_all-append, joined, Reads, Reads-then, Reads-last, next_reads, IsWord, IsWord-printable, next_again, IsForm, number_form, upto_form, rank_form, name_form, service_form, side_form, timer_form, chosen_word, last_word, field_step, field_last, field_again, ended_takes, text_takes, text_again}
@@ -176,23 +176,23 @@ plain_takes n rest p small e =
     plain_by_takes n rest a.0.1 a.0.0 p small (next_reads rest a.0.1 a.0.0 a.1) a.2
 
 -- how an event is made of a disk, its call, an image and what happens
-abbrev Upset : Type 0
-Upset = Side → ℕ → ℕ → Plain → Event
+abbrev Injected : Type 0
+Injected = Side → ℕ → ℕ → Plain → Event
 
 -- an event that is encoded after this word
-record IsUpset (upset : Upset) (word : List ℕ) : Type 0 where
-  spelled : (disk : Side) (call image : ℕ) (p : Plain) → event_text (upset disk call image p) ≡ spaced word (upset_text disk call image p)
-  fits : (n : ℕ) (disk : Side) (call image : ℕ) (p : Plain) → event_fits n (upset disk call image p) ≡ upset_fits n call image p
+record IsInjected (injected : Injected) (word : List ℕ) : Type 0 where
+  encoded : (disk : Side) (call image : ℕ) (p : Plain) → event_text (injected disk call image p) ≡ spaced word (injected_text disk call image p)
+  fits : (n : ℕ) (disk : Side) (call image : ℕ) (p : Plain) → event_fits n (injected disk call image p) ≡ injected_fits n call image p
 
-crash_is : IsUpset event.Crash (codes "crash")
-crash_is = record { spelled = λ disk call image p. refl; fits = λ n disk call image p. refl }
+crash_is : IsInjected event.Crash (codes "crash")
+crash_is = record { encoded = λ disk call image p. refl; fits = λ n disk call image p. refl }
 
-fail_is : IsUpset event.Fail (codes "fail")
-fail_is = record { spelled = λ disk call image p. refl; fits = λ n disk call image p. refl }
+fail_is : IsInjected event.Fail (codes "fail")
+fail_is = record { encoded = λ disk call image p. refl; fits = λ n disk call image p. refl }
 
-upset_takes : (upset : Upset) (word : List ℕ) → IsUpset upset word → (n : ℕ) (rest : Option (List ℕ)) (v : Event) → n < 2 ^ 64 → upset_at upset n rest ≡ Ok v → Body rest word (event_text v) × IsTrue (event_fits n v)
-unfolding upset_at
-upset_takes upset word form n rest v small e =
+injected_takes : (injected : Injected) (word : List ℕ) → IsInjected injected word → (n : ℕ) (rest : Option (List ℕ)) (v : Event) → n < 2 ^ 64 → injected_at injected n rest ≡ Ok v → Body rest word (event_text v) × IsTrue (event_fits n v)
+unfolding injected_at
+injected_takes injected word form n rest v small e =
     let a = field_step side_form rest _ v e in
     let b = field_step (number_form 1 1000 (lit< tt)) a.after _ v a.on in
     let c = field_step (upto_form 3 (lit< tt)) b.after _ v b.on in
@@ -200,9 +200,9 @@ upset_takes upset word form n rest v small e =
     let t = plain_takes n c.after p.0 small p.1 in
     let image_on = Reads-then b.after (decimal c.x) c.after _ c.reads t.0 in
     let call_on = Reads-then a.after (decimal b.x) b.after _ b.reads image_on in
-    let fitting : IsTrue (upset_fits n b.x c.x p.0) = rw (b.fitting, c.fitting, t.1) refl in
-    subst (λ (v : Event). Body rest word (event_text v) × IsTrue (event_fits n v)) (ok_is (upset a.x b.x c.x p.0) v p.2) (
-      record { body = _; rest-is = Reads-then rest (side_text a.x) a.after _ a.reads call_on; text-is = sym (form.spelled a.x b.x c.x p.0) },
+    let fitting : IsTrue (injected_fits n b.x c.x p.0) = rw (b.fitting, c.fitting, t.1) refl in
+    subst (λ (v : Event). Body rest word (event_text v) × IsTrue (event_fits n v)) (ok_is (injected a.x b.x c.x p.0) v p.2) (
+      record { body = _; rest-is = Reads-then rest (side_text a.x) a.after _ a.reads call_on; text-is = sym (form.encoded a.x b.x c.x p.0) },
       form.fits n a.x b.x c.x p.0 ∙ fitting,
     )
 
@@ -214,10 +214,10 @@ unfolding event_by
 event_by_takes n line word after v small r e =
     let whole : (w : List ℕ) → word ≡ w → Body after w (event_text v) × IsTrue (event_fits n v) → (line ≡ event_text v) × IsTrue (event_fits n v) =
     λ w same t. (same_some line (event_text v) (with_word (Some line) after word w (event_text v) r same t.0), t.1) in
-    elim (chosen_word word (codes "crash") (upset_at event.Crash n after) _ v e) [
-      | inl h ↦ whole (codes "crash") h.0 (upset_takes event.Crash (codes "crash") crash_is n after v small h.1)
-      | inr h ↦ elim (chosen_word word (codes "fail") (upset_at event.Fail n after) _ v h) [
-        | inl h ↦ whole (codes "fail") h.0 (upset_takes event.Fail (codes "fail") fail_is n after v small h.1)
+    elim (chosen_word word (codes "crash") (injected_at event.Crash n after) _ v e) [
+      | inl h ↦ whole (codes "crash") h.0 (injected_takes event.Crash (codes "crash") crash_is n after v small h.1)
+      | inr h ↦ elim (chosen_word word (codes "fail") (injected_at event.Fail n after) _ v h) [
+        | inl h ↦ whole (codes "fail") h.0 (injected_takes event.Fail (codes "fail") fail_is n after v small h.1)
         | inr h ↦
             let a = bind_ok (plain_by n word after) _ v h in
             let t = plain_by_takes n (Some line) after word a.0 small r a.1 in
@@ -342,9 +342,9 @@ plain_again n p small fits =
     let a = plain_parts n p small fits in
     rw (a.text-is, next_again a.word (Some a.body) a.is-word) a.read
 
-upset_again : (upset : Upset) (n : ℕ) (disk : Side) (call image : ℕ) (p : Plain) → n < 2 ^ 64 → IsTrue (upset_fits n call image p) → upset_at upset n (Some (upset_text disk call image p)) ≡ Ok (upset disk call image p)
-unfolding upset_at
-upset_again upset n disk call image p small fits =
+injected_again : (injected : Injected) (n : ℕ) (disk : Side) (call image : ℕ) (p : Plain) → n < 2 ^ 64 → IsTrue (injected_fits n call image p) → injected_at injected n (Some (injected_text disk call image p)) ≡ Ok (injected disk call image p)
+unfolding injected_at
+injected_again injected n disk call image p small fits =
     let a = both (within 1 1000 call) _ fits in
     let b = both (leb image 3) (plain_fits n p) a.1 in
     rw (
@@ -391,8 +391,8 @@ printable_plain n (Client rank at session q) small fits =
     (printable_spaced (decimal session.client) _ (printable_field (upto_form (2 ^ 32 - 1) (lit< tt)) session.client parts.client_fits)
     (printable_spaced (decimal session.id) (request_text q) (printable_field (upto_form (2 ^ 62) most_moment) session.id parts.id_fits) (printable_request q parts.asked_fits))))
 
-printable_upset : (n : ℕ) (disk : Side) (call image : ℕ) (p : Plain) → n < 2 ^ 64 → IsTrue (upset_fits n call image p) → IsTrue (list_all printable (upset_text disk call image p))
-printable_upset n disk call image p small fits =
+printable_injected : (n : ℕ) (disk : Side) (call image : ℕ) (p : Plain) → n < 2 ^ 64 → IsTrue (injected_fits n call image p) → IsTrue (list_all printable (injected_text disk call image p))
+printable_injected n disk call image p small fits =
     let a = both (within 1 1000 call) _ fits in
     let b = both (leb image 3) (plain_fits n p) a.1 in
     printable_spaced (side_text disk) _ (printable_field side_form disk refl)
@@ -401,8 +401,8 @@ printable_upset n disk call image p small fits =
 
 pub printable_event : (n : ℕ) (v : Event) → n < 2 ^ 64 → IsTrue (event_fits n v) → IsTrue (list_all printable (event_text v))
 printable_event n (event.Plain p) small fits = printable_plain n p small fits
-printable_event n (event.Crash disk call image p) small fits = printable_upset n disk call image p small fits
-printable_event n (event.Fail disk call image p) small fits = printable_upset n disk call image p small fits
+printable_event n (event.Crash disk call image p) small fits = printable_injected n disk call image p small fits
+printable_event n (event.Fail disk call image p) small fits = printable_injected n disk call image p small fits
 
 -- ---- events
 
@@ -417,9 +417,9 @@ pub event_again : (n : ℕ) (v : Event) → n < 2 ^ 64 → IsTrue (event_fits n 
 unfolding event_at event_by
 event_again n (event.Plain p) small fits = plain_event n p small fits
 event_again n (event.Crash disk call image p) small fits =
-    rw (printable_upset n disk call image p small fits, upset_again event.Crash n disk call image p small fits) refl
+    rw (printable_injected n disk call image p small fits, injected_again event.Crash n disk call image p small fits) refl
 event_again n (event.Fail disk call image p) small fits =
-    rw (printable_upset n disk call image p small fits, upset_again event.Fail n disk call image p small fits) refl
+    rw (printable_injected n disk call image p small fits, injected_again event.Fail n disk call image p small fits) refl
 
 -- if the fields of a line say an event, each of its bytes is printable
 pub read_by_fields : (n : ℕ) (line : List ℕ) (v : Event) → n < 2 ^ 64 → fields_event n line ≡ Ok v → event_at n line ≡ Ok v

@@ -16,7 +16,7 @@ use Rattle.std.proofs.Math.Seq.{set-append_seam}
 use Rattle.mon_types.specs.Ranks.{no_ranks, has, with_rank, ranks_in}
 use Rattle.mon_bytes.proofs.Ascii.{both}
 use Rattle.schedule_text.specs.Fields.{cut, digit, ended}
-use Rattle.schedule_text.specs.Ranks.{behind, separator, ranks_from, ranks_text, flags_below, below, comes_next, behind_next, flags_at, set_of}
+use Rattle.schedule_text.specs.Ranks.{separated, separator, ranks_from, ranks_text, flags_below, below, is_next, after_next, flags_at, set_of}
 use Rattle.schedule_text.proofs.Lengths.{at_most_20_digits}
 use Rattle.schedule_text.proofs.Numerals.{own}
 use Rattle.schedule_text.proofs.FieldLaws.{list_all-weaker, apart, joined, cut_joined, cut_again, ended_takes}
@@ -27,9 +27,9 @@ digit_no_comma b h = grind (arith, nat_tests)
 no_comma : (n : ℕ) → n < 2 ^ 64 → IsTrue (list_all (apart 44) (decimal n))
 no_comma n small = list_all-weaker digit (apart 44) digit_no_comma (decimal n) (digits_decimal own n small)
 
-pub joined-behind : (separator : ℕ) (f : List ℕ) (rest : Option (List ℕ)) → joined separator f rest ≡ f ++ behind separator rest
-joined-behind separator f None = sym (append-nil f)
-joined-behind separator f (Some rest) = refl
+pub joined-separated : (separator : ℕ) (f : List ℕ) (rest : Option (List ℕ)) → joined separator f rest ≡ f ++ separated separator rest
+joined-separated separator f None = sym (append-nil f)
+joined-separated separator f (Some rest) = refl
 
 -- ---- a flag among flags
 
@@ -46,14 +46,14 @@ pub cases_true : (b : Bool) → (b ≡ true) ⊎ (b ≡ false)
 cases_true true = inl refl
 cases_true false = inr refl
 
-next_is : (r : ℕ) (rest : Option (List ℕ)) → comes_next r rest ≡ true → rest ≡ Some (decimal r ++ behind 44 (behind_next rest))
+next_is : (r : ℕ) (rest : Option (List ℕ)) → is_next r rest ≡ true → rest ≡ Some (decimal r ++ separated 44 (after_next rest))
 next_is r None h = absurd cc
 next_is r (Some bytes) h =
     let same : (cut 44 bytes).0 ≡ decimal r = (bytes_eq-Decides (cut 44 bytes).0 (decimal r)).0 h in
-    ap (λ (xs : List ℕ). Some xs) (sym (cut_joined 44 bytes) ∙ joined-behind 44 (cut 44 bytes).0 (cut 44 bytes).1 ∙ ap (λ (f : List ℕ). f ++ behind 44 (cut 44 bytes).1) same)
+    ap (λ (xs : List ℕ). Some xs) (sym (cut_joined 44 bytes) ∙ joined-separated 44 (cut 44 bytes).0 (cut 44 bytes).1 ∙ ap (λ (f : List ℕ). f ++ separated 44 (cut 44 bytes).1) same)
 
 -- the rest of the text is the encoding of the flags that are still to be read
-record IsSpelled (n count r : ℕ) (front flags : List Bool) (rest : Option (List ℕ)) : Type 0 where
+record IsEncoded (n count r : ℕ) (front flags : List Bool) (rest : Option (List ℕ)) : Type 0 where
   text : rest ≡ ranks_from count r (front ++ flags)
   kept : flags_below n count r (front ++ flags) ≡ flags
 
@@ -63,14 +63,14 @@ snoc front b flags = append_assoc front (b ∷ []) flags
 longer : (front : List Bool) (b : Bool) (r : ℕ) → length front ≡ r → length (front ++ b ∷ []) ≡ suc r
 longer front b r is = simp length-append (omega arith)
 
-flags_take : (n count r : ℕ) (front : List Bool) (rest : Option (List ℕ)) → length front ≡ r → (flags_at n count r rest).1 ≡ None → IsSpelled n count r front (flags_at n count r rest).0 rest
+flags_take : (n count r : ℕ) (front : List Bool) (rest : Option (List ℕ)) → length front ≡ r → (flags_at n count r rest).1 ≡ None → IsEncoded n count r front (flags_at n count r rest).0 rest
 flags_take n zero r front rest is end = record { text = end; kept = refl }
 flags_take n (suc count) r front rest is end =
-    let test = ltb r n && comes_next r rest in
+    let test = ltb r n && is_next r rest in
     elim (cases_true test) [
       | inl t ↦
-          let parts = both (ltb r n) (comes_next r rest) t in
-          let after = behind_next rest in
+          let parts = both (ltb r n) (is_next r rest) t in
+          let after = after_next rest in
           let flags = (flags_at n count (suc r) after).0 in
           let end' : (flags_at n count (suc r) after).1 ≡ None = rw t at end in
           let others = flags_take n count (suc r) (front ++ true ∷ []) after (longer front true r is) end' in
@@ -78,7 +78,7 @@ flags_take n (suc count) r front rest is end =
           let kept' : flags_below n count (suc r) (front ++ true ∷ flags) ≡ flags = ap (flags_below n count (suc r)) (sym (snoc front true flags)) ∙ others.kept in
           let here : has (front ++ true ∷ flags) r ≡ true = flag_at front true flags r is in
           rw t (record {
-            text = rw here (next_is r rest parts.1 ∙ ap (λ (a : Option (List ℕ)). Some (decimal r ++ behind 44 a)) text');
+            text = rw here (next_is r rest parts.1 ∙ ap (λ (a : Option (List ℕ)). Some (decimal r ++ separated 44 a)) text');
             kept = rw (here, parts.0) (ap (λ (fs : List Bool). true ∷ fs) kept');
           })
       | inr f ↦
@@ -131,11 +131,11 @@ others_differ r q lt small =
       | inr f ↦ f
     ]
 
-cut_rank : (q : ℕ) (rest : Option (List ℕ)) → q < 2 ^ 64 → cut 44 (decimal q ++ behind 44 rest) ≡ (decimal q, rest)
-cut_rank q rest small = ap (cut 44) (sym (joined-behind 44 (decimal q) rest)) ∙ cut_again 44 (decimal q) rest (no_comma q small)
+cut_rank : (q : ℕ) (rest : Option (List ℕ)) → q < 2 ^ 64 → cut 44 (decimal q ++ separated 44 rest) ≡ (decimal q, rest)
+cut_rank q rest small = ap (cut 44) (sym (joined-separated 44 (decimal q) rest)) ∙ cut_again 44 (decimal q) rest (no_comma q small)
 
 -- a rank isn't the next one if only greater ones are encoded
-not_next : (count r q : ℕ) (set : List Bool) → r < q → q + count ≤ 15 → comes_next r (ranks_from count q set) ≡ false
+not_next : (count r q : ℕ) (set : List Bool) → r < q → q + count ≤ 15 → is_next r (ranks_from count q set) ≡ false
 not_next zero r q set lt le = refl
 not_next (suc count) r q set lt le =
     elim (cases_true (has set q)) [
@@ -160,17 +160,17 @@ flags_again n (suc count) r set is le =
           let small : r < 2 ^ 64 = omega arith in
           let under = only_below n r set is (omega arith) t in
           let more = ranks_from count (suc r) set in
-          let text : ranks_from (suc count) r set ≡ Some (decimal r ++ behind 44 more) = rw t refl in
+          let text : ranks_from (suc count) r set ≡ Some (decimal r ++ separated 44 more) = rw t refl in
           let flags : true ∷ flags_below n count (suc r) set ≡ flags_below n (suc count) r set = rw (under, t) refl in
           ap (flags_at n (suc count) r) text
-          ∙ comes n count r (decimal r ++ behind 44 more) more (flags_below n count (suc r) set) (cut_rank r more small) under others
+          ∙ comes n count r (decimal r ++ separated 44 more) more (flags_below n count (suc r) set) (cut_rank r more small) under others
           ∙ ap (λ (fs : List Bool). (fs, None)) flags
       | inr f ↦
           rw (f, not_next count r (suc r) set (omega arith) (omega arith)) (by (ltb r n) _ _ others)
     ]
   where
     by : (b : Bool) (read : List Bool × Option (List ℕ)) (flags : List Bool) → read ≡ (flags, None)
-        → ◌≡◌ {A = List Bool × Option (List ℕ)} (cond (b && false) (true ∷ (flags_at n count (suc r) (behind_next (ranks_from count (suc r) set))).0, (flags_at n count (suc r) (behind_next (ranks_from count (suc r) set))).1) (false ∷ read.0, read.1)) ((b && false) ∷ flags, None)
+        → ◌≡◌ {A = List Bool × Option (List ℕ)} (cond (b && false) (true ∷ (flags_at n count (suc r) (after_next (ranks_from count (suc r) set))).0, (flags_at n count (suc r) (after_next (ranks_from count (suc r) set))).1) (false ∷ read.0, read.1)) ((b && false) ∷ flags, None)
     by true read flags e = ap (λ (p : List Bool × Option (List ℕ)). (false ∷ p.0, p.1)) e
     by false read flags e = ap (λ (p : List Bool × Option (List ℕ)). (false ∷ p.0, p.1)) e
 
@@ -211,16 +211,16 @@ pub record Reading (n r count : ℕ) (set : List Bool) (rest text : Option (List
 pub reading_begins : (n : ℕ) (text : Option (List ℕ)) → Reading n 0 15 no_ranks text text
 reading_begins n text = record { front = []; so_far = none_yet; whole = refl }
 
-pub reading_takes : (n r count : ℕ) (set : List Bool) (rest text : Option (List ℕ)) → (ltb r n && comes_next r rest) ≡ true → Reading n r (suc count) set rest text → Reading n (suc r) count (with_rank set r) (behind_next rest) text
+pub reading_takes : (n r count : ℕ) (set : List Bool) (rest text : Option (List ℕ)) → (ltb r n && is_next r rest) ≡ true → Reading n r (suc count) set rest text → Reading n (suc r) count (with_rank set r) (after_next rest) text
 reading_takes n r count set rest text t h =
     let so_far = rw t at h.whole in
     record {
       front = h.front ++ true ∷ [];
       so_far = one_more r count h.front set h.so_far;
-      whole = so_far ∙ ap (λ (flags : List Bool). (flags, (flags_at n count (suc r) (behind_next rest)).1)) (sym (snoc h.front true (flags_at n count (suc r) (behind_next rest)).0));
+      whole = so_far ∙ ap (λ (flags : List Bool). (flags, (flags_at n count (suc r) (after_next rest)).1)) (sym (snoc h.front true (flags_at n count (suc r) (after_next rest)).0));
     }
 
-pub reading_leaves : (n r count : ℕ) (set : List Bool) (rest text : Option (List ℕ)) → (ltb r n && comes_next r rest) ≡ false → Reading n r (suc count) set rest text → Reading n (suc r) count set rest text
+pub reading_leaves : (n r count : ℕ) (set : List Bool) (rest text : Option (List ℕ)) → (ltb r n && is_next r rest) ≡ false → Reading n r (suc count) set rest text → Reading n (suc r) count set rest text
 reading_leaves n r count set rest text f h =
     let so_far = rw f at h.whole in
     record {
@@ -274,11 +274,11 @@ at_end P r ge le p =
     let e : r ≡ 15 = omega arith in
     subst (λ k. P k (15 - k)) e p
 
-pub reading_taken : (n r : ℕ) (set : List Bool) (rest text : Option (List ℕ)) → r < 15 → (ltb r n && comes_next r rest) ≡ true → Reading n r (15 - r) set rest text → Reading n (r + 1) (15 - (r + 1)) (with_rank set r) (behind_next rest) text
+pub reading_taken : (n r : ℕ) (set : List Bool) (rest text : Option (List ℕ)) → r < 15 → (ltb r n && is_next r rest) ≡ true → Reading n r (15 - r) set rest text → Reading n (r + 1) (15 - (r + 1)) (with_rank set r) (after_next rest) text
 reading_taken n r set rest text lt t h =
-    to_next (λ k c. Reading n k c (with_rank set r) (behind_next rest) text) r (reading_takes n r (15 - suc r) set rest text t (from_here (λ k c. Reading n k c set rest text) r lt h))
+    to_next (λ k c. Reading n k c (with_rank set r) (after_next rest) text) r (reading_takes n r (15 - suc r) set rest text t (from_here (λ k c. Reading n k c set rest text) r lt h))
 
-pub reading_left : (n r : ℕ) (set : List Bool) (rest text : Option (List ℕ)) → r < 15 → (ltb r n && comes_next r rest) ≡ false → Reading n r (15 - r) set rest text → Reading n (r + 1) (15 - (r + 1)) set rest text
+pub reading_left : (n r : ℕ) (set : List Bool) (rest text : Option (List ℕ)) → r < 15 → (ltb r n && is_next r rest) ≡ false → Reading n r (15 - r) set rest text → Reading n (r + 1) (15 - (r + 1)) set rest text
 reading_left n r set rest text lt f h =
     to_next (λ k c. Reading n k c set rest text) r (reading_leaves n r (15 - suc r) set rest text f (from_here (λ k c. Reading n k c set rest text) r lt h))
 
@@ -293,14 +293,14 @@ keeping_left n r kept set lt f h =
 -- the text of these ranks, if there is one
 abbrev pub named : List ℕ → Option (List ℕ)
 named [] = None
-named (r ∷ rs) = Some (decimal r ++ behind 44 (named rs))
+named (r ∷ rs) = Some (decimal r ++ separated 44 (named rs))
 
 named_from : (count r : ℕ) (set : List Bool) → ranks_from count r set ≡ named (filter (has set) (range_with_len r count))
 named_from zero r set = refl
 named_from (suc count) r set =
     let next : r + 1 ≡ suc r = omega arith in
     elim (cases_true (has set r)) [
-      | inl t ↦ rw (t, next) (ap (λ (more : Option (List ℕ)). Some (decimal r ++ behind 44 more)) (named_from count (suc r) set))
+      | inl t ↦ rw (t, next) (ap (λ (more : Option (List ℕ)). Some (decimal r ++ separated 44 more)) (named_from count (suc r) set))
       | inr f ↦ rw (f, next) (named_from count (suc r) set)
     ]
 
@@ -309,37 +309,37 @@ unfolding ranks_text
 named_text set = named_from 15 0 set
 
 -- what is written, once the first of these ranks is
-pub one_written : (first : Bool) (r : ℕ) (rs out : List ℕ) → (out ++ separator first ∷ decimal r) ++ behind 44 (named rs) ≡ out ++ behind (separator first) (named (r ∷ rs))
-one_written first r rs out = append_assoc out (separator first ∷ decimal r) (behind 44 (named rs))
+pub one_written : (first : Bool) (r : ℕ) (rs out : List ℕ) → (out ++ separator first ∷ decimal r) ++ separated 44 (named rs) ≡ out ++ separated (separator first) (named (r ∷ rs))
+one_written first r rs out = append_assoc out (separator first ∷ decimal r) (separated 44 (named rs))
 
 -- the length, whatever the separator
-pub same_length : (rest : Option (List ℕ)) → length (behind 44 rest) ≡ length (behind 61 rest)
+pub same_length : (rest : Option (List ℕ)) → length (separated 44 rest) ≡ length (separated 61 rest)
 same_length None = refl
 same_length (Some rest) = refl
 
 -- the length, once the first of these ranks is counted
-pub one_counted : (r : ℕ) (rs : List ℕ) (len : ℕ) → (len + (1 + length (decimal r))) + length (behind 44 (named rs)) ≡ len + length (behind 44 (named (r ∷ rs)))
+pub one_counted : (r : ℕ) (rs : List ℕ) (len : ℕ) → (len + (1 + length (decimal r))) + length (separated 44 (named rs)) ≡ len + length (separated 44 (named (r ∷ rs)))
 one_counted r rs len =
-    let both_parts : length (decimal r ++ behind 44 (named rs)) ≡ length (decimal r) + length (behind 44 (named rs)) = length-append (decimal r) (behind 44 (named rs)) in
+    let both_parts : length (decimal r ++ separated 44 (named rs)) ≡ length (decimal r) + length (separated 44 (named rs)) = length-append (decimal r) (separated 44 (named rs)) in
     omega (arith, both_parts)
 
-short_from : (count r : ℕ) (set : List Bool) → r + count ≤ 15 → length (behind 44 (ranks_from count r set)) ≤ 21 * count
+short_from : (count r : ℕ) (set : List Bool) → r + count ≤ 15 → length (separated 44 (ranks_from count r set)) ≤ 21 * count
 short_from zero r set le = omega arith
 short_from (suc count) r set le =
     let others = short_from count (suc r) set (omega arith) in
     elim (cases_true (has set r)) [
       | inl t ↦
-          let more = behind 44 (ranks_from count (suc r) set) in
-          let here : length (behind 44 (ranks_from (suc count) r set)) ≡ suc (length (decimal r ++ more)) = rw t refl in
+          let more = separated 44 (ranks_from count (suc r) set) in
+          let here : length (separated 44 (ranks_from (suc count) r set)) ≡ suc (length (decimal r ++ more)) = rw t refl in
           let both_parts : length (decimal r ++ more) ≡ length (decimal r) + length more = length-append (decimal r) more in
           let few : length (decimal r) ≤ 20 = at_most_20_digits r (omega arith) in
           omega (arith, here, both_parts, few, others)
       | inr f ↦
-          let here : length (behind 44 (ranks_from (suc count) r set)) ≡ length (behind 44 (ranks_from count (suc r) set)) = rw f refl in
+          let here : length (separated 44 (ranks_from (suc count) r set)) ≡ length (separated 44 (ranks_from count (suc r) set)) = rw f refl in
           omega (arith, here, others)
     ]
 
-pub short_ranks : (set : List Bool) → length (behind 61 (ranks_text set)) ≤ 400
+pub short_ranks : (set : List Bool) → length (separated 61 (ranks_text set)) ≤ 400
 unfolding ranks_text
 short_ranks set = omega (arith, short_from 15 0 set (omega arith), same_length (ranks_from 15 0 set))
 

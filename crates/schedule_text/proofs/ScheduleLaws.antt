@@ -13,7 +13,7 @@ use Rattle.schedule_text.specs.declared.schedule.Schedule.{Schedule}
 use Rattle.schedule_text.specs.Words.{printable}
 use Rattle.schedule_text.specs.Fields.{◌>>=◌, within}
 use Rattle.schedule_text.specs.Lines.{event_at}
-use Rattle.schedule_text.specs.Spelling.{event_text, event_fits, header, ended_line, event_line, schedule_text, most_events, most_bytes, HasText}
+use Rattle.schedule_text.specs.Encoding.{event_text, event_fits, header, ended_line, event_line, schedule_text, most_events, most_bytes, HasText}
 use Rattle.schedule_text.specs.Schedule.{onto, lines_of, on_line, on_first_line, header_at, event_line_at, events_at, whole_at, schedule_at, Fails, Gives}
 use Rattle.mon_bytes.proofs.Fields.{guard_ok, ok_is}
 use Rattle.mon_bytes.proofs.Formats.{bind_ok}

@@ -1,7 +1,7 @@
 pub mod Words
 pub mod Fields
 pub mod Ranks
-pub mod Spelling
+pub mod Encoding
 pub mod Requests
 pub mod Lines
 pub mod Schedule

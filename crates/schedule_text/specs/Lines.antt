@@ -56,18 +56,18 @@ plain_at n rest = do
   plain_by n word.0 word.1
 
 -- a crash or a disk's fault: the disk, the number of its call, the image of what it keeps, and the event
-unfoldable pub upset_at : (Side → ℕ → ℕ → Plain → Event) → ℕ → Option (List ℕ) → Result Event ScheduleKind
-upset_at upset n rest = do
+unfoldable pub injected_at : (Side → ℕ → ℕ → Plain → Event) → ℕ → Option (List ℕ) → Result Event ScheduleKind
+injected_at injected n rest = do
   disk ← field_at side_of rest
   call ← field_at (number_of 1 1000) disk.1
   image ← field_at (number_of 0 3) call.1
   plain ← plain_at n image.1
-  Ok (upset disk.0 call.0 image.0 plain)
+  Ok (injected disk.0 call.0 image.0 plain)
 
 unfoldable pub event_by : ℕ → List ℕ → Option (List ℕ) → Result Event ScheduleKind
 event_by n word rest =
-    if bytes_eq word (codes "crash") then upset_at event.Crash n rest
-    else (if bytes_eq word (codes "fail") then upset_at event.Fail n rest else (do
+    if bytes_eq word (codes "crash") then injected_at event.Crash n rest
+    else (if bytes_eq word (codes "fail") then injected_at event.Fail n rest else (do
       plain ← plain_by n word rest
       Ok (event.Plain plain)))
 

@@ -6,9 +6,9 @@ use Rattle.schedule_text.specs.declared.refusal.ScheduleKind.{ScheduleKind}
 use Rattle.schedule_text.specs.Fields.{cut, ended}
 
 -- what follows a separator
-abbrev pub behind : ℕ → Option (List ℕ) → List ℕ
-behind separator None = []
-behind separator (Some rest) = separator ∷ rest
+abbrev pub separated : ℕ → Option (List ℕ) → List ℕ
+separated separator None = []
+separated separator (Some rest) = separator ∷ rest
 
 -- an equals sign before the first rank, and a comma before each other
 abbrev pub separator : Bool → ℕ
@@ -19,7 +19,7 @@ separator false = 44
 abbrev pub ranks_from : ℕ → ℕ → List Bool → Option (List ℕ)
 ranks_from zero rank set = None
 ranks_from (suc count) rank set =
-    if has set rank then Some (decimal rank ++ behind 44 (ranks_from count (suc rank) set)) else ranks_from count (suc rank) set
+    if has set rank then Some (decimal rank ++ separated 44 (ranks_from count (suc rank) set)) else ranks_from count (suc rank) set
 
 unfoldable pub ranks_text : List Bool → Option (List ℕ)
 ranks_text set = ranks_from 15 0 set
@@ -38,19 +38,19 @@ below n set = flags_below n 15 0 set
 -- ---- how they are read
 
 -- whether this rank comes next
-abbrev pub comes_next : ℕ → Option (List ℕ) → Bool
-comes_next rank None = false
-comes_next rank (Some bytes) = bytes_eq (cut 44 bytes).0 (decimal rank)
+abbrev pub is_next : ℕ → Option (List ℕ) → Bool
+is_next rank None = false
+is_next rank (Some bytes) = bytes_eq (cut 44 bytes).0 (decimal rank)
 
-abbrev pub behind_next : Option (List ℕ) → Option (List ℕ)
-behind_next None = None
-behind_next (Some bytes) = (cut 44 bytes).1
+abbrev pub after_next : Option (List ℕ) → Option (List ℕ)
+after_next None = None
+after_next (Some bytes) = (cut 44 bytes).1
 
 -- which of `count` ranks from `rank` on the text names in order, each below n; and the rest of the text
 abbrev pub flags_at : ℕ → ℕ → ℕ → Option (List ℕ) → List Bool × Option (List ℕ)
 flags_at n zero rank rest = ([], rest)
 flags_at n (suc count) rank rest =
-    if nat_lt rank n && comes_next rank rest then (true ∷ (flags_at n count (suc rank) (behind_next rest)).0, (flags_at n count (suc rank) (behind_next rest)).1)
+    if nat_lt rank n && is_next rank rest then (true ∷ (flags_at n count (suc rank) (after_next rest)).0, (flags_at n count (suc rank) (after_next rest)).1)
     else (false ∷ (flags_at n count (suc rank) rest).0, (flags_at n count (suc rank) rest).1)
 
 -- the set of the ranks below n that all of the text names

@@ -13,7 +13,7 @@ use Rattle.schedule_text.specs.declared.schedule.Schedule.{Schedule}
 use Rattle.schedule_text.specs.Fields.{◌>>=◌, cut, next, field_at, ended, number_of}
 use Rattle.schedule_text.specs.Ranks.{set_of}
 use Rattle.schedule_text.specs.Lines.{event_at}
-use Rattle.schedule_text.specs.Spelling.{most_events, most_bytes}
+use Rattle.schedule_text.specs.Encoding.{most_events, most_bytes}
 
 -- ---- the first line
 

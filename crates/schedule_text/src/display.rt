@@ -1,7 +1,7 @@
 //! The text of an event, without its line feed.
 
 ghost use Rattle.std.specs.Prelude.{◌≡◌, Some};
-ghost use Rattle.schedule_text.specs.Spelling.{request_text, plain_text, event_text};
+ghost use Rattle.schedule_text.specs.Encoding.{request_text, plain_text, event_text};
 
 use crate::event::{Event, Plain};
 use crate::words::{service_word, side_word, timer_word};

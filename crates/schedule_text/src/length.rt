@@ -1,8 +1,8 @@
 //! How long texts are, found without allocating.
 
 ghost use Rattle.std.specs.Prelude.{◌≡◌, ◌+◌, ◌-◌, ◌^◌, ◌<◌, ◌≤◌, min, length, decimal};
-ghost use Rattle.schedule_text.specs.Ranks.{behind, ranks_text};
-ghost use Rattle.schedule_text.specs.Spelling.{request_text, plain_text, upset_text, event_line, rule_text, header, ended_line, schedule_text};
+ghost use Rattle.schedule_text.specs.Ranks.{separated, ranks_text};
+ghost use Rattle.schedule_text.specs.Encoding.{request_text, plain_text, injected_text, event_line, rule_text, header, ended_line, schedule_text};
 
 use crate::event::{Event, Plain};
 use crate::schedule::Schedule;
@@ -62,8 +62,8 @@ fn plain_len(plain: &Plain) -> u64
     }
 }
 
-fn upset_len(disk: Side, call: u16, image: u8, event: &Plain) -> u64
-    ensures value { result ≡ length (upset_text disk call image event.now) }
+fn injected_len(disk: Side, call: u16, image: u8, event: &Plain) -> u64
+    ensures value { result ≡ length (injected_text disk call image event.now) }
     ensures most { result < 2 ^ 63 + 2 ^ 12 }
 {
     let disk = side_word(disk).len() as u64;
@@ -81,19 +81,19 @@ fn event_len(event: &Event) -> u64
             call,
             image,
             event,
-        } => 7 + upset_len(*disk, *call, *image, event),
+        } => 7 + injected_len(*disk, *call, *image, event),
         Event::Fail {
             disk,
             call,
             image,
             event,
-        } => 6 + upset_len(*disk, *call, *image, event),
+        } => 6 + injected_len(*disk, *call, *image, event),
     }
 }
 
 /// The length of the set's ranks, each after its separator.
 fn ranks_len(set: RankSet) -> u64
-    ensures value { result ≡ length (behind 61 (ranks_text set)) }
+    ensures value { result ≡ length (separated 61 (ranks_text set)) }
     ensures most { result ≤ 400 }
 {
     let mut len = 0;

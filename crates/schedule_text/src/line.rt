@@ -3,7 +3,7 @@
 ghost use Rattle.std.specs.Prelude.{◌≡◌, ◌≤◌};
 ghost use Rattle.schedule_text.specs.declared.event.Event.TheVariants as event;
 ghost use Rattle.schedule_text.specs.Fields.{Is};
-ghost use Rattle.schedule_text.specs.Lines.{start_at, deliver_at, timer_at, client_at, plain_by, plain_at, upset_at, event_by, fields_event, event_at, Gives};
+ghost use Rattle.schedule_text.specs.Lines.{start_at, deliver_at, timer_at, client_at, plain_by, plain_at, injected_at, event_by, fields_event, event_at, Gives};
 
 use crate::event::{Event, Plain};
 use crate::fields::{Fields, all_printable};
@@ -100,10 +100,10 @@ fn plain_at(alloc: Global, monitors: u8, fields: &mut Fields<'_>) -> Result<Plai
 }
 
 /// Reads a crash, after its word.
-#[tactic(auto, unfolding(crate::specs::Lines::upset_at))]
+#[tactic(auto, unfolding(crate::specs::Lines::injected_at))]
 fn crash_at(alloc: Global, monitors: u8, fields: &mut Fields<'_>) -> Result<Event, LineRefused>
     requires { monitors ≤ 15 }
-    ensures { Gives (λ y. y) result (upset_at event.Crash monitors fields.old) }
+    ensures { Gives (λ y. y) result (injected_at event.Crash monitors fields.old) }
 {
     let disk = fields.side()?;
     let call = fields.number(1, 1000)?;
@@ -118,10 +118,10 @@ fn crash_at(alloc: Global, monitors: u8, fields: &mut Fields<'_>) -> Result<Even
 }
 
 /// Reads a disk's fault, after its word.
-#[tactic(auto, unfolding(crate::specs::Lines::upset_at))]
+#[tactic(auto, unfolding(crate::specs::Lines::injected_at))]
 fn fail_at(alloc: Global, monitors: u8, fields: &mut Fields<'_>) -> Result<Event, LineRefused>
     requires { monitors ≤ 15 }
-    ensures { Gives (λ y. y) result (upset_at event.Fail monitors fields.old) }
+    ensures { Gives (λ y. y) result (injected_at event.Fail monitors fields.old) }
 {
     let disk = fields.side()?;
     let call = fields.number(1, 1000)?;

@@ -1,5 +1,5 @@
 ghost use Rattle.std.specs.Prelude.{◌≡◌, ◌++◌, Ok, IfOk, OnOk, string_bytes};
-ghost use Rattle.schedule_text.specs.Spelling.{HasText, rule_text, header, ended_line, schedule_text};
+ghost use Rattle.schedule_text.specs.Encoding.{HasText, rule_text, header, ended_line, schedule_text};
 ghost use Rattle.schedule_text.specs.Schedule.{schedule_at};
 
 use crate::ranks::put_ranks;
@@ -43,7 +43,7 @@ pub fn header_line(alloc: Global, schedule: &Schedule) -> Result<Vec<u8>, OutOfM
     Ok(out.into_bytes())
 }
 
-fn spelled(alloc: Global, schedule: &Schedule) -> Result<Vec<u8>, OutOfMemory>
+fn encoded(alloc: Global, schedule: &Schedule) -> Result<Vec<u8>, OutOfMemory>
     ensures { IfOk result (λ bytes. bytes.items ≡ schedule_text schedule.now) }
 {
     let mut out = String::new(alloc);
@@ -62,5 +62,5 @@ pub fn print(alloc: Global, schedule: &Schedule) -> Result<Vec<u8>, OutOfMemory>
     // The text that is printed is parsed as that schedule.
     ensures again { IfOk result (λ bytes. schedule_at bytes.items ≡ Ok schedule.now) }
 {
-    spelled(alloc, schedule)
+    encoded(alloc, schedule)
 }

@@ -5,7 +5,7 @@ ghost use Rattle.std.specs.Option.{option_copied};
 ghost use Rattle.std.specs.Str.{bytes_eq};
 ghost use Rattle.mon_types.specs.Ranks.{has, with_rank};
 ghost use Rattle.schedule_text.specs.Fields.{Is};
-ghost use Rattle.schedule_text.specs.Ranks.{behind, separator, ranks_text, comes_next, behind_next, below, set_of};
+ghost use Rattle.schedule_text.specs.Ranks.{separated, separator, ranks_text, is_next, after_next, below, set_of};
 
 use crate::fields::cut;
 use crate::refusal::ScheduleKind;
@@ -17,8 +17,8 @@ use std::fmt::Write;
 /// How many ranks there are.
 const RANKS: u8 = 15;
 
-fn comes_next(rank: Rank, rest: Option<&[u8]>) -> bool
-    ensures { result ≡ comes_next rank (option_copied rest.entry) }
+fn is_next(rank: Rank, rest: Option<&[u8]>) -> bool
+    ensures { result ≡ is_next rank (option_copied rest.entry) }
 {
     match rest {
         None => false,
@@ -31,8 +31,8 @@ fn comes_next(rank: Rank, rest: Option<&[u8]>) -> bool
     }
 }
 
-fn behind_next(rest: Option<&[u8]>) -> Option<&[u8]>
-    ensures { option_copied result ≡ behind_next (option_copied rest.entry) }
+fn after_next(rest: Option<&[u8]>) -> Option<&[u8]>
+    ensures { option_copied result ≡ after_next (option_copied rest.entry) }
 {
     match rest {
         None => None,
@@ -44,9 +44,9 @@ fn behind_next(rest: Option<&[u8]>) -> Option<&[u8]>
 }
 
 fn is_taken(monitors: u8, rank: Rank, rest: Option<&[u8]>) -> bool
-    ensures { result ≡ (nat_lt rank monitors && comes_next rank (option_copied rest.entry)) }
+    ensures { result ≡ (nat_lt rank monitors && is_next rank (option_copied rest.entry)) }
 {
-    rank.get() < monitors && comes_next(rank, rest)
+    rank.get() < monitors && is_next(rank, rest)
 }
 
 /// The set of ranks below `monitors` that all of the text names, in ascending order with commas between them.
@@ -59,7 +59,7 @@ pub fn set_of(monitors: u8, text: Option<&[u8]>) -> Result<RankSet, ScheduleKind
         let rank = Rank::known(n);
         if is_taken(monitors, rank, rest) {
             set = set.with(rank);
-            rest = behind_next(rest);
+            rest = after_next(rest);
         }
     }
     match rest {
@@ -106,7 +106,7 @@ fn put_rank(out: &mut String, first: bool, rank: Rank) -> Result<(), AllocError>
 
 /// The ranks of the set in ascending order after an equals sign, with commas between them; nothing if there is none.
 pub fn put_ranks(out: &mut String, set: RankSet) -> Result<(), AllocError>
-    ensures { OnOk result (string_bytes out.new ≡ string_bytes out.old ++ behind 61 (ranks_text set)) }
+    ensures { OnOk result (string_bytes out.new ≡ string_bytes out.old ++ separated 61 (ranks_text set)) }
 {
     let mut first = true;
     for rank in set.iter() {

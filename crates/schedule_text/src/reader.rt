@@ -1,6 +1,6 @@
 ghost use Rattle.std.specs.Prelude.{◌≡◌, ℕ, ◌≤◌, ◌<◌, ◌+◌, length, Ok, IfOk};
 ghost use Rattle.schedule_text.specs.declared.schedule.Schedule.{Schedule};
-ghost use Rattle.schedule_text.specs.Spelling.{HasText, most_events, schedule_text};
+ghost use Rattle.schedule_text.specs.Encoding.{HasText, most_events, schedule_text};
 ghost use Rattle.schedule_text.specs.Schedule.{lines_of, on_first_line, header_at, event_line_at, events_at, whole_at, schedule_at, Gives};
 
 use crate::event::Event;

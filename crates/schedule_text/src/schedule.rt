@@ -4,7 +4,7 @@ ghost use Rattle.mon_types.specs.Ranks.{has};
 ghost use Rattle.schedule_text.specs.declared.event.Plain.TheVariants.{Client};
 ghost use Rattle.schedule_text.specs.Fields.{within};
 ghost use Rattle.schedule_text.specs.Ranks.{below};
-ghost use Rattle.schedule_text.specs.Spelling.{request_fits, plain_fits, upset_fits, event_fits, RuleFits};
+ghost use Rattle.schedule_text.specs.Encoding.{request_fits, plain_fits, injected_fits, event_fits, RuleFits};
 
 use crate::event::{Event, Plain};
 use crate::fields::all_printable;
@@ -32,7 +32,7 @@ pub struct Schedule {
 
 impl Schedule {
     ghost use Rattle.std.specs.Prelude.{◌↔◌, IsTrue};
-    ghost use Rattle.schedule_text.specs.Spelling.{HasText};
+    ghost use Rattle.schedule_text.specs.Encoding.{HasText};
 
     /// Whether the schedule has a text: there are 1 to 15 monitors, ranks are below their number, numbers within their bounds,
     /// values printable, and there are not too many events and bytes. It takes no memory.
@@ -134,8 +134,8 @@ fn plain_fits(monitors: u8, plain: &Plain) -> bool
     }
 }
 
-fn upset_fits(monitors: u8, call: u16, image: u8, event: &Plain) -> bool
-    ensures { result ≡ upset_fits monitors call image event.now }
+fn injected_fits(monitors: u8, call: u16, image: u8, event: &Plain) -> bool
+    ensures { result ≡ injected_fits monitors call image event.now }
 {
     if call < 1 || call > 1000 || image > 3 {
         return false;
@@ -153,13 +153,13 @@ fn event_fits(monitors: u8, event: &Event) -> bool
             image,
             event,
             ..
-        } => upset_fits(monitors, *call, *image, event),
+        } => injected_fits(monitors, *call, *image, event),
         Event::Fail {
             call,
             image,
             event,
             ..
-        } => upset_fits(monitors, *call, *image, event),
+        } => injected_fits(monitors, *call, *image, event),
     }
 }
 

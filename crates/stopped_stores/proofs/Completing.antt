@@ -15,7 +15,7 @@ use Rattle.mon_scrub.specs.declared.refusal.ReportRefused.TheVariants as report
 use Rattle.mon_scrub.specs.declared.report.Report.{Report}
 use Rattle.mon_store.specs.Opening.{Answers, BothCount}
 use Rattle.mon_store.specs.Pair.{Refusal}
-use Rattle.mon_store.specs.Stood.{Stood, opens_as}
+use Rattle.mon_store.specs.StoreView.{StoreView, opens_as}
 use Rattle.mon_store.specs.declared.stop.OpenStop.{OpenStop}
 use Rattle.mon_store.specs.declared.stop.OpenStop.TheVariants as open_stop
 use Rattle.mon_tx.specs.Map.{Store}
@@ -61,31 +61,31 @@ held state disks a b fact h said =
 -- ---- texts
 
 module _ {D : Type 0} (state : D → DiskState) (member : Member) (old new : NodeDisks D) (calm : NoneFailed state old new) (a b : List ℕ) (h : Hold state old a b) where
-  opened_as : (r : Result Stood OpenStop) → Opens state member old new r → Answers member a b r
+  opened_as : (r : Result StoreView OpenStop) → Opens state member old new r → Answers member a b r
   opened_as r o = held state old a b (λ x y. Answers member x y r) h o.answer
 
-  not_refused : (stood : Stood) (why : OpenStop) → opens_as member a b ≡ Ok stood → Opens state member old new (Err why) → (why ≡ open_stop.OutOfMemory → ⊥) → ⊥
-  not_refused stood open_stop.DiskFault is o other = none_counted state old new calm o.counts
-  not_refused stood (open_stop.NotAStore disk at) is o other = let read = opened_as (Err (open_stop.NotAStore disk at)) o in absurd cc
-  not_refused stood (open_stop.Stranger kept asked) is o other = let read = opened_as (Err (open_stop.Stranger kept asked)) o in absurd cc
-  not_refused stood open_stop.OutOfMemory is o other = other refl
+  not_refused : (store_view : StoreView) (why : OpenStop) → opens_as member a b ≡ Ok store_view → Opens state member old new (Err why) → (why ≡ open_stop.OutOfMemory → ⊥) → ⊥
+  not_refused store_view open_stop.DiskFault is o other = none_counted state old new calm o.counts
+  not_refused store_view (open_stop.NotAStore disk at) is o other = let read = opened_as (Err (open_stop.NotAStore disk at)) o in absurd cc
+  not_refused store_view (open_stop.Stranger kept asked) is o other = let read = opened_as (Err (open_stop.Stranger kept asked)) o in absurd cc
+  not_refused store_view open_stop.OutOfMemory is o other = other refl
 
   not_opened : (refusal : Refusal) (fact : Store → Type 0) → opens_as member a b ≡ Err refusal → Opened state member old new fact → ⊥
-  not_opened refusal fact is o = let read = opened_as (Ok o.stood) o.opens in absurd cc
+  not_opened refusal fact is o = let read = opened_as (Ok o.store_view) o.opens in absurd cc
 
   text_stands : (what : StoreText) (before after : Stream) (e : ToolEnd) → WritesText state member old new before after what e → Unfailed before after
-      → (stood : Stood) → opens_as member a b ≡ Ok stood → IsEnd end.Done e
-  text_stands what before after end.Done did quiet stood is = refl
-  text_stands what before after end.OutOfMemory did quiet stood is = tt
-  text_stands what before after end.WriteFault did quiet stood is = absurd (quiet did.0)
-  text_stands what before after end.DiskFault did quiet stood is = absurd (not_refused stood open_stop.DiskFault is did.0 (λ e. absurd cc))
-  text_stands what before after (end.NotAStore disk at) did quiet stood is = absurd (not_refused stood (open_stop.NotAStore disk at) is did.0 (λ e. absurd cc))
-  text_stands what before after (end.Stranger kept asked) did quiet stood is = absurd (not_refused stood (open_stop.Stranger kept asked) is did.0 (λ e. absurd cc))
-  text_stands what before after end.ReadFault did quiet stood is = absurd did
-  text_stands what before after (end.Full would_be) did quiet stood is = absurd did
-  text_stands what before after (end.Report line) did quiet stood is = absurd did
-  text_stands what before after (end.NotEmpty disk) did quiet stood is = absurd did
-  text_stands what before after (end.Export at) did quiet stood is = absurd did
+      → (store_view : StoreView) → opens_as member a b ≡ Ok store_view → IsEnd end.Done e
+  text_stands what before after end.Done did quiet store_view is = refl
+  text_stands what before after end.OutOfMemory did quiet store_view is = tt
+  text_stands what before after end.WriteFault did quiet store_view is = absurd (quiet did.0)
+  text_stands what before after end.DiskFault did quiet store_view is = absurd (not_refused store_view open_stop.DiskFault is did.0 (λ e. absurd cc))
+  text_stands what before after (end.NotAStore disk at) did quiet store_view is = absurd (not_refused store_view (open_stop.NotAStore disk at) is did.0 (λ e. absurd cc))
+  text_stands what before after (end.Stranger kept asked) did quiet store_view is = absurd (not_refused store_view (open_stop.Stranger kept asked) is did.0 (λ e. absurd cc))
+  text_stands what before after end.ReadFault did quiet store_view is = absurd did
+  text_stands what before after (end.Full would_be) did quiet store_view is = absurd did
+  text_stands what before after (end.Report line) did quiet store_view is = absurd did
+  text_stands what before after (end.NotEmpty disk) did quiet store_view is = absurd did
+  text_stands what before after (end.Export at) did quiet store_view is = absurd did
 
   text_refused : (what : StoreText) (before after : Stream) (e : ToolEnd) → WritesText state member old new before after what e → Unfailed before after
       → (refusal : Refusal) → opens_as member a b ≡ Err refusal → IsRefusal refusal e

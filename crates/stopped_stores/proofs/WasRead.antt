@@ -3,7 +3,7 @@ use Rattle.std.proofs.Common.{◌≡◌, ℕ, ◌<◌, ◌≤◌, ltb, List, len
 use Rattle.std.proofs.lemmas.Bool.{ltb-false}
 use Rattle.mon_bytes.proofs.Fields.{guard_ok}
 use Rattle.mon_journal.specs.Fields.{Owner}
-use Rattle.mon_link.specs.Whole.{ConsumesFront, ReadsWhole}
+use Rattle.mon_link.specs.Whole.{ConsumesPrefix, ReadsWhole}
 use Rattle.mon_link.proofs.Wholes.{at_end, front_of}
 use Rattle.mon_scrub.specs.Reading.{reports_at, two_at}
 use Rattle.mon_scrub.specs.Text.{Fields}
@@ -16,7 +16,7 @@ use Rattle.stopped_stores.specs.Texts.{Stream}
 
 -- what a call read
 pub record HasRead (most : ℕ) (before after : Stream) (bytes : List ℕ) : Type 0 where
-  pub tells : is_some after.bytes ≡ is_some before.bytes
+  pub visible : is_some after.bytes ≡ is_some before.bytes
   pub most_is : length bytes ≤ most
   pub whole : ReadsWhole most before.bytes after.bytes bytes
 
@@ -24,9 +24,9 @@ pub of_read : (most : ℕ) (before after : Stream) (bytes : List ℕ) (fact : Li
 of_read most before after bytes fact read holds = (bytes, read.most_is, read.whole, holds)
 
 pub read_all : (most : ℕ) (before after : Stream) (bytes : List ℕ) (fact : List ℕ → Type 0) → HasRead most before after bytes → length bytes < most → fact bytes → ReadAll most before after fact
-read_all most before after bytes fact read short holds = (at_end most before.bytes after.bytes bytes read.tells short read.whole, of_read most before after bytes fact read holds)
+read_all most before after bytes fact read short holds = (at_end most before.bytes after.bytes bytes read.visible short read.whole, of_read most before after bytes fact read holds)
 
-pub consumed : (most : ℕ) (before after : Stream) (bytes : List ℕ) → HasRead most before after bytes → ConsumesFront most before.bytes after.bytes
+pub consumed : (most : ℕ) (before after : Stream) (bytes : List ℕ) → HasRead most before after bytes → ConsumesPrefix most before.bytes after.bytes
 consumed most before after bytes read = front_of most before.bytes after.bytes bytes read.most_is read.whole
 
 -- two reports, and an export, aren't as long as the most that is read

@@ -2,7 +2,7 @@
 use Rattle.std.proofs.Common.{◌≡◌, List, ℕ, Err, inl, inr, refl, sym, subst}
 use Rattle.mon_disk.specs.Calls.{DiskState}
 use Rattle.mon_disk.specs.declared.node.NodeDisks.{NodeDisks}
-use Rattle.mon_link.specs.Whole.{AppendsFront, ConsumesFront}
+use Rattle.mon_link.specs.Whole.{AppendsPrefix, ConsumesPrefix}
 use Rattle.mon_scrub.specs.Text.{compared}
 use Rattle.mon_store.specs.declared.stop.OpenStop.{OpenStop}
 use Rattle.mon_store.specs.declared.stop.OpenStop.TheVariants as open_stop
@@ -16,7 +16,7 @@ use Rattle.stopped_stores.specs.Ends.{end_of_import, end_of_opening, end_of_read
 use Rattle.stopped_stores.specs.Importing.{ImportsExport, ReadsMap, ReadThenImports}
 use Rattle.stopped_stores.specs.Opening.{Opened}
 use Rattle.stopped_stores.specs.Reading.{Compares, ReadReports}
-use Rattle.stopped_stores.specs.Texts.{Refuses, Stream, WritesAll, WritesText, text_of}
+use Rattle.stopped_stores.specs.Texts.{OpensNothing, Stream, WritesAll, WritesText, text_of}
 use Rattle.stopped_stores.specs.declared.end.ToolEnd.{ToolEnd}
 use Rattle.stopped_stores.specs.declared.end.ToolEnd.TheVariants as end
 use Rattle.stopped_stores.specs.declared.writing.StoreText.{StoreText}
@@ -24,19 +24,19 @@ use Rattle.stopped_stores.specs.declared.writing.StoreText.{StoreText}
 -- ---- texts
 
 module _ {D : Type 0} (state : D → DiskState) (member : Member) (old new : NodeDisks D) (before after : Stream) (what : StoreText) where
-  refused : (why : OpenStop) → Refuses state member old new before after why → WritesText state member old new before after what (end_of_opening why)
+  refused : (why : OpenStop) → OpensNothing state member old new before after why → WritesText state member old new before after what (end_of_opening why)
   refused open_stop.DiskFault h = h
   refused (open_stop.NotAStore disk at) h = h
   refused (open_stop.Stranger kept asked) h = h
   refused open_stop.OutOfMemory h = inl h
 
-  pub ends_refused : (why : OpenStop) (e : ToolEnd) → e ≡ end_of_opening why → Refuses state member old new before after why → WritesText state member old new before after what e
+  pub ends_refused : (why : OpenStop) (e : ToolEnd) → e ≡ end_of_opening why → OpensNothing state member old new before after why → WritesText state member old new before after what e
   ends_refused why e is h = subst (WritesText state member old new before after what) (sym is) (refused why h)
 
   pub ends_written : (e : ToolEnd) → Opened state member old new (λ m. WritesAll (text_of what member m) before after e) → WritesText state member old new before after what e
-  ends_written end.Done h = record { stood = h.stood; opens = h.opens; holds = h.holds }
-  ends_written end.WriteFault h = let wrote = h.holds in (wrote.0, record { stood = h.stood; opens = h.opens; holds = wrote.1 })
-  ends_written end.OutOfMemory h = inr (record { stood = h.stood; opens = h.opens; holds = h.holds })
+  ends_written end.Done h = record { store_view = h.store_view; opens = h.opens; holds = h.holds }
+  ends_written end.WriteFault h = let wrote = h.holds in (wrote.0, record { store_view = h.store_view; opens = h.opens; holds = wrote.1 })
+  ends_written end.OutOfMemory h = inr (record { store_view = h.store_view; opens = h.opens; holds = h.holds })
   ends_written end.ReadFault h = absurd h.holds
   ends_written end.DiskFault h = absurd h.holds
   ends_written (end.NotAStore disk at) h = absurd h.holds
@@ -47,7 +47,7 @@ module _ {D : Type 0} (state : D → DiskState) (member : Member) (old new : Nod
   ends_written (end.Export at) h = absurd h.holds
 
 -- a write stopped
-pub stopped_writing : (s : Stop) (text : List ℕ) (before after : Stream) → AppendsFront before.bytes after.bytes text → (s ≡ outside.Failed → Rose before.faults after.faults)
+pub stopped_writing : (s : Stop) (text : List ℕ) (before after : Stream) → AppendsPrefix before.bytes after.bytes text → (s ≡ outside.Failed → Rose before.faults after.faults)
     → WritesAll text before after (end_of_writing s)
 stopped_writing outside.Failed text before after part failed = (failed refl, part)
 stopped_writing outside.OutOfMemory text before after part failed = part
@@ -55,7 +55,7 @@ stopped_writing outside.OutOfMemory text before after part failed = part
 -- ---- comparisons
 
 -- reading stopped
-pub stopped_reading : (s : Stop) (before after old : Stream) → ConsumesFront 4097 before.bytes after.bytes → (s ≡ outside.Failed → Rose before.faults after.faults)
+pub stopped_reading : (s : Stop) (before after old : Stream) → ConsumesPrefix 4097 before.bytes after.bytes → (s ≡ outside.Failed → Rose before.faults after.faults)
     → Compares before after old old (end_of_reading s)
 stopped_reading outside.Failed before after old part failed = (failed refl, part, refl)
 stopped_reading outside.OutOfMemory before after old part failed = inl (part, refl)
@@ -80,7 +80,7 @@ ends_compared before after old new (end.Export at) h = absurd h.1.3.holds
 -- ---- imports
 
 -- reading stopped
-pub map_unread : (s : Stop) (member : Member) (before after : Stream) → ConsumesFront 268435472 before.bytes after.bytes → (s ≡ outside.Failed → Rose before.faults after.faults)
+pub map_unread : (s : Stop) (member : Member) (before after : Stream) → ConsumesPrefix 268435472 before.bytes after.bytes → (s ≡ outside.Failed → Rose before.faults after.faults)
     → ReadsMap member before after (Err (end_of_reading s))
 map_unread outside.Failed member before after part failed = (failed refl, part)
 map_unread outside.OutOfMemory member before after part failed = part

@@ -7,7 +7,7 @@ use Rattle.mon_scrub.specs.Reading.{reports_at}
 use Rattle.mon_scrub.specs.declared.refusal.ReportRefused.TheVariants as report
 use Rattle.mon_scrub.specs.Text.{Fields}
 use Rattle.mon_store.specs.Pair.{NotAStore, Refusal, Stranger}
-use Rattle.mon_store.specs.Stood.{Stood, opens_as}
+use Rattle.mon_store.specs.StoreView.{StoreView, opens_as}
 use Rattle.mon_tx.specs.Map.{Store}
 use Rattle.mon_types.specs.Faults.{Rose}
 use Rattle.mon_types.specs.declared.member.Member.{Member}
@@ -56,7 +56,7 @@ NamesOther kept asked other = ⊥
 -- If the disks represent the member's store, or one is created on them, the text is written. Otherwise the end says why
 -- not.
 pub record TextCompletes (member : Member) (a b : List ℕ) (e : ToolEnd) : Type 0 where
-  pub stands : (stood : Stood) → opens_as member a b ≡ Ok stood → IsEnd end.Done e
+  pub stands : (store_view : StoreView) → opens_as member a b ≡ Ok store_view → IsEnd end.Done e
   pub refused : (refusal : Refusal) → opens_as member a b ≡ Err refusal → IsRefusal refusal e
 
 -- Two reports are compared. For other bytes of any length the end has the line at fault.

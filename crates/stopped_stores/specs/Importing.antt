@@ -3,8 +3,8 @@ use Rattle.std.specs.Prelude.{◌≡◌, ◌⊎◌, ℕ, List, Result, Ok, Err, 
 use Rattle.mon_disk.specs.Calls.{DiskState}
 use Rattle.mon_disk.specs.declared.node.NodeDisks.{NodeDisks}
 use Rattle.mon_journal.specs.Written.{owner_of}
-use Rattle.mon_link.specs.Whole.{ConsumesFront}
-use Rattle.mon_store.specs.Moments.{EachPair}
+use Rattle.mon_link.specs.Whole.{ConsumesPrefix}
+use Rattle.mon_store.specs.Times.{EachPair}
 use Rattle.mon_store.specs.Opening.{BothCount}
 use Rattle.mon_store.specs.Pair.{stands}
 use Rattle.mon_tx.specs.Map.{Store}
@@ -12,7 +12,7 @@ use Rattle.mon_types.specs.Faults.{Rose}
 use Rattle.mon_types.specs.declared.member.Member.{Member}
 use Rattle.mon_types.specs.declared.names.Side.{Side}
 use Rattle.store_tool.specs.Export.{HasExport, export_of, export_text}
-use Rattle.store_tool.specs.Import.{Answers, IfWritten, KeepThenMake, MakesTold, WhileImporting, Whole, import_calls, stop_in}
+use Rattle.store_tool.specs.Import.{Answers, IfWritten, KeepThenMake, MakesObserved, WhileImporting, Whole, import_calls, stop_in}
 use Rattle.store_tool.specs.declared.importing.ImportEnd.{ImportEnd}
 use Rattle.store_tool.specs.declared.importing.ImportEnd.TheVariants as import
 use Rattle.store_tool.specs.declared.refusal.ExportRefused.TheVariants as refused
@@ -35,12 +35,12 @@ pub record IsExportOf (member : Member) (bytes : List ℕ) : Type 0 where
 -- Reading a member's export returns its map, or the end for which there is none.
 abbrev pub ReadsMap : Member → Stream → Stream → Result Store ToolEnd → Type 0
 ReadsMap member before after (Ok m) = ReadAll MOST_EXPORT_READ before after (IsExport member m)
-ReadsMap member before after (Err end.ReadFault) = Rose before.faults after.faults × ConsumesFront MOST_EXPORT_READ before.bytes after.bytes
+ReadsMap member before after (Err end.ReadFault) = Rose before.faults after.faults × ConsumesPrefix MOST_EXPORT_READ before.bytes after.bytes
 ReadsMap member before after (Err (end.Export at)) = OfRead MOST_EXPORT_READ before after (λ bytes. export_of bytes ≡ Err (refused.At at))
 ReadsMap member before after (Err (end.Full would_be)) = OfRead MOST_EXPORT_READ before after (λ bytes. export_of bytes ≡ Err (refused.Full would_be))
 ReadsMap member before after (Err (end.Stranger kept asked)) =
     (asked ≡ member) × ¬ (owner_of kept ≡ owner_of member) × ReadAll MOST_EXPORT_READ before after (IsExportOf kept)
-ReadsMap member before after (Err end.OutOfMemory) = ConsumesFront MOST_EXPORT_READ before.bytes after.bytes
+ReadsMap member before after (Err end.OutOfMemory) = ConsumesPrefix MOST_EXPORT_READ before.bytes after.bytes
 ReadsMap member before after (Err other) = ⊥
 
 module _ {D : Type 0} (state : D → DiskState) (member : Member) (old new : NodeDisks D) where
@@ -48,15 +48,15 @@ module _ {D : Type 0} (state : D → DiskState) (member : Member) (old new : Nod
   -- disks held, two closed files, or the whole map. After Done it leaves the map.
   pub record Imports (m : Store) (e : ImportEnd) : Type 0 where
     pub answer : IfSome (state old.a).content.seen (λ a. IfSome (state old.b).content.seen (λ b. Answers a b e))
-    pub any_moment : WhileImporting member m (state old.a).content (state old.b).content (state new.a).content (state new.b).content
-    pub written : IfWritten (state old.a).told (state new.a).told
+    pub any_time : WhileImporting member m (state old.a).content (state old.b).content (state new.a).content (state new.b).content
+    pub written : IfWritten (state old.a).observed (state new.a).observed
         (KeepThenMake member m (state old.a).content (state old.b).content (state new.a).content (state new.b).content)
     pub untouched : (disk : Side) → e ≡ import.NotEmpty disk
         → ((state new.a).content.seen ≡ (state old.a).content.seen) × ((state new.b).content.seen ≡ (state old.b).content.seen)
     pub safe : e ≡ import.Done → EachPair (state new.a).content (state new.b).content (Whole member m)
     pub map : e ≡ import.Done → EachPair (state new.a).content (state new.b).content (λ c d. stands c d ≡ Ok m)
     pub calls : IfSome (state old.a).content.seen (λ a. IfSome (state old.b).content.seen
-        (λ b. MakesTold (import_calls (owner_of member) m a b) (state old.a).told (state old.b).told (state new.a).told (state new.b).told
+        (λ b. MakesObserved (import_calls (owner_of member) m a b) (state old.a).observed (state old.b).observed (state new.a).observed (state new.b).observed
         (stop_in e)))
     pub counts : BothCount (stop_in e) (state old.a) (state old.b) (state new.a) (state new.b)
 

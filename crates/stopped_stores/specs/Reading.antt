@@ -1,7 +1,7 @@
 -- What is read from a source, and the comparison of two reports.
 use Rattle.std.specs.Prelude.{◌≡◌, ◌⊎◌, ℕ, ◌≤◌, List, ◌++◌, length, Ok, Err}
 use Rattle.std.specs.Io.KnownBytes.{Appends, IsAtEnd}
-use Rattle.mon_link.specs.Whole.{AppendsFront, ConsumesFront, ReadsWhole}
+use Rattle.mon_link.specs.Whole.{AppendsPrefix, ConsumesPrefix, ReadsWhole}
 use Rattle.mon_scrub.specs.Reading.{reports_at}
 use Rattle.mon_scrub.specs.Text.{compared, fields_of, report_text}
 use Rattle.mon_scrub.specs.declared.refusal.ReportRefused.TheVariants as refused
@@ -41,9 +41,9 @@ ReadReports before after fact = ReadAll MOST_REPORTS_READ before after (HaveRepo
 abbrev pub Compares : (source_before source_after sink_before sink_after : Stream) → ToolEnd → Type 0
 Compares before after old new end.Done = ReadReports before after (λ a b. Appends old.bytes new.bytes (compared a b))
 Compares before after old new (end.Report line) = OfRead MOST_REPORTS_READ before after (λ bytes. reports_at bytes ≡ Err (refused.Report line)) × (new ≡ old)
-Compares before after old new end.ReadFault = Rose before.faults after.faults × ConsumesFront MOST_REPORTS_READ before.bytes after.bytes × (new ≡ old)
+Compares before after old new end.ReadFault = Rose before.faults after.faults × ConsumesPrefix MOST_REPORTS_READ before.bytes after.bytes × (new ≡ old)
 Compares before after old new end.WriteFault =
-    Rose old.faults new.faults × ReadReports before after (λ a b. AppendsFront old.bytes new.bytes (compared a b))
+    Rose old.faults new.faults × ReadReports before after (λ a b. AppendsPrefix old.bytes new.bytes (compared a b))
 Compares before after old new end.OutOfMemory =
-    (ConsumesFront MOST_REPORTS_READ before.bytes after.bytes × (new ≡ old)) ⊎ ReadReports before after (λ a b. AppendsFront old.bytes new.bytes (compared a b))
+    (ConsumesPrefix MOST_REPORTS_READ before.bytes after.bytes × (new ≡ old)) ⊎ ReadReports before after (λ a b. AppendsPrefix old.bytes new.bytes (compared a b))
 Compares before after old new other = ⊥

@@ -4,7 +4,7 @@ use Rattle.std.specs.Io.KnownBytes.{Appends}
 use Rattle.mon_disk.specs.Calls.{DiskState}
 use Rattle.mon_disk.specs.declared.node.NodeDisks.{NodeDisks}
 use Rattle.mon_journal.specs.Written.{owner_of}
-use Rattle.mon_link.specs.Whole.{AppendsFront}
+use Rattle.mon_link.specs.Whole.{AppendsPrefix}
 use Rattle.mon_scrub.specs.Parts.{report_of}
 use Rattle.mon_scrub.specs.Text.{report_text}
 use Rattle.mon_store.specs.declared.stop.OpenStop.{OpenStop}
@@ -35,24 +35,24 @@ text_of text.Export member m = export_text (owner_of member) m
 -- A text was written to the sink; or a prefix of it, as writing failed or memory ran out.
 abbrev pub WritesAll : List ℕ → Stream → Stream → ToolEnd → Type 0
 WritesAll text before after end.Done = Appends before.bytes after.bytes text
-WritesAll text before after end.WriteFault = Rose before.faults after.faults × AppendsFront before.bytes after.bytes text
-WritesAll text before after end.OutOfMemory = AppendsFront before.bytes after.bytes text
+WritesAll text before after end.WriteFault = Rose before.faults after.faults × AppendsPrefix before.bytes after.bytes text
+WritesAll text before after end.OutOfMemory = AppendsPrefix before.bytes after.bytes text
 WritesAll text before after other = ⊥
 
 module _ {D : Type 0} (state : D → DiskState) (member : Member) (old new : NodeDisks D) (before after : Stream) where
   -- no store was opened, for this reason, and nothing was written
-  abbrev pub Refuses : OpenStop → Type 0
-  Refuses why = Opens state member old new (Err why) × (after ≡ before)
+  abbrev pub OpensNothing : OpenStop → Type 0
+  OpensNothing why = Opens state member old new (Err why) × (after ≡ before)
 
   -- The cause of each end. The whole text of the opened store's map was written to the sink; or a prefix of it, since
   -- writing failed or memory ran out; or no store was opened.
   abbrev pub WritesText : StoreText → ToolEnd → Type 0
   WritesText what end.Done = Opened state member old new (λ m. Appends before.bytes after.bytes (text_of what member m))
   WritesText what end.WriteFault =
-      Rose before.faults after.faults × Opened state member old new (λ m. AppendsFront before.bytes after.bytes (text_of what member m))
-  WritesText what end.DiskFault = Refuses open_stop.DiskFault
-  WritesText what (end.NotAStore disk at) = Refuses (open_stop.NotAStore disk at)
-  WritesText what (end.Stranger kept asked) = Refuses (open_stop.Stranger kept asked)
+      Rose before.faults after.faults × Opened state member old new (λ m. AppendsPrefix before.bytes after.bytes (text_of what member m))
+  WritesText what end.DiskFault = OpensNothing open_stop.DiskFault
+  WritesText what (end.NotAStore disk at) = OpensNothing (open_stop.NotAStore disk at)
+  WritesText what (end.Stranger kept asked) = OpensNothing (open_stop.Stranger kept asked)
   WritesText what end.OutOfMemory =
-      Refuses open_stop.OutOfMemory ⊎ Opened state member old new (λ m. AppendsFront before.bytes after.bytes (text_of what member m))
+      OpensNothing open_stop.OutOfMemory ⊎ Opened state member old new (λ m. AppendsPrefix before.bytes after.bytes (text_of what member m))
   WritesText what other = ⊥

@@ -35,16 +35,16 @@ fn answers<D: Disk>(alloc: Global, store: &mut Store<D>) -> Result<String, Fail>
 }
 
 /// The same for a new store whose disk A fails from call number `call` on.
-fn told(alloc: Global, call: u64) -> Result<String, Fail> {
+fn outcome_of_call(alloc: Global, call: u64) -> Result<String, Fail> {
     let member = Member::new(Rank::known(0), 1).ok_or("a member")?;
     let mut a = MemoryDisk::new(alloc);
     a.upset(call.max(1), 0);
     let b = MemoryDisk::new(alloc);
     match Store::open(alloc, NodeDisks { a, b }, member) {
         Ok(mut store) => {
-            let told = answers(alloc, &mut store);
+            let outcome_of_call = answers(alloc, &mut store);
             drop(store);
-            told
+            outcome_of_call
         }
         Err(refused) => {
             drop(refused);
@@ -62,7 +62,11 @@ fn a_store_whose_disk_failed_is_broken(rt: HostRuntime) -> Result<(), Fail> {
         (12, "Ok(()) Err(DiskFault) Err(Broken) true"),
         (100, "Ok(()) Ok(()) Ok(false) false"),
     ] {
-        assert_eq!(rt; told(rt.alloc(), call)?.as_str(), wanted, "call {call}");
+        assert_eq!(rt;
+            outcome_of_call(rt.alloc(), call)?.as_str(),
+            wanted,
+            "call {call}"
+        );
     }
     Ok(())
 }

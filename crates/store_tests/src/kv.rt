@@ -68,16 +68,16 @@ fn summary(alloc: Global, kv: &Kv) -> Result<String, Fail> {
 }
 
 /// The summary of the map after a transaction on the empty map.
-fn left(alloc: Global, digits: &str) -> Result<String, Fail> {
+fn summary_after(alloc: Global, digits: &str) -> Result<String, Fail> {
     let kv = made(alloc, digits)?;
-    let told = summary(alloc, &kv);
+    let shown = summary(alloc, &kv);
     drop(kv);
-    told
+    shown
 }
 
 #[test]
 fn keys_stand_in_order_and_a_range_erases_the_numbers_in_it(rt: HostRuntime) -> Result<(), Fail> {
-    for (digits, told) in [
+    for (digits, shown) in [
         (
             FOUR,
             "kv/a monitor/boot_count paxos/1 paxos/last_committed 127 None 0",
@@ -89,13 +89,16 @@ fn keys_stand_in_order_and_a_range_erases_the_numbers_in_it(rt: HostRuntime) -> 
              Some(Pending { v: 7, pn: 201, value: [1, 0, 0, 0, 0] }) 9",
         ),
     ] {
-        assert!(rt; left(rt.alloc(), digits)?.as_str() == told, "{told}");
+        assert!(rt;
+            summary_after(rt.alloc(), digits)?.as_str() == shown,
+            "{shown}"
+        );
     }
     Ok(())
 }
 
 /// The keys of a run, and whether it reaches the end of the map.
-fn told(alloc: Global, run: &KeyRun) -> Result<String, Fail> {
+fn shown(alloc: Global, run: &KeyRun) -> Result<String, Fail> {
     let mut keys = String::new(alloc);
     for entry in run.entries.iter() {
         push_name(&mut keys, entry.prefix.as_slice(), entry.key.as_slice())?;
@@ -109,21 +112,21 @@ fn run(alloc: Global, room: usize, most: usize) -> Result<String, Fail> {
     let run = kv.chunk_from(&KeyPlace::Start, room, most);
     drop(kv);
     let run = run?;
-    let told = told(alloc, &run);
+    let shown = shown(alloc, &run);
     drop(run);
-    told
+    shown
 }
 
 #[test]
 fn a_run_of_shared_keys_stops_at_the_room_and_the_count(rt: HostRuntime) -> Result<(), Fail> {
-    for (room, most, told) in [
+    for (room, most, shown) in [
         (9usize, 9usize, "false"),
         (10, 9, "kv/a false"),
         (22, 9, "kv/a false"),
         (23, 1, "kv/a false"),
         (23, 9, "kv/a paxos/1 true"),
     ] {
-        assert!(rt; run(rt.alloc(), room, most)?.as_str() == told, "{room}");
+        assert!(rt; run(rt.alloc(), room, most)?.as_str() == shown, "{room}");
     }
     Ok(())
 }

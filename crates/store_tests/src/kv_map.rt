@@ -31,17 +31,17 @@ fn filled(alloc: Global, map: &mut KvMap, keys: &str) -> Result<String, Fail> {
 }
 
 /// The same for a new map.
-fn told(alloc: Global, keys: &str) -> Result<String, Fail> {
+fn of_new_map(alloc: Global, keys: &str) -> Result<String, Fail> {
     let mut map = KvMap::new(alloc);
-    let told = filled(alloc, &mut map, keys);
+    let of_new_map = filled(alloc, &mut map, keys);
     drop(map);
-    told
+    of_new_map
 }
 
 #[test]
 fn a_map_is_as_long_as_its_entries(rt: HostRuntime) -> Result<(), Fail> {
     for (keys, wanted) in [("", "4 ."), ("ab", "131088 b"), ("ecadb", "327714 b")] {
-        assert_eq!(rt; told(rt.alloc(), keys)?.as_str(), wanted, "{keys}");
+        assert_eq!(rt; of_new_map(rt.alloc(), keys)?.as_str(), wanted, "{keys}");
     }
     Ok(())
 }

@@ -57,7 +57,7 @@ fn of_transaction(alloc: Global, bytes: &[u8]) -> Result<String, Fail> {
         Ok(tx) => {
             let again = tx.encode();
             drop(tx);
-            told(alloc, again?, bytes)
+            encoded_again(alloc, again?, bytes)
         }
         Err(refused) => Ok(format!(in alloc; "{refused:?}")?),
     }
@@ -68,7 +68,7 @@ fn of_change(alloc: Global, bytes: &[u8]) -> Result<String, Fail> {
         Ok(change) => {
             let again = change.encode(alloc);
             drop(change);
-            told(alloc, again?, bytes)
+            encoded_again(alloc, again?, bytes)
         }
         Err(refused) => Ok(format!(in alloc; "{refused:?}")?),
     }
@@ -79,7 +79,7 @@ fn of_map(alloc: Global, bytes: &[u8]) -> Result<String, Fail> {
         Ok(map) => {
             let again = map.encode();
             drop(map);
-            told(alloc, again?, bytes)
+            encoded_again(alloc, again?, bytes)
         }
         Err(refused) => Ok(format!(in alloc; "{refused:?}")?),
     }
@@ -90,14 +90,14 @@ fn of_log(alloc: Global, bytes: &[u8]) -> Result<String, Fail> {
         Ok(map) => {
             let again = map.encode();
             drop(map);
-            told(alloc, again?, bytes)
+            encoded_again(alloc, again?, bytes)
         }
         Err(refused) => Ok(format!(in alloc; "{refused:?}")?),
     }
 }
 
 /// The outcome for decoded bytes: `read` if encoding them gave the same bytes again.
-fn told(alloc: Global, again: Vec<u8>, bytes: &[u8]) -> Result<String, Fail> {
+fn encoded_again(alloc: Global, again: Vec<u8>, bytes: &[u8]) -> Result<String, Fail> {
     let alike = again.as_slice() == bytes;
     drop(again);
     Ok(String::from_str(alloc, if alike { "read" } else { "spelled otherwise" })?)
@@ -118,7 +118,7 @@ fn outcome(alloc: Global, what: &str, digits: &str) -> Result<String, Fail> {
 }
 
 /// Whether a row's outcome is the one that it names.
-fn is_told(alloc: Global, row: &str) -> Result<bool, Fail> {
+fn is_as_stated(alloc: Global, row: &str) -> Result<bool, Fail> {
     let mut words = row.splitn(3, ' ');
     let (what, digits) = (words.next().unwrap_or(""), words.next().unwrap_or(""));
     let outcome = outcome(alloc, what, digits)?;
@@ -126,9 +126,9 @@ fn is_told(alloc: Global, row: &str) -> Result<bool, Fail> {
 }
 
 #[test]
-fn bytes_are_spelled_again_or_refused_at_their_first_fault(rt: HostRuntime) -> Result<(), Fail> {
+fn bytes_are_encoded_again_or_refused_at_their_first_fault(rt: HostRuntime) -> Result<(), Fail> {
     for row in ROWS.lines() {
-        assert!(rt; is_told(rt.alloc(), row)?, "{row}");
+        assert!(rt; is_as_stated(rt.alloc(), row)?, "{row}");
     }
     Ok(())
 }

@@ -7,7 +7,7 @@ use Rattle.std.proofs.lemmas.Bool.Decides.{nat_tests}
 use Rattle.std.proofs.Math.ListN.{length-append}
 use Rattle.mon_bytes.specs.declared.command.MapRefused.{MapRefused}
 use Rattle.mon_bytes.specs.declared.command.MapRefused.TheVariants as map
-use Rattle.mon_bytes.specs.Reading.{IsBytes, Reading, front}
+use Rattle.mon_bytes.specs.Reading.{IsBytes, Reading, next_bytes}
 use Rattle.mon_bytes.specs.Forms.{◌>>=◌, fitted}
 use Rattle.mon_bytes.proofs.Fields.{guard_ok, chosen_ok, ok_is, Takes, Found, front_takes, front_found}
 use Rattle.mon_bytes.proofs.Forms.{bind_ok, fitted_ok}
@@ -18,7 +18,7 @@ use Rattle.mon_types.specs.declared.member.Member.{Member}
 use Rattle.mon_journal.specs.Fields.{Owner, owner_at}
 use Rattle.mon_journal.specs.declared.stop.JournalStop.{JournalStop}
 use Rattle.mon_journal.proofs.Headers.{owner_again}
-use Rattle.mon_journal.proofs.Spells.{owner_takes}
+use Rattle.mon_journal.proofs.Encodes.{owner_takes}
 use Rattle.mon_journal.specs.Written.{owner_of}
 use Rattle.mon_store.specs.Checkpoint.{checkpoint_text, HasCheckpoint}
 use Rattle.mon_store.specs.Decode.{checkpoint_of}
@@ -61,9 +61,9 @@ export_again owner m h =
 word_takes : (c : Reading) (x : List ℕ × Reading) → IsBytes c.rest → word_at c ≡ Ok x → Takes c export_word x.1
 unfolding word_at
 word_takes c x fits e =
-    let a = bind_ok (fitted (front 8 c)) (λ word. cond (bytes_eq word.0 export_word) (Ok word) (Err (map.Form c.at))) x e in
+    let a = bind_ok (fitted (next_bytes 8 c)) (λ word. cond (bytes_eq word.0 export_word) (Ok word) (Err (map.Form c.at))) x e in
     let g = chosen_ok (bytes_eq a.0.0 export_word) (map.Form c.at) (Ok a.0) x a.2 in
-    let t = front_takes 8 c a.0 fits (fitted_ok (front 8 c) a.0 a.1) in
+    let t = front_takes 8 c a.0 fits (fitted_ok (next_bytes 8 c) a.0 a.1) in
     let is : a.0.0 ≡ export_word = (bytes_decides a.0.0 export_word).0 g.0 in
     subst (λ (p : List ℕ × Reading). Takes c export_word p.1) (ok_is a.0 x g.1) (subst (λ (w : List ℕ). Takes c w a.0.1) is t.0)
 

@@ -5,7 +5,7 @@ use Rattle.mon_types.specs.declared.names.Side.TheVariants.{A}
 use Rattle.mon_types.specs.declared.names.Stop.{Stop}
 use Rattle.mon_types.specs.declared.member.Member.{Member}
 use Rattle.std.proofs.lemmas.Bool.{le-ltb}
-use Rattle.mon_disk.specs.Calls.{Told}
+use Rattle.mon_disk.specs.Calls.{Observed}
 use Rattle.mon_disk.specs.Images.{Content, images, Only, LeavesOnly}
 use Rattle.mon_disk.proofs.Following.{now, then_more}
 use Rattle.mon_tx.specs.Map.{Store}
@@ -60,7 +60,7 @@ module _ (member : Member) (m : Store) (size : size_of m ≤ most_size) where
       kept = λ t c le left. l.kept t c (omega (arith, le, k.a.later)) (k.a.kept t c le left);
     };
     b = k.b;
-    synced = a1.moment;
+    synced = a1.time;
     from = k.a.later;
     to = l.later;
     before = λ t c low high left. k.a.each t c low high (l.past t c high left);
@@ -87,9 +87,9 @@ looked_then member m a b a1 b1 a2 b2 k l = record {
   to = l.to;
   before = λ t c low high left.
       ⊎_elim
-      (λ (early : t ≤ a1.moment). k.a.each t c low early (l.a.past t c early left))
-      (λ (late : a1.moment ≤ t). now a a1 (images a) k.a c (l.before t c late high left))
-      (le_or_ge t a1.moment);
+      (λ (early : t ≤ a1.time). k.a.each t c low early (l.a.past t c early left))
+      (λ (late : a1.time ≤ t). now a a1 (images a) k.a c (l.before t c late high left))
+      (le_or_ge t a1.time);
   later = l.later;
 }
 
@@ -99,24 +99,24 @@ looked member m a b a1 b1 a2 b2 k (inr l) = inr (looked_then member m a b a1 b1 
 
 -- ---- whether a write was begun
 
-pub if_written : (old new : Option Told) (P : Type 0) → P → IfWritten old new P
+pub if_written : (old new : Option Observed) (P : Type 0) → P → IfWritten old new P
 if_written None new P p = tt
 if_written (Some s) None P p = tt
 if_written (Some s) (Some t) P p = λ more. p
 
-pub none_written : (old new : Option Told) (P : Type 0) → new ≡ old → IfWritten old new P
-none_written old new P same = subst (λ (t : Option Told). IfWritten old t P) (sym same) (by old)
+pub none_written : (old new : Option Observed) (P : Type 0) → new ≡ old → IfWritten old new P
+none_written old new P same = subst (λ (t : Option Observed). IfWritten old t P) (sym same) (by old)
   where
-    by : (s : Option Told) → IfWritten s s P
+    by : (s : Option Observed) → IfWritten s s P
     by None = tt
     by (Some s) = λ more.
         let few : ltb (length s.made + 1) (length s.made) ≡ false = le-ltb _ _ (omega arith) in
         absurd cc
 
-pub then_written : (old mid new : Option Told) (P Q : Type 0) → mid ≡ old → (P → Q) → IfWritten mid new P → IfWritten old new Q
-then_written old mid new P Q same h w = by old new (subst (λ (t : Option Told). IfWritten t new P) same w)
+pub then_written : (old mid new : Option Observed) (P Q : Type 0) → mid ≡ old → (P → Q) → IfWritten mid new P → IfWritten old new Q
+then_written old mid new P Q same h w = by old new (subst (λ (t : Option Observed). IfWritten t new P) same w)
   where
-    by : (s t : Option Told) → IfWritten s t P → IfWritten s t Q
+    by : (s t : Option Observed) → IfWritten s t P → IfWritten s t Q
     by None t w = tt
     by (Some s) None w = tt
     by (Some s) (Some t) w = λ more. h (w more)

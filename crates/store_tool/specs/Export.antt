@@ -3,7 +3,7 @@ use Rattle.std.specs.Prelude.{ℕ, ◌≤◌, ◌<◌, ◌++◌, ◌∷◌, Bool
 use Rattle.std.specs.Str.{bytes_eq}
 use Rattle.mon_bytes.specs.declared.command.MapRefused.{MapRefused}
 use Rattle.mon_bytes.specs.declared.command.MapRefused.TheVariants as map
-use Rattle.mon_bytes.specs.Reading.{Reading, front}
+use Rattle.mon_bytes.specs.Reading.{Reading, next_bytes}
 use Rattle.mon_bytes.specs.Forms.{◌>>=◌, fitted}
 use Rattle.mon_bytes.specs.Answers as answers
 use Rattle.mon_tx.specs.Map.{Store}
@@ -35,7 +35,7 @@ pub record HasExport (owner : Owner) (m : Store) : Type 0 where
 
 unfoldable pub word_at : Reading → Result (List ℕ × Reading) MapRefused
 word_at c = do
-  word ← fitted (front 8 c)
+  word ← fitted (next_bytes 8 c)
   if bytes_eq word.0 export_word then Ok word else Err (map.Form c.at)
 
 -- The rank and the number of monitors are read as in the header of a store's file, with their fault at its place. Their

@@ -8,7 +8,7 @@ use Rattle.mon_types.specs.declared.member.Member.{Member}
 use Rattle.mon_disk.specs.declared.disk.DiskCall.{DiskCall}
 use Rattle.mon_disk.specs.declared.disk.DiskCall.TheVariants.{Sync}
 use Rattle.mon_disk.specs.Images.{Content, images, LeavesOnly}
-use Rattle.mon_disk.specs.Calls.{Told, fails_next}
+use Rattle.mon_disk.specs.Calls.{Observed, fails_next}
 use Rattle.mon_tx.specs.Map.{Store}
 use Rattle.mon_journal.specs.declared.journal.Journal.{Journal}
 use Rattle.mon_journal.specs.Content.{content}
@@ -16,7 +16,7 @@ use Rattle.mon_journal.specs.Fields.{Owner}
 use Rattle.mon_journal.specs.Written.{created}
 use Rattle.mon_journal.specs.Steps.{create_calls, made_more}
 use Rattle.mon_store.specs.Checkpoint.{checkpoint_text}
-use Rattle.mon_store.specs.Moments.{Lasts}
+use Rattle.mon_store.specs.Times.{Lasts}
 use Rattle.mon_store.specs.OpeningCalls.{calls_on, called_a, called_b}
 use Rattle.mon_store.specs.Sound.{of_live, StandsOn}
 use Rattle.store_tool.specs.declared.importing.ImportEnd.{ImportEnd}
@@ -67,16 +67,16 @@ pub record KeepThenMake (member : Member) (m : Store) (old_a old_b new_a new_b :
   pub a : Lasts old_a new_a
   pub b : LeavesOnly old_b new_b (images old_b)
   pub synced : ℕ
-  pub from : old_a.moment ≤ synced
-  pub to : synced ≤ new_a.moment
-  pub before : (t : ℕ) (c : List ℕ) → old_a.moment ≤ t → t ≤ synced → new_a.images_at t c → images old_a c
-  pub later : (t : ℕ) (c d : List ℕ) → synced ≤ t → t ≤ new_a.moment → new_a.images_at t c → images new_b d → ClosedOrWhole member m c d
+  pub from : old_a.time ≤ synced
+  pub to : synced ≤ new_a.time
+  pub before : (t : ℕ) (c : List ℕ) → old_a.time ≤ t → t ≤ synced → new_a.images_at t c → images old_a c
+  pub later : (t : ℕ) (c d : List ℕ) → synced ≤ t → t ≤ new_a.time → new_a.images_at t c → images new_b d → ClosedOrWhole member m c d
 
 abbrev pub WhileImporting : Member → Store → Content → Content → Content → Content → Type 0
 WhileImporting member m old_a old_b new_a new_b = BothKeep old_a old_b new_a new_b ⊎ KeepThenMake member m old_a old_b new_a new_b
 
 -- P holds if disk A reports that more than one call was made on it, so a write was begun
-abbrev pub IfWritten : Option Told → Option Told → Type 0 → Type 0
+abbrev pub IfWritten : Option Observed → Option Observed → Type 0 → Type 0
 IfWritten old new P = IfSome old (λ s. IfSome new (λ t. made_more 1 s t ≡ true → P))
 
 -- ---- which writes and syncs are made
@@ -95,7 +95,7 @@ import_calls owner m a b = unless_filled (filled a b) (making_calls owner m)
 
 -- Which of these calls were made, in this order, on two disks that report their calls: each of them, if none failed; or
 -- those up to the first that failed, and then the stop is Failed; or those before memory ran out.
-abbrev pub MakesOn : List (Side × DiskCall) → Option Told → Option Told → Option Told → Option Told → Option Stop → Type 0
+abbrev pub MakesOn : List (Side × DiskCall) → Option Observed → Option Observed → Option Observed → Option Observed → Option Stop → Type 0
 MakesOn [] a b new_a new_b stop = (new_a ≡ a) × (new_b ≡ b) × (stop ≡ Some disk_stop.Failed → ⊥)
 MakesOn ((side, call) ∷ calls) a b new_a new_b stop =
     ((stop ≡ Some disk_stop.OutOfMemory) × (new_a ≡ a) × (new_b ≡ b))
@@ -103,5 +103,5 @@ MakesOn ((side, call) ∷ calls) a b new_a new_b stop =
     ⊎ (IfSome (of_live side a b) (λ t. fails_next t ≡ false) × MakesOn calls (called_a side call a) (called_b side call b) new_a new_b stop)
 
 -- the same, if both disks report their calls
-abbrev pub MakesTold : List (Side × DiskCall) → Option Told → Option Told → Option Told → Option Told → Option Stop → Type 0
-MakesTold calls a b new_a new_b stop = IfSome a (λ s. IfSome b (λ t. MakesOn calls a b new_a new_b stop))
+abbrev pub MakesObserved : List (Side × DiskCall) → Option Observed → Option Observed → Option Observed → Option Observed → Option Stop → Type 0
+MakesObserved calls a b new_a new_b stop = IfSome a (λ s. IfSome b (λ t. MakesOn calls a b new_a new_b stop))

@@ -4,10 +4,10 @@ ghost use Rattle.std.specs.Prelude.{◌≡◌, ◌≤◌, ℕ, List, Ok, is_some
 ghost use Rattle.mon_kv.specs.Readers.{size_of, most_size};
 ghost use Rattle.mon_types.specs.declared.names.Side.{Side};
 ghost use Rattle.mon_journal.specs.Written.{owner_of};
-ghost use Rattle.mon_store.specs.Moments.{EachPair};
+ghost use Rattle.mon_store.specs.Times.{EachPair};
 ghost use Rattle.mon_store.specs.Opening.{BothCount};
 ghost use Rattle.mon_store.specs.Pair.{stands};
-ghost use Rattle.store_tool.specs.Import.{Answers, stop_in, Whole, KeepThenMake, WhileImporting, IfWritten, import_calls, MakesTold};
+ghost use Rattle.store_tool.specs.Import.{Answers, stop_in, Whole, KeepThenMake, WhileImporting, IfWritten, import_calls, MakesObserved};
 
 use crate::making::{filled, make_both};
 use mon_disk::{Disk, NodeDisks};
@@ -48,21 +48,22 @@ fn import_on<D: Disk>(alloc: Global, a: &mut D, b: &mut D, member: Member, kv: &
     requires { size_of kv.now ≤ most_size }
     ensures answer { IfSome (D.state a.old).content.seen
         (λ x. IfSome (D.state b.old).content.seen (λ y. Answers x y result)) }
-    ensures any_moment { WhileImporting member kv.now (D.state a.old).content (D.state b.old).content
+    ensures any_time { WhileImporting member kv.now (D.state a.old).content (D.state b.old).content
         (D.state a.new).content (D.state b.new).content }
-    ensures written { IfWritten (D.state a.old).told (D.state a.new).told (KeepThenMake member kv.now
+    ensures written { IfWritten (D.state a.old).observed (D.state a.new).observed (KeepThenMake member kv.now
         (D.state a.old).content (D.state b.old).content (D.state a.new).content (D.state b.new).content) }
     ensures untouched { (disk : Side) → result ≡ ImportEnd.NotEmpty disk
         → ((D.state a.new).content.seen ≡ (D.state a.old).content.seen)
         × ((D.state b.new).content.seen ≡ (D.state b.old).content.seen) }
     ensures safe { result ≡ ImportEnd.Done
         → EachPair (D.state a.new).content (D.state b.new).content (Whole member kv.now) }
-    ensures a_tells { is_some (D.state a.new).content.seen ≡ is_some (D.state a.old).content.seen }
-    ensures b_tells { is_some (D.state b.new).content.seen ≡ is_some (D.state b.old).content.seen }
+    ensures a_visible { is_some (D.state a.new).content.seen ≡ is_some (D.state a.old).content.seen }
+    ensures b_visible { is_some (D.state b.new).content.seen ≡ is_some (D.state b.old).content.seen }
     ensures calls { IfSome (D.state a.old).content.seen
         (λ x. IfSome (D.state b.old).content.seen
-        (λ y. MakesTold (import_calls (owner_of member) kv.now x y) (D.state a.old).told (D.state b.old).told
-        (D.state a.new).told (D.state b.new).told (stop_in result))) }
+        (λ y. MakesObserved (import_calls (owner_of member) kv.now x y) (D.state a.old).observed
+        (D.state b.old).observed
+        (D.state a.new).observed (D.state b.new).observed (stop_in result))) }
     ensures counts { BothCount (stop_in result) (D.state a.old) (D.state b.old) (D.state a.new) (D.state b.new) }
 {
     match filled(a, b) {
@@ -86,11 +87,11 @@ pub fn import<D: Disk>(alloc: Global, disks: NodeDisks<D>, member: Member, kv: &
 
     // Until both disks were synced, a crash leaves on each what it might have left before the call. From then on it
     // leaves two closed files, or the store of the whole map.
-    ensures any_moment { WhileImporting member kv.now (D.state disks.a).content (D.state disks.b).content
+    ensures any_time { WhileImporting member kv.now (D.state disks.a).content (D.state disks.b).content
         (D.state result.disks.a).content (D.state result.disks.b).content }
 
     // If more than one call was made on disk A, both disks were synced before.
-    ensures written { IfWritten (D.state disks.a).told (D.state result.disks.a).told (KeepThenMake member kv.now
+    ensures written { IfWritten (D.state disks.a).observed (D.state result.disks.a).observed (KeepThenMake member kv.now
         (D.state disks.a).content (D.state disks.b).content (D.state result.disks.a).content
         (D.state result.disks.b).content) }
 
@@ -106,14 +107,15 @@ pub fn import<D: Disk>(alloc: Global, disks: NodeDisks<D>, member: Member, kv: &
         → EachPair (D.state result.disks.a).content (D.state result.disks.b).content
         (λ c d. stands c d ≡ Ok kv.now) }
 
-    ensures a_tells { is_some (D.state result.disks.a).content.seen ≡ is_some (D.state disks.a).content.seen }
-    ensures b_tells { is_some (D.state result.disks.b).content.seen ≡ is_some (D.state disks.b).content.seen }
+    ensures a_visible { is_some (D.state result.disks.a).content.seen ≡ is_some (D.state disks.a).content.seen }
+    ensures b_visible { is_some (D.state result.disks.b).content.seen ≡ is_some (D.state disks.b).content.seen }
 
     // Which writes and syncs were made on the two disks, and what they counted.
     ensures calls { IfSome (D.state disks.a).content.seen
         (λ x. IfSome (D.state disks.b).content.seen
-        (λ y. MakesTold (import_calls (owner_of member) kv.now x y) (D.state disks.a).told (D.state disks.b).told
-        (D.state result.disks.a).told (D.state result.disks.b).told (stop_in result.end))) }
+        (λ y. MakesObserved (import_calls (owner_of member) kv.now x y) (D.state disks.a).observed
+        (D.state disks.b).observed
+        (D.state result.disks.a).observed (D.state result.disks.b).observed (stop_in result.end))) }
     ensures counts { BothCount (stop_in result.end) (D.state disks.a) (D.state disks.b) (D.state result.disks.a)
         (D.state result.disks.b) }
 {

@@ -12,10 +12,10 @@ ghost use Rattle.mon_journal.specs.Written.{owner_of};
 ghost use Rattle.mon_journal.specs.declared.journal.Journal.{Journal};
 ghost use Rattle.mon_journal.specs.Steps.{Keeps, create_calls, made_more, stop_in, IsOutside};
 ghost use Rattle.mon_store.specs.Checkpoint.{checkpoint_text, HasCheckpoint};
-ghost use Rattle.mon_store.specs.Moments.{EachPair};
+ghost use Rattle.mon_store.specs.Times.{EachPair};
 ghost use Rattle.mon_store.specs.Opening.{BothCount};
 ghost use Rattle.mon_store.specs.Sound.{Begins};
-ghost use Rattle.store_tool.specs.Import.{filled, imported, Whole, BothKeep, KeepThenMake, WhileImporting, IfWritten, making_calls, MakesTold};
+ghost use Rattle.store_tool.specs.Import.{filled, imported, Whole, BothKeep, KeepThenMake, WhileImporting, IfWritten, making_calls, MakesObserved};
 
 use mon_disk::Disk;
 use mon_journal::{JournalStop, restart};
@@ -41,12 +41,13 @@ pub(crate) fn filled<D: Disk>(a: &mut D, b: &mut D) -> Result<Option<Side>, Stop
         (λ x. IfSome (D.state b.old).content.seen (λ y. side ≡ filled x y))) }
     ensures empty_a { IfOk result (λ side. side ≡ None → IfSome (D.state a.old).content.seen (λ x. x ≡ [])) }
     ensures empty_b { IfOk result (λ side. side ≡ None → IfSome (D.state b.old).content.seen (λ y. y ≡ [])) }
-    ensures told_a { (D.state a.new).told ≡ (D.state a.old).told }
+    ensures observed_a { (D.state a.new).observed ≡ (D.state a.old).observed }
     ensures seen_a { (D.state a.new).content.seen ≡ (D.state a.old).content.seen }
     ensures seen_b { (D.state b.new).content.seen ≡ (D.state b.old).content.seen }
-    ensures any_moment { BothKeep (D.state a.old).content (D.state b.old).content (D.state a.new).content
+    ensures any_time { BothKeep (D.state a.old).content (D.state b.old).content (D.state a.new).content
         (D.state b.new).content }
-    ensures calls { MakesTold [] (D.state a.old).told (D.state b.old).told (D.state a.new).told (D.state b.new).told
+    ensures calls { MakesObserved [] (D.state a.old).observed (D.state b.old).observed (D.state a.new).observed
+        (D.state b.new).observed
         (result_err result) }
     ensures counts { BothCount (result_err result) (D.state a.old) (D.state b.old) (D.state a.new) (D.state b.new) }
 {
@@ -64,13 +65,14 @@ fn sync_both<D: Disk>(a: &mut D, b: &mut D) -> Result<(), Stop>
     ensures only_b { OnOk result (Only (D.state b.new).content) }
     ensures seen_a { OnOk result ((D.state a.new).content.seen ≡ (D.state a.old).content.seen) }
     ensures seen_b { OnOk result ((D.state b.new).content.seen ≡ (D.state b.old).content.seen) }
-    ensures a_tells { is_some (D.state a.new).content.seen ≡ is_some (D.state a.old).content.seen }
-    ensures b_tells { is_some (D.state b.new).content.seen ≡ is_some (D.state b.old).content.seen }
-    ensures any_moment { BothKeep (D.state a.old).content (D.state b.old).content (D.state a.new).content
+    ensures a_visible { is_some (D.state a.new).content.seen ≡ is_some (D.state a.old).content.seen }
+    ensures b_visible { is_some (D.state b.new).content.seen ≡ is_some (D.state b.old).content.seen }
+    ensures any_time { BothKeep (D.state a.old).content (D.state b.old).content (D.state a.new).content
         (D.state b.new).content }
-    ensures few { IfSome (D.state a.old).told (λ s. IfSome (D.state a.new).told (λ t. made_more 1 s t ≡ false)) }
-    ensures calls { MakesTold ((A, Sync) ∷ (B, Sync) ∷ []) (D.state a.old).told (D.state b.old).told
-        (D.state a.new).told (D.state b.new).told (result_err result) }
+    ensures few { IfSome (D.state a.old).observed
+        (λ s. IfSome (D.state a.new).observed (λ t. made_more 1 s t ≡ false)) }
+    ensures calls { MakesObserved ((A, Sync) ∷ (B, Sync) ∷ []) (D.state a.old).observed (D.state b.old).observed
+        (D.state a.new).observed (D.state b.new).observed (result_err result) }
     ensures counts { BothCount (result_err result) (D.state a.old) (D.state b.old) (D.state a.new) (D.state b.new) }
 {
     a.sync()?;
@@ -120,15 +122,16 @@ pub(crate) fn make_both<D: Disk>(
     requires size { size_of kv.now ≤ most_size }
     requires empty_a { IfSome (D.state a.old).content.seen (λ x. x ≡ []) }
     requires empty_b { IfSome (D.state b.old).content.seen (λ y. y ≡ []) }
-    ensures any_moment { WhileImporting member kv.now (D.state a.old).content (D.state b.old).content
+    ensures any_time { WhileImporting member kv.now (D.state a.old).content (D.state b.old).content
         (D.state a.new).content (D.state b.new).content }
-    ensures written { IfWritten (D.state a.old).told (D.state a.new).told (KeepThenMake member kv.now
+    ensures written { IfWritten (D.state a.old).observed (D.state a.new).observed (KeepThenMake member kv.now
         (D.state a.old).content (D.state b.old).content (D.state a.new).content (D.state b.new).content) }
     ensures safe { OnOk result (EachPair (D.state a.new).content (D.state b.new).content (Whole member kv.now)) }
-    ensures a_tells { is_some (D.state a.new).content.seen ≡ is_some (D.state a.old).content.seen }
-    ensures b_tells { is_some (D.state b.new).content.seen ≡ is_some (D.state b.old).content.seen }
-    ensures calls { MakesTold (making_calls (owner_of member) kv.now) (D.state a.old).told (D.state b.old).told
-        (D.state a.new).told (D.state b.new).told (result_err result) }
+    ensures a_visible { is_some (D.state a.new).content.seen ≡ is_some (D.state a.old).content.seen }
+    ensures b_visible { is_some (D.state b.new).content.seen ≡ is_some (D.state b.old).content.seen }
+    ensures calls { MakesObserved (making_calls (owner_of member) kv.now) (D.state a.old).observed
+        (D.state b.old).observed
+        (D.state a.new).observed (D.state b.new).observed (result_err result) }
     ensures counts { BothCount (result_err result) (D.state a.old) (D.state b.old) (D.state a.new) (D.state b.new) }
 {
     sync_both(a, b)?;

@@ -8,14 +8,14 @@ use Rattle.mon_tx.specs.declared.key.Key.{Key}
 use Rattle.mon_tx.specs.declared.key.Key.TheVariants as key
 use Rattle.mon_tx.specs.declared.op.Op.{Op}
 use Rattle.mon_tx.specs.declared.op.Op.TheVariants.{Put}
-use Rattle.mon_msg.specs.Protocol.Maps.{empty_map, next_map, spelled_map}
+use Rattle.mon_msg.specs.Protocol.Maps.{empty_map, next_map, decoded_map}
 use Rattle.mon_msg.specs.Protocol.Services.{service_last, full_latest, full_map, read_on, read_map}
 use Rattle.mon_msg.specs.Protocol.Readings.{Readings, readings_of}
 use Rattle.mon_msg.specs.Puts.{area_of}
 use Rattle.mon_wire.specs.declared.reply.ShownMap.{ShownMap}
 use Rattle.mon_wire.specs.declared.request.Service.{Service}
 use Rattle.svc_core.specs.Onward.{step_at, goes_on, reaches_last}
-use Rattle.svc_core.specs.declared.turn.Turn.{Turn}
+use Rattle.svc_core.specs.declared.progress.Progress.{Progress}
 use Rattle.svc_core.proofs.Onwards.{read-none, read-some, goes-none, goes-some}
 use Rattle.svc_core.proofs.Rows.{prefix_of, row_stays, row_put}
 use Rattle.svc_core.proofs.Starts.{read-full, reaches-full, read-empty, reaches-empty}
@@ -24,7 +24,7 @@ use Rattle.svc_core.proofs.Starts.{read-full, reaches-full, read-empty, reaches-
 
 -- the full map that a reading begins with, if there is one
 abbrev pub base : Readings → Service → Option ShownMap
-base w s = option_and_then (spelled_map s) (w.row s (key.Full (full_latest w s)))
+base w s = option_and_then (decoded_map s) (w.row s (key.Full (full_latest w s)))
 
 abbrev pub read_from : Readings → Service → ℕ → Option ShownMap → ShownMap
 read_from w s n None = read_on w s n 1 (empty_map s)
@@ -85,7 +85,7 @@ module _ (w x : Readings) (s : Service) (n : ℕ) (h : Agrees w x s n) where
   same_latest = ap number_in h.latest
 
   same_base : base x s ≡ base w s
-  same_base = ap (λ (v : ℕ). option_and_then (spelled_map s) (x.row s (key.Full v))) same_latest ∙ ap (option_and_then (spelled_map s)) (h.full (full_latest w s))
+  same_base = ap (λ (v : ℕ). option_and_then (decoded_map s) (x.row s (key.Full v))) same_latest ∙ ap (option_and_then (decoded_map s)) (h.full (full_latest w s))
 
   same_read : full_latest w s ≤ n → read_from x s n (base x s) ≡ read_from w s n (base w s)
   same_read le = ap (read_from x s n) same_base ∙ by (base w s)
@@ -139,38 +139,38 @@ module _ (w : Readings) (s : Service) where
 
 -- ---- what store an iteration represents
 
-pub record StandsFor (w : Readings) (s : Service) (t : Turn) : Type 0 where
+pub record IsMapAfter (w : Readings) (s : Service) (t : Progress) : Type 0 where
   pub read : read_from w s t.version (base w s) ≡ t.map
   pub goes : goes_from w s t.version (base w s) ≡ true
   pub not_newer : full_latest w s ≤ t.version
-  pub told : t.told ≡ true → service_last w s ≡ t.version
+  pub version_written : t.version_written ≡ true → service_last w s ≡ t.version
 
-stands : (w x : Readings) (s : Service) (t : Turn) → Agrees w x s t.version → x.row s key.LastCommitted ≡ w.row s key.LastCommitted → StandsFor w s t → StandsFor x s t
+stands : (w x : Readings) (s : Service) (t : Progress) → Agrees w x s t.version → x.row s key.LastCommitted ≡ w.row s key.LastCommitted → IsMapAfter w s t → IsMapAfter x s t
 stands w x s t a last h = record {
   read = same_read w x s t.version a h.not_newer ∙ h.read;
   goes = same_goes w x s t.version a h.not_newer ∙ h.goes;
   not_newer = let l = same_latest w x s t.version a in rw l h.not_newer;
-  told = λ e. ap number_in last ∙ h.told e;
+  version_written = λ e. ap number_in last ∙ h.version_written e;
 }
 
 -- a change of another prefix
-pub unchanged : (op : Op) (m : Store) (s : Service) (t : Turn) → bytes_eq (prefix_of op) (area_text (area_of s)) ≡ false → StandsFor (readings_of m) s t → StandsFor (readings_of (apply_op op m)) s t
+pub unchanged : (op : Op) (m : Store) (s : Service) (t : Progress) → bytes_eq (prefix_of op) (area_text (area_of s)) ≡ false → IsMapAfter (readings_of m) s t → IsMapAfter (readings_of (apply_op op m)) s t
 unchanged op m s t e h =
     stands (readings_of m) (readings_of (apply_op op m)) s t
     (record { latest = row_stays op m s key.FullLatest e; full = λ v. row_stays op m s (key.Full v) e; version = λ v le. row_stays op m s (key.Version v) e })
     (row_stays op m s key.LastCommitted e) h
 
-module _ (m : Store) (s : Service) (value : List ℕ) (t : Turn) (h : StandsFor (readings_of m) s t) where
+module _ (m : Store) (s : Service) (value : List ℕ) (t : Progress) (h : IsMapAfter (readings_of m) s t) where
   abbrev with_put : Key → Readings
   with_put k = readings_of (apply_op (Put (area_text (area_of s)) (key_text k) value) m)
 
-  pub first_put : StandsFor (with_put key.FirstCommitted) s t
+  pub first_put : IsMapAfter (with_put key.FirstCommitted) s t
   first_put =
       stands (readings_of m) (with_put key.FirstCommitted) s t
       (record { latest = row_put m s key.FirstCommitted value key.FullLatest; full = λ v. row_put m s key.FirstCommitted value (key.Full v); version = λ v le. row_put m s key.FirstCommitted value (key.Version v) })
       (row_put m s key.FirstCommitted value key.LastCommitted) h
 
-  pub last_put : number_in (Some value) ≡ t.version → StandsFor (with_put key.LastCommitted) s (record { version = t.version; map = t.map; told = true })
+  pub last_put : number_in (Some value) ≡ t.version → IsMapAfter (with_put key.LastCommitted) s (record { version = t.version; map = t.map; version_written = true })
   last_put e =
       let a : Agrees (readings_of m) (with_put key.LastCommitted) s t.version =
       record { latest = row_put m s key.LastCommitted value key.FullLatest; full = λ v. row_put m s key.LastCommitted value (key.Full v); version = λ v le. row_put m s key.LastCommitted value (key.Version v) } in
@@ -178,10 +178,10 @@ module _ (m : Store) (s : Service) (value : List ℕ) (t : Turn) (h : StandsFor 
         read = same_read (readings_of m) (with_put key.LastCommitted) s t.version a h.not_newer ∙ h.read;
         goes = same_goes (readings_of m) (with_put key.LastCommitted) s t.version a h.not_newer ∙ h.goes;
         not_newer = let l = same_latest (readings_of m) (with_put key.LastCommitted) s t.version a in rw l h.not_newer;
-        told = λ _. ap number_in (row_put m s key.LastCommitted value key.LastCommitted) ∙ e;
+        version_written = λ _. ap number_in (row_put m s key.LastCommitted value key.LastCommitted) ∙ e;
       }
 
-  pub version_put : (next : ShownMap) → next_map s t.map value ≡ Some next → StandsFor (with_put (key.Version (suc t.version))) s (record { version = suc t.version; map = next; told = false })
+  pub version_put : (next : ShownMap) → next_map s t.map value ≡ Some next → IsMapAfter (with_put (key.Version (suc t.version))) s (record { version = suc t.version; map = next; version_written = false })
   version_put next e =
       let k = key.Version (suc t.version) in
       let x = with_put k in
@@ -193,4 +193,4 @@ module _ (m : Store) (s : Service) (value : List ℕ) (t : Turn) (h : StandsFor 
       let le : full_latest x s ≤ t.version = rw l h.not_newer in
       let step : step_at x s (suc t.version) t.map ≡ Some next = ap (option_and_then (next_map s t.map)) there ∙ e in
       let more = from_more x s t.version t.map next le (same_read (readings_of m) x s t.version a h.not_newer ∙ h.read) (same_goes (readings_of m) x s t.version a h.not_newer ∙ h.goes) step in
-      record { read = more.0; goes = more.1; not_newer = omega arith; told = λ e. absurd cc }
+      record { read = more.0; goes = more.1; not_newer = omega arith; version_written = λ e. absurd cc }

@@ -10,7 +10,7 @@ use Rattle.map_kv.specs.declared.inc.KvInc.TheVariants as kv_inc
 use Rattle.map_log.specs.Made as log_made
 use Rattle.map_log.specs.Text as log_text
 use Rattle.map_log.specs.declared.inc.LogInc.{LogInc}
-use Rattle.mon_bytes.specs.Makes.{Refuses}
+use Rattle.mon_bytes.specs.Makes.{RefusesAs}
 use Rattle.mon_bytes.specs.declared.command.Command.{Command}
 use Rattle.mon_bytes.specs.declared.command.Command.TheVariants as command
 use Rattle.mon_bytes.specs.declared.command.CommandRefused.{CommandRefused}
@@ -59,7 +59,7 @@ pub draft_is : (d : Draft) (incremental text : List ℕ) → d.incremental ≡ i
 draft_is d incremental text p q = rw (← p, ← q) refl
 
 -- a text that is too long is refused whatever the cluster log is
-pub log_refused : (m : ShownMap) (due : Bool) (asked : ℕ) (text : List ℕ) (e : CommandRefused) → kind m ≡ service.Log → Refuses e (log_made.made asked text) → Refuses e (drafted due (made m asked (command.Log text)))
+pub log_refused : (m : ShownMap) (due : Bool) (asked : ℕ) (text : List ℕ) (e : CommandRefused) → kind m ≡ service.Log → RefusesAs e (log_made.made asked text) → RefusesAs e (drafted due (made m asked (command.Log text)))
 log_refused (map.Kv m) due asked text e k h = absurd cc
 log_refused (map.Log es) due asked text refused.NoSuch k h = rw h refl
 log_refused (map.Log es) due asked text (refused.TooLong len most) k h = rw h refl

@@ -7,7 +7,7 @@ use Rattle.map_log.specs.Decode as log_decode
 use Rattle.map_log.specs.declared.inc.LogInc.{LogInc}
 use Rattle.mon_tx.specs.declared.key.Key.TheVariants as key
 use Rattle.mon_tx.specs.Decision.{Cell}
-use Rattle.mon_msg.specs.Protocol.Maps.{empty_map, if_ok, next_map, spelled_map}
+use Rattle.mon_msg.specs.Protocol.Maps.{empty_map, if_ok, next_map, decoded_map}
 use Rattle.mon_msg.specs.Protocol.Services.{service_last, full_latest, full_map, read_on, read_map}
 use Rattle.mon_msg.specs.Protocol.Readings.{Readings}
 use Rattle.mon_wire.specs.declared.reply.ShownMap.{ShownMap}
@@ -36,14 +36,14 @@ on_kind w s (suc count) v m = by (step_at w s v m) refl (λ x. on_kind w s count
     by None e h = ap kind (read-none w s count v m e)
     by (Some x) e h = ap kind (read-some w s count v m x e) ∙ h x ∙ step_kind w s v m x e
 
-spelled_kind : (s : Service) (bytes : List ℕ) (m : ShownMap) → spelled_map s bytes ≡ Some m → kind m ≡ s
-spelled_kind service.Kv bytes m e = by (leb (length bytes) 393216) (if_ok (kv_decode.map_of bytes)) e
+decoded_kind : (s : Service) (bytes : List ℕ) (m : ShownMap) → decoded_map s bytes ≡ Some m → kind m ≡ s
+decoded_kind service.Kv bytes m e = by (leb (length bytes) 393216) (if_ok (kv_decode.map_of bytes)) e
   where
     by : (b : Bool) (o : Option kv.Kv) → cond b (option_map map.Kv o) None ≡ Some m → kind m ≡ service.Kv
     by true None e = absurd cc
     by true (Some x) e = let same : map.Kv x ≡ m = cc in rw (← same) refl
     by false o e = absurd cc
-spelled_kind service.Log bytes m e = by (leb (length bytes) 12288) (if_ok (log_decode.map_of bytes)) e
+decoded_kind service.Log bytes m e = by (leb (length bytes) 12288) (if_ok (log_decode.map_of bytes)) e
   where
     by : (b : Bool) (o : Option (List LogInc)) → cond b (option_map map.Log o) None ≡ Some m → kind m ≡ service.Log
     by true None e = absurd cc
@@ -53,9 +53,9 @@ spelled_kind service.Log bytes m e = by (leb (length bytes) 12288) (if_ok (log_d
 full_kind : (w : Readings) (s : Service) (m : ShownMap) → full_map w s ≡ Some m → kind m ≡ s
 full_kind w s m e = by (leb (full_latest w s) (service_last w s)) (w.row s (key.Full (full_latest w s))) e
   where
-    by : (b : Bool) (c : Cell) → cond b (option_and_then (spelled_map s) c) None ≡ Some m → kind m ≡ s
+    by : (b : Bool) (c : Cell) → cond b (option_and_then (decoded_map s) c) None ≡ Some m → kind m ≡ s
     by true None e = absurd cc
-    by true (Some bytes) e = spelled_kind s bytes m e
+    by true (Some bytes) e = decoded_kind s bytes m e
     by false c e = absurd cc
 
 empty_kind : (s : Service) → kind (empty_map s) ≡ s

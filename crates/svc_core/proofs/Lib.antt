@@ -13,5 +13,5 @@ pub mod Scans
 pub mod ShortValues
 pub mod Starts
 pub mod Steps
-pub mod Tellings
+pub mod Sendings
 pub mod Transactions

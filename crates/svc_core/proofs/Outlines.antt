@@ -19,7 +19,7 @@ use Rattle.mon_bytes.specs.declared.command.Command.TheVariants as command
 use Rattle.mon_bytes.specs.declared.command.CommandRefused.TheVariants as refused
 use Rattle.mon_bytes.specs.declared.command.MapRefused.{MapRefused}
 use Rattle.mon_tx.specs.declared.key.Key.TheVariants as key
-use Rattle.mon_msg.specs.Protocol.Maps.{if_ok, spelled_map}
+use Rattle.mon_msg.specs.Protocol.Maps.{if_ok, decoded_map}
 use Rattle.mon_msg.specs.Protocol.Services.{service_last, full_latest, full_map, read_on, read_map}
 use Rattle.mon_msg.specs.Protocol.Readings.{Readings}
 use Rattle.mon_wire.specs.declared.reply.ShownMap.{ShownMap}
@@ -61,9 +61,9 @@ after_remove q o held k e m h = record {
 
 -- ---- of bytes
 
-pub spelled_outlined : (q : List ℕ) (o : Outline) (bytes : List ℕ) → IsBytes bytes → length bytes ≤ 393216 → length bytes ≤ o.most
-    → map_holds q (kv_decode.map_of bytes) ≡ Some o.held → OutlinesSome q o (spelled_map service.Kv bytes)
-spelled_outlined q o bytes fits short le h = rw (le-leb (length bytes) 393216 short) (by (kv_decode.map_of bytes) refl h)
+pub decoded_outlined : (q : List ℕ) (o : Outline) (bytes : List ℕ) → IsBytes bytes → length bytes ≤ 393216 → length bytes ≤ o.most
+    → map_holds q (kv_decode.map_of bytes) ≡ Some o.held → OutlinesSome q o (decoded_map service.Kv bytes)
+decoded_outlined q o bytes fits short le h = rw (le-leb (length bytes) 393216 short) (by (kv_decode.map_of bytes) refl h)
   where
     by : (r : Result kv.Kv MapRefused) → kv_decode.map_of bytes ≡ r → map_holds q r ≡ Some o.held → OutlinesSome q o (option_map map.Kv (if_ok r))
     by (Ok m) f h = let same : contains_key m q ≡ o.held = cc in record { held = sym same; within = omega (arith, ap length (map_is_found bytes (Ok m) fits f).1, le) }
@@ -73,7 +73,7 @@ spelled_outlined q o bytes fits short le h = rw (le-leb (length bytes) 393216 sh
 
 module _ (w : Readings) (q : List ℕ) where
   pub full_outlined : (o : Option Outline) (latest : ℕ) (bytes : List ℕ) → latest ≡ full_latest w service.Kv → latest ≤ service_last w service.Kv
-      → w.row service.Kv (key.Full latest) ≡ Some bytes → IfSome o (λ o. OutlinesSome q o (spelled_map service.Kv bytes)) → IfSome o (λ o. OutlinesSome q o (full_map w service.Kv))
+      → w.row service.Kv (key.Full latest) ≡ Some bytes → IfSome o (λ o. OutlinesSome q o (decoded_map service.Kv bytes)) → IfSome o (λ o. OutlinesSome q o (full_map w service.Kv))
   full_outlined None latest bytes is le there h = tt
   full_outlined (Some o) latest bytes is le there h =
       let full_there : w.row service.Kv (key.Full (full_latest w service.Kv)) ≡ Some bytes = rw is at there in

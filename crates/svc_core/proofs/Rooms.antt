@@ -15,7 +15,7 @@ use Rattle.mon_bytes.specs.declared.command.MapRefused.{MapRefused}
 use Rattle.mon_bytes.proofs.Forms.{is_found, length-u32_bytes}
 use Rattle.mon_tx.specs.Decision.{Cell}
 use Rattle.mon_tx.specs.declared.key.Key.TheVariants as key
-use Rattle.mon_msg.specs.Protocol.Maps.{empty_map, if_ok, short_map, next_map, spelled_map}
+use Rattle.mon_msg.specs.Protocol.Maps.{empty_map, if_ok, short_map, next_map, decoded_map}
 use Rattle.mon_msg.specs.Protocol.Services.{service_last, full_latest, full_map, read_on, read_map}
 use Rattle.mon_msg.specs.Protocol.Readings.{Readings}
 use Rattle.mon_wire.specs.declared.reply.ShownMap.{ShownMap}
@@ -52,8 +52,8 @@ next_grows bytes n (map.Kv y) x fits e h = by (kv_decode.inc_of bytes) refl e
 next_grows bytes n (map.Log es) x fits e h = absurd h
 
 -- a map is no longer than the bytes that encode it
-pub spelled_within : (n : ℕ) (bytes : List ℕ) → IsBytes bytes → length bytes ≤ n → IfSome (spelled_map service.Kv bytes) (IsWithin n)
-spelled_within n bytes fits le = by (leb (length bytes) 393216) (kv_decode.map_of bytes) refl
+pub decoded_within : (n : ℕ) (bytes : List ℕ) → IsBytes bytes → length bytes ≤ n → IfSome (decoded_map service.Kv bytes) (IsWithin n)
+decoded_within n bytes fits le = by (leb (length bytes) 393216) (kv_decode.map_of bytes) refl
   where
     by : (b : Bool) (r : Result kv.Kv MapRefused) → kv_decode.map_of bytes ≡ r → IfSome (cond b (option_map map.Kv (if_ok r)) None) (IsWithin n)
     by true (Ok x) f = omega (arith, ap length (map_is_found bytes (Ok x) fits f).1)
@@ -93,14 +93,14 @@ module _ (w : Readings) where
 
   -- ---- the map that is read
 
-  pub full_within : (latest n : ℕ) (c : Cell) → latest ≡ full_latest w service.Kv → w.row service.Kv (key.Full latest) ≡ c → IfSome (option_and_then (spelled_map service.Kv) c) (IsWithin n)
+  pub full_within : (latest n : ℕ) (c : Cell) → latest ≡ full_latest w service.Kv → w.row service.Kv (key.Full latest) ≡ c → IfSome (option_and_then (decoded_map service.Kv) c) (IsWithin n)
       → IfSome (full_map w service.Kv) (IsWithin n)
   full_within latest n c is there h = by (leb (full_latest w service.Kv) (service_last w service.Kv))
     where
       full_there : w.row service.Kv (key.Full (full_latest w service.Kv)) ≡ c
       full_there = rw is at there
 
-      by : (b : Bool) → IfSome (cond b (option_and_then (spelled_map service.Kv) (w.row service.Kv (key.Full (full_latest w service.Kv)))) None) (IsWithin n)
+      by : (b : Bool) → IfSome (cond b (option_and_then (decoded_map service.Kv) (w.row service.Kv (key.Full (full_latest w service.Kv)))) None) (IsWithin n)
       by true = rw full_there h
       by false = tt
 

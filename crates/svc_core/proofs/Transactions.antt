@@ -14,33 +14,33 @@ use Rattle.mon_msg.specs.Protocol.Readings.{Readings, readings_of}
 use Rattle.mon_msg.specs.Puts.{area_of}
 use Rattle.mon_wire.specs.declared.reply.ShownMap.{ShownMap}
 use Rattle.mon_wire.specs.declared.request.Service.{Service}
-use Rattle.svc_core.specs.Cache.{known, Follows, IsCurrent, after_put, after_op, after_ops, of_service, where_told, known_after}
+use Rattle.svc_core.specs.Cache.{known, Follows, IsCurrent, after_put, after_op, after_ops, of_service, if_version_written, known_after}
 use Rattle.svc_core.specs.declared.cache.Cache.{Cache}
 use Rattle.svc_core.specs.declared.cache.Known.{Known}
-use Rattle.svc_core.specs.declared.turn.Turn.{Turn}
-use Rattle.svc_core.proofs.Currents.{base, read_from, goes_from, read_map-from, reaches-from, StandsFor, unchanged, first_put, last_put, version_put}
+use Rattle.svc_core.specs.declared.progress.Progress.{Progress}
+use Rattle.svc_core.proofs.Currents.{base, read_from, goes_from, read_map-from, reaches-from, IsMapAfter, unchanged, first_put, last_put, version_put}
 use Rattle.svc_core.proofs.Rows.{same_bytes}
 
-the_same : (t x : Turn) → ◌≡◌ {A = Option Turn} (Some t) (Some x) → t ≡ x
+the_same : (t x : Progress) → ◌≡◌ {A = Option Progress} (Some t) (Some x) → t ≡ x
 the_same t x e = cc
 
 module _ (s : Service) where
   -- if the store represents the iteration after a change
-  abbrev Stands : Op → Store → Turn → Type 0
-  Stands op m x = StandsFor (readings_of (apply_op op m)) s x
+  abbrev Stands : Op → Store → Progress → Type 0
+  Stands op m x = IsMapAfter (readings_of (apply_op op m)) s x
 
-  put_followed : (m : Store) (k value : List ℕ) (t x : Turn) → StandsFor (readings_of m) s t → after_put s k value t ≡ Some x → Stands (Put (area_text (area_of s)) k value) m x
+  put_followed : (m : Store) (k value : List ℕ) (t x : Progress) → IsMapAfter (readings_of m) s t → after_put s k value t ≡ Some x → Stands (Put (area_text (area_of s)) k value) m x
   put_followed m k value t x h e =
       by (bytes_eq k (key_text (key.Version (suc t.version)))) (bytes_eq k (key_text key.FirstCommitted)) (bytes_eq k (key_text key.LastCommitted)) (eqb (number_in (Some value)) t.version) (next_map s t.map value) refl refl refl refl refl e
     where
       by : (a b c d : Bool) (o : Option ShownMap) → bytes_eq k (key_text (key.Version (suc t.version))) ≡ a → bytes_eq k (key_text key.FirstCommitted) ≡ b → bytes_eq k (key_text key.LastCommitted) ≡ c
           → eqb (number_in (Some value)) t.version ≡ d → next_map s t.map value ≡ o
-          → cond a (option_map (λ m. record { version = suc t.version; map = m; told = false }) o) (cond b (Some t) (cond (c && d) (Some (record { version = t.version; map = t.map; told = true })) None)) ≡ Some x
+          → cond a (option_map (λ m. record { version = suc t.version; map = m; version_written = false }) o) (cond b (Some t) (cond (c && d) (Some (record { version = t.version; map = t.map; version_written = true })) None)) ≡ Some x
           → Stands (Put (area_text (area_of s)) k value) m x
       by true b c d None p q r n f e = absurd cc
       by true b c d (Some next) p q r n f e =
           let same = same_bytes k (key_text (key.Version (suc t.version))) p in
-          let is = the_same (record { version = suc t.version; map = next; told = false }) x e in
+          let is = the_same (record { version = suc t.version; map = next; version_written = false }) x e in
           rw (same, ← is) (version_put m s value t h next f)
       by false true c d o p q r n f e =
           let same = same_bytes k (key_text key.FirstCommitted) q in
@@ -48,16 +48,16 @@ module _ (s : Service) where
           rw (same, ← is) (first_put m s value t h)
       by false false true true o p q r n f e =
           let same = same_bytes k (key_text key.LastCommitted) r in
-          let is = the_same (record { version = t.version; map = t.map; told = true }) x e in
+          let is = the_same (record { version = t.version; map = t.map; version_written = true }) x e in
           rw (same, ← is) (last_put m s value t h (eqb-true _ _ n))
       by false false true false o p q r n f e = absurd cc
       by false false false d o p q r n f e = absurd cc
 
-  passed : (op : Op) (m : Store) (t x : Turn) (b : Bool) → (b ≡ false → Stands op m t) → cond b None (Some t) ≡ Some x → Stands op m x
+  passed : (op : Op) (m : Store) (t x : Progress) (b : Bool) → (b ≡ false → Stands op m t) → cond b None (Some t) ≡ Some x → Stands op m x
   passed op m t x true h e = absurd cc
   passed op m t x false h e = let is = the_same t x e in rw (← is) (h refl)
 
-  op_followed : (op : Op) (m : Store) (t x : Turn) → StandsFor (readings_of m) s t → after_op s op t ≡ Some x → Stands op m x
+  op_followed : (op : Op) (m : Store) (t x : Progress) → IsMapAfter (readings_of m) s t → after_op s op t ≡ Some x → Stands op m x
   op_followed (Put prefix k value) m t x h e = by (of_service s prefix) refl e
     where
       by : (b : Bool) → of_service s prefix ≡ b → cond b (after_put s k value t) (Some t) ≡ Some x → Stands (Put prefix k value) m x
@@ -67,29 +67,29 @@ module _ (s : Service) where
   op_followed (ErasePrefix prefix) m t x h e = passed (ErasePrefix prefix) m t x (of_service s prefix) (λ p. unchanged (ErasePrefix prefix) m s t p h) e
   op_followed (EraseRange prefix from to) m t x h e = passed (EraseRange prefix from to) m t x (of_service s prefix) (λ p. unchanged (EraseRange prefix from to) m s t p h) e
 
-  ops_followed : (ops : List Op) (m : Store) (t x : Turn) → StandsFor (readings_of m) s t → after_ops s ops t ≡ Some x → StandsFor (readings_of (apply ops m)) s x
+  ops_followed : (ops : List Op) (m : Store) (t x : Progress) → IsMapAfter (readings_of m) s t → after_ops s ops t ≡ Some x → IsMapAfter (readings_of (apply ops m)) s x
   ops_followed [] m t x h e = let is = the_same t x e in rw (← is) h
   ops_followed (op ∷ ops) m t x h e = by (after_op s op t) refl e (λ y h. ops_followed ops (apply_op op m) y x h)
     where
-      by : (o : Option Turn) → after_op s op t ≡ o → option_and_then (after_ops s ops) o ≡ Some x
-          → ((y : Turn) → StandsFor (readings_of (apply_op op m)) s y → after_ops s ops y ≡ Some x → StandsFor (readings_of (apply ops (apply_op op m))) s x)
-          → StandsFor (readings_of (apply ops (apply_op op m))) s x
+      by : (o : Option Progress) → after_op s op t ≡ o → option_and_then (after_ops s ops) o ≡ Some x
+          → ((y : Progress) → IsMapAfter (readings_of (apply_op op m)) s y → after_ops s ops y ≡ Some x → IsMapAfter (readings_of (apply ops (apply_op op m))) s x)
+          → IsMapAfter (readings_of (apply ops (apply_op op m))) s x
       by None f e go = absurd cc
       by (Some y) f e go = go y (op_followed op m t y h f) e
 
-  begun : (w : Readings) (k : Known) → IsCurrent w s k → StandsFor w s (record { version = k.version; map = k.map; told = true })
+  begun : (w : Readings) (k : Known) → IsCurrent w s k → IsMapAfter w s (record { version = k.version; map = k.map; version_written = true })
   begun w k h =
       let le : full_latest w s ≤ service_last w s = let n = h.not_newer in let v = h.version_is in omega arith in
       record {
         read = ap (λ (n : ℕ). read_from w s n (base w s)) h.version_is ∙ sym (read_map-from w s le) ∙ sym h.map_is;
         goes = ap (λ (n : ℕ). goes_from w s n (base w s)) h.version_is ∙ sym (reaches-from w s le) ∙ h.reached;
         not_newer = h.not_newer;
-        told = λ _. sym h.version_is;
+        version_written = λ _. sym h.version_is;
       }
 
-  ended : (w : Readings) (t : Turn) → t.told ≡ true → StandsFor w s t → IsCurrent w s (record { version = t.version; map = t.map })
-  ended w t told h =
-      let last = h.told told in
+  ended : (w : Readings) (t : Progress) → t.version_written ≡ true → IsMapAfter w s t → IsCurrent w s (record { version = t.version; map = t.map })
+  ended w t version_written h =
+      let last = h.version_written version_written in
       let le : full_latest w s ≤ service_last w s = let n = h.not_newer in omega arith in
       record {
         map_is = sym h.read ∙ ap (λ (n : ℕ). read_from w s n (base w s)) (sym last) ∙ sym (read_map-from w s le);
@@ -100,15 +100,15 @@ module _ (s : Service) where
 
   pub current_after : (ops : List Op) (m : Store) (o : Option Known) → IfSome o (IsCurrent (readings_of m) s) → IfSome (known_after s ops o) (IsCurrent (readings_of (apply ops m)) s)
   current_after ops m None h = tt
-  current_after ops m (Some k) h = by (after_ops s ops (record { version = k.version; map = k.map; told = true })) refl
+  current_after ops m (Some k) h = by (after_ops s ops (record { version = k.version; map = k.map; version_written = true })) refl
     where
-      by : (o : Option Turn) → after_ops s ops (record { version = k.version; map = k.map; told = true }) ≡ o → IfSome (option_and_then where_told o) (IsCurrent (readings_of (apply ops m)) s)
+      by : (o : Option Progress) → after_ops s ops (record { version = k.version; map = k.map; version_written = true }) ≡ o → IfSome (option_and_then if_version_written o) (IsCurrent (readings_of (apply ops m)) s)
       by None e = tt
-      by (Some t) e = told t.told refl (ops_followed ops m (record { version = k.version; map = k.map; told = true }) t (begun (readings_of m) k h) e)
+      by (Some t) e = version_written t.version_written refl (ops_followed ops m (record { version = k.version; map = k.map; version_written = true }) t (begun (readings_of m) k h) e)
         where
-          told : (b : Bool) → t.told ≡ b → StandsFor (readings_of (apply ops m)) s t → IfSome (cond b (Some (record { version = t.version; map = t.map })) None) (IsCurrent (readings_of (apply ops m)) s)
-          told true f g = ended (readings_of (apply ops m)) t f g
-          told false f g = tt
+          version_written : (b : Bool) → t.version_written ≡ b → IsMapAfter (readings_of (apply ops m)) s t → IfSome (cond b (Some (record { version = t.version; map = t.map })) None) (IsCurrent (readings_of (apply ops m)) s)
+          version_written true f g = ended (readings_of (apply ops m)) t f g
+          version_written false f g = tt
 
 pub follows_after : (old new : Cache) (ops : List Op) → ((s : Service) → known new s ≡ known_after s ops (known old s))
     → (m : Store) → Follows old (readings_of m) → Follows new (readings_of (apply ops m))

@@ -19,7 +19,7 @@ use Rattle.svc_core.specs.declared.cache.Cache.{Cache}
 use Rattle.svc_core.specs.declared.cache.Kept.{Kept}
 use Rattle.svc_core.specs.declared.cache.Kept.TheVariants as kept
 use Rattle.svc_core.specs.declared.cache.Known.{Known}
-use Rattle.svc_core.specs.declared.turn.Turn.{Turn}
+use Rattle.svc_core.specs.declared.progress.Progress.{Progress}
 
 abbrev pub known_in : Kept → Option Known
 known_in kept.Nothing = None
@@ -69,35 +69,36 @@ known_once_read w s None =
 
 -- a put that can be followed puts the next version's incremental, the first version, or the version so far as the last
 -- one
-abbrev pub after_put : Service → List ℕ → List ℕ → Turn → Option Turn
+abbrev pub after_put : Service → List ℕ → List ℕ → Progress → Option Progress
 after_put s k value t =
     if bytes_eq k (key_text (key.Version (suc t.version)))
-    then option_map (λ m. record { version = suc t.version; map = m; told = false }) (next_map s t.map value) else (
+    then option_map (λ m. record { version = suc t.version; map = m; version_written = false })
+    (next_map s t.map value) else (
     if bytes_eq k (key_text key.FirstCommitted) then Some t else (
     if bytes_eq k (key_text key.LastCommitted) && number_in (Some value) == t.version
-    then Some (record { version = t.version; map = t.map; told = true }) else None))
+    then Some (record { version = t.version; map = t.map; version_written = true }) else None))
 
 abbrev pub of_service : Service → List ℕ → Bool
 of_service s prefix = bytes_eq prefix (area_text (area_of s))
 
 -- no other change of the service's keys can be followed
-abbrev pub after_op : Service → Op → Turn → Option Turn
+abbrev pub after_op : Service → Op → Progress → Option Progress
 after_op s (Put prefix k value) t = if of_service s prefix then after_put s k value t else Some t
 after_op s (Erase prefix k) t = if of_service s prefix then None else Some t
 after_op s (ErasePrefix prefix) t = if of_service s prefix then None else Some t
 after_op s (EraseRange prefix from to) t = if of_service s prefix then None else Some t
 
-abbrev pub after_ops : Service → List Op → Turn → Option Turn
+abbrev pub after_ops : Service → List Op → Progress → Option Progress
 after_ops s [] t = Some t
 after_ops s (op ∷ ops) t = option_and_then (after_ops s ops) (after_op s op t)
 
-abbrev pub where_told : Turn → Option Known
-where_told t = if t.told then Some (record { version = t.version; map = t.map }) else None
+abbrev pub if_version_written : Progress → Option Known
+if_version_written t = if t.version_written then Some (record { version = t.version; map = t.map }) else None
 
 -- what is known of a service after a transaction
 abbrev pub known_after : Service → List Op → Option Known → Option Known
-known_after s ops k = option_and_then (λ k. option_and_then where_told
-    (after_ops s ops (record { version = k.version; map = k.map; told = true }))) k
+known_after s ops k = option_and_then (λ k. option_and_then if_version_written
+    (after_ops s ops (record { version = k.version; map = k.map; version_written = true }))) k
 
 -- by how many versions a service's known map rose; 0 if it isn't known before and after
 abbrev pub risen : Option Known → Option Known → ℕ
@@ -105,9 +106,9 @@ risen (Some before) (Some now) = now.version - before.version
 risen before now = 0
 
 -- the changes were followed up to `next`, or one of them can't be followed
-abbrev pub Went : Turn → Option Turn → Bool → Type 0
-Went new next true = next ≡ Some new
-Went new next false = next ≡ None
+abbrev pub FollowedTo : Progress → Option Progress → Bool → Type 0
+FollowedTo new next true = next ≡ Some new
+FollowedTo new next false = next ≡ None
 
 -- how many incrementals were applied
 abbrev pub applied : Cache → Cache → ℕ

@@ -11,9 +11,9 @@ ghost use Rattle.mon_msg.specs.Protocol.Readings.{readings_of};
 ghost use Rattle.svc_core.specs.Cache.{kept_of, known, known_in, map_in, Follows, known_once_read, known_after, risen, applied, Answers, IsAnswered};
 ghost use Rattle.svc_core.specs.contracts.cache.Cache.{the_row};
 
+use crate::progress::{Progress, changes};
 use crate::reading::{Reading, read_whole};
 use crate::row::{full_latest, last_version};
-use crate::turn::{Turn, changes};
 use mon_bytes::OutOfMemory;
 use mon_kv::Kv;
 use mon_msg::{Service, ShownMap};
@@ -126,14 +126,18 @@ fn follow_known(
 {
     let Known { version, map } = known;
     let before = version.get();
-    let mut turn = Turn {
+    let mut progress = Progress {
         version: before,
         map,
-        told: true,
+        version_written: true,
     };
-    let all = changes(alloc, service, ops, &mut turn)?;
-    let Turn { version, map, told } = turn;
-    if !all || !told {
+    let all = changes(alloc, service, ops, &mut progress)?;
+    let Progress {
+        version,
+        map,
+        version_written,
+    } = progress;
+    if !all || !version_written {
         return Ok(Followed {
             kept: Kept::Nothing,
             applied: 0,

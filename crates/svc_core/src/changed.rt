@@ -1,7 +1,7 @@
 //! What changed a service's map after a version.
 
 ghost use Rattle.std.specs.Prelude.{◌≡◌, ◌-◌, ◌≤◌, ◌^◌, suc, [], ◌∷◌, ◌++◌, length, nat_lt, IfOk, OnOk};
-ghost use Rattle.mon_msg.specs.Protocol.Services.{service_last, kept_from, may_tell};
+ghost use Rattle.mon_msg.specs.Protocol.Services.{service_last, kept_from, fits_reply};
 ghost use Rattle.mon_msg.specs.Protocol.Reads.{since, shown};
 ghost use Rattle.mon_msg.specs.Protocol.Records.{longest};
 ghost use Rattle.mon_msg.specs.Protocol.Readings.{readings_of};
@@ -10,48 +10,57 @@ use crate::reading::read;
 use crate::row::{first_version, incremental, last_version};
 use mon_bytes::{Bytes, OutOfMemory};
 use mon_kv::Kv;
-use mon_msg::{Items, MOST_ITEMS, MOST_TOLD_BYTES, Reply, Service};
+use mon_msg::{Items, MOST_ITEMS, MOST_SINCE_BYTES, Reply, Service};
 use mon_types::Version;
 use std::alloc::Global;
 
 /// Incrementals in order of version, and whether more follow.
 #[derive(Drop)]
 struct Changes {
-    told: Items<Bytes>,
+    updates: Items<Bytes>,
     more: bool,
 }
 
 /// Appends a copy of the bytes.
-fn push_copy(alloc: Global, told: &mut Items<Bytes>, bytes: &[u8]) -> Result<(), OutOfMemory>
-    ensures { OnOk result (told.new ≡ told.old ++ bytes.now ∷ []) }
+fn push_copy(alloc: Global, updates: &mut Items<Bytes>, bytes: &[u8]) -> Result<(), OutOfMemory>
+    ensures { OnOk result (updates.new ≡ updates.old ++ bytes.now ∷ []) }
 {
-    told.push(Bytes::new(Vec::from_slice(alloc, bytes)?))
+    updates.push(Bytes::new(Vec::from_slice(alloc, bytes)?))
 }
 
 /// The incrementals after version `v` up to the first that isn't there, as many as one reply takes.
-fn told_after(alloc: Global, kv: &Kv, service: Service, v: u64) -> Result<Changes, OutOfMemory>
+fn changes_after(alloc: Global, kv: &Kv, service: Service, v: u64) -> Result<Changes, OutOfMemory>
     requires { v ≤ 2 ^ 62 }
-    ensures told { IfOk result
-        (λ c. c.told ≡ longest may_tell
+    ensures updates { IfOk result
+        (λ c. c.updates ≡ longest fits_reply
         (kept_from (readings_of kv.now) service (service_last (readings_of kv.now) service - v) (suc v))) }
     ensures more { IfOk result
-        (λ c. c.more ≡ nat_lt (length c.told)
+        (λ c. c.more ≡ nat_lt (length c.updates)
         (length (kept_from (readings_of kv.now) service (service_last (readings_of kv.now) service - v) (suc v)))) }
 {
     let last = last_version(kv, service);
-    let mut told = Items::new(alloc);
-    let mut room = MOST_TOLD_BYTES;
+    let mut updates = Items::new(alloc);
+    let mut room = MOST_SINCE_BYTES;
     for n in v..last {
         let Some(bytes) = incremental(kv, service, n + 1) else {
-            return Ok(Changes { told, more: false });
+            return Ok(Changes {
+                updates,
+                more: false,
+            });
         };
-        if told.as_slice().len() == MOST_ITEMS || bytes.len() + 4 > room {
-            return Ok(Changes { told, more: true });
+        if updates.as_slice().len() == MOST_ITEMS || bytes.len() + 4 > room {
+            return Ok(Changes {
+                updates,
+                more: true,
+            });
         }
         room -= bytes.len() + 4;
-        push_copy(alloc, &mut told, bytes)?;
+        push_copy(alloc, &mut updates, bytes)?;
     }
-    Ok(Changes { told, more: false })
+    Ok(Changes {
+        updates,
+        more: false,
+    })
 }
 
 /// Answers with a service's whole map, the last committed version and the service's last version.
@@ -77,11 +86,11 @@ pub fn since(alloc: Global, kv: &Kv, service: Service, v: u64) -> Result<Reply, 
     if first_version(kv, service) > v + 1 {
         return shown(alloc, kv, service);
     }
-    let Changes { told, more } = told_after(alloc, kv, service, v)?;
+    let Changes { updates, more } = changes_after(alloc, kv, service, v)?;
     Ok(Reply::Since {
         service,
         from: Version::known(v),
-        incrementals: told,
+        incrementals: updates,
         more,
     })
 }

@@ -7,6 +7,7 @@ mod changed;
 mod made;
 pub mod mon_trim;
 mod outline;
+mod progress;
 mod proposal;
 mod reading;
 mod room;
@@ -14,7 +15,6 @@ mod row;
 mod rules;
 mod scan;
 mod step;
-mod turn;
 
 pub use cache::Cache;
 pub use changed::{shown, since};

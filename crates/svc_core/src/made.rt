@@ -7,7 +7,7 @@ ghost use Rattle.map_kv.specs.Text as kv_text;
 ghost use Rattle.map_kv.specs.declared.command.TheConstants.{MOST_KV_MAP};
 ghost use Rattle.map_log.specs.Map as log_map;
 ghost use Rattle.map_log.specs.Text as log_text;
-ghost use Rattle.mon_bytes.specs.Makes.{Makes, Refuses};
+ghost use Rattle.mon_bytes.specs.Makes.{Makes, RefusesAs};
 ghost use Rattle.mon_bytes.specs.declared.command.Command.TheVariants as command;
 ghost use Rattle.mon_msg.specs.Protocol.Services.{read_map};
 ghost use Rattle.mon_msg.specs.Protocol.Value.{made, service_of};
@@ -80,7 +80,7 @@ fn sure_remove(alloc: Global, kv: &Kv, command: &Command) -> Result<Option<KvInc
         Ok inc)) }
     ensures form { IfOk result (λ made. IfSome made kv_text.IncFits) }
     ensures refused { IfErr result
-        (λ e. Refuses e (kv_incremental (read_map (readings_of kv.now) Service.Kv) command.now)) }
+        (λ e. RefusesAs e (kv_incremental (read_map (readings_of kv.now) Service.Kv) command.now)) }
 {
     let Command::Remove { key } = command else {
         return Ok(None);

@@ -5,7 +5,7 @@
 ghost use Rattle.std.specs.Prelude.{◌≡◌, ◌+◌, ◌≤◌, ◌^◌, IfOk, IfSome};
 ghost use Rattle.map_kv.specs.Map as kv_map;
 ghost use Rattle.map_kv.specs.declared.command.TheConstants.{MOST_KV_MAP};
-ghost use Rattle.mon_msg.specs.Protocol.Maps.{spelled_map};
+ghost use Rattle.mon_msg.specs.Protocol.Maps.{decoded_map};
 ghost use Rattle.mon_msg.specs.Protocol.Services.{service_last, full_latest, full_map, read_map, read_on};
 ghost use Rattle.mon_msg.specs.Protocol.Readings.{readings_of};
 ghost use Rattle.mon_wire.specs.declared.reply.ShownMap.{ShownMap};
@@ -62,7 +62,7 @@ impl Outline {
 
 /// The outline of the map that the bytes encode, if they encode one that isn't too long.
 fn outline_of(bytes: &[u8], key: &[u8]) -> Option<Outline>
-    ensures outline { IfSome result (λ o. OutlinesSome key.now o (spelled_map Service.Kv bytes.now)) }
+    ensures outline { IfSome result (λ o. OutlinesSome key.now o (decoded_map Service.Kv bytes.now)) }
     ensures most { IfSome result (λ o. o.most ≤ MOST_KV_MAP) }
 {
     let most = length(bytes);

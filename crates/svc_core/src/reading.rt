@@ -6,7 +6,7 @@ ghost use Rattle.map_kv.specs.Decode as kv_decode;
 ghost use Rattle.map_kv.specs.Text as kv_text;
 ghost use Rattle.map_kv.specs.declared.command.TheConstants.{MOST_KV_MAP};
 ghost use Rattle.map_log.specs.Decode as log_decode;
-ghost use Rattle.mon_msg.specs.Protocol.Maps.{empty_map, if_ok, spelled_map};
+ghost use Rattle.mon_msg.specs.Protocol.Maps.{empty_map, if_ok, decoded_map};
 ghost use Rattle.mon_msg.specs.Protocol.Services.{service_last, full_latest, full_map, read_on, read_map};
 ghost use Rattle.mon_msg.specs.Protocol.Parts.{map_text};
 ghost use Rattle.mon_msg.specs.Protocol.Readings.{readings_of};
@@ -53,12 +53,12 @@ fn log_map(alloc: Global, bytes: &[u8]) -> Result<Option<ShownMap>, OutOfMemory>
 }
 
 /// The map that the bytes encode, if they are no longer than a map's encoding may be.
-fn spelled_map(
+fn decoded_map(
     alloc: Global,
     service: Service,
     bytes: &[u8],
 ) -> Result<Option<ShownMap>, OutOfMemory>
-    ensures map { IfOk result (λ map. map ≡ spelled_map service bytes.now) }
+    ensures map { IfOk result (λ map. map ≡ decoded_map service bytes.now) }
     ensures form { IfOk result (λ map. IfSome map (IsMapOf service)) }
 {
     if bytes.len() as u64 > most_map(service) {
@@ -83,7 +83,7 @@ fn full_map(alloc: Global, kv: &Kv, service: Service) -> Result<Option<ShownMap>
         return Ok(None);
     }
     match full(alloc, kv, service, latest)? {
-        Some(bytes) => spelled_map(alloc, service, bytes),
+        Some(bytes) => decoded_map(alloc, service, bytes),
         None => Ok(None),
     }
 }

@@ -23,7 +23,7 @@ pub(crate) fn most_map(service: Service) -> u64
 
 /// The map or the incremental that the bytes are, if they are one.
 pub(crate) fn decoded<T: Decode>(alloc: Global, bytes: &[u8]) -> Result<Option<T>, OutOfMemory>
-    ensures value { IfOk result (λ value. value ≡ if_ok (T.spelled bytes.now)) }
+    ensures value { IfOk result (λ value. value ≡ if_ok (T.decoded bytes.now)) }
     ensures text { IfOk result (λ value. IfSome value (λ x. bytes.now ≡ T.format.text x)) }
 {
     match T::decode(alloc, bytes) {

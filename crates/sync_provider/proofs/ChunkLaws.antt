@@ -23,7 +23,7 @@ use Rattle.mon_wire.specs.declared.body.Body.TheVariants as body
 use Rattle.mon_wire.specs.declared.body.Body.{Body}
 use Rattle.mon_wire.specs.declared.parts.Cookie.{Cookie}
 use Rattle.mon_wire.specs.declared.parts.Place.{Place}
-use Rattle.sync_provider.specs.Rows.{left_after}
+use Rattle.sync_provider.specs.Rows.{remaining_after}
 use Rattle.sync_provider.specs.Taken.{IsGiven, IsTaken, takes}
 use Rattle.sync_provider.proofs.GivenLaws.{map_plain}
 use Rattle.sync_provider.proofs.SharedLaws.{Entries, entry_of, filter_none, left-shared}
@@ -38,7 +38,7 @@ module _ (m : Store) (p : Place) (run : KeyRun) (l : IsLongestRun (shared_after 
   pub none-items : run.entries.items ≡ []
   none-items = sym (map_plain run.entries.items) ∙ ap (map entry_of) (l.entries ∙ empty_run (shared_after m p.key))
 
-  counted : run.done ≡ leb (length (left_after m p.key)) 0
+  counted : run.done ≡ leb (length (remaining_after m p.key)) 0
   counted =
       l.done ∙ ap (λ (es : List Entry). eqb (length es) (length (shared_after m p.key))) none-items
       ∙ by (shared_after m p.key) ∙ sym (ap (λ (es : List Entry). leb (length es) 0) (left-shared m p.key))
@@ -48,21 +48,21 @@ module _ (m : Store) (p : Place) (run : KeyRun) (l : IsLongestRun (shared_after 
       by (e ∷ all) = ne_eqb 0 (length (e ∷ all)) (λ h. omega (arith, h)) ∙ sym (lt-leb (length (map entry_of (e ∷ all))) 0 (omega arith))
 
   -- whether no entry is left after the place
-  pub none-done : run.done ≡ is_finished p (left_after m p.key) []
+  pub none-done : run.done ≡ is_finished p (remaining_after m p.key) []
   none-done = by p.key refl
     where
-      by : (k : KeyPlace) → p.key ≡ k → run.done ≡ (is_done p.key || leb (length (left_after m p.key)) 0)
-      by key_place.Start e = counted ∙ ap (λ (k : KeyPlace). is_done k || leb (length (left_after m p.key)) 0) (sym e)
-      by (key_place.After prefix key) e = counted ∙ ap (λ (k : KeyPlace). is_done k || leb (length (left_after m p.key)) 0) (sym e)
+      by : (k : KeyPlace) → p.key ≡ k → run.done ≡ (is_done p.key || leb (length (remaining_after m p.key)) 0)
+      by key_place.Start e = counted ∙ ap (λ (k : KeyPlace). is_done k || leb (length (remaining_after m p.key)) 0) (sym e)
+      by (key_place.After prefix key) e = counted ∙ ap (λ (k : KeyPlace). is_done k || leb (length (remaining_after m p.key)) 0) (sym e)
       by key_place.Done e =
-          counted ∙ (λ i. leb (length (left_after m (e i))) 0) ∙ ap (λ (es : List Entry). leb (length es) 0) (filter_none (shared_entries m))
-          ∙ sym (ap (λ (k : KeyPlace). is_done k || leb (length (left_after m p.key)) 0) e)
+          counted ∙ (λ i. leb (length (remaining_after m (e i))) 0) ∙ ap (λ (es : List Entry). leb (length es) 0) (filter_none (shared_entries m))
+          ∙ sym (ap (λ (k : KeyPlace). is_done k || leb (length (remaining_after m p.key)) 0) e)
 
 -- ---- the entries of a chunk
 
 module _ (last n : ℕ) (c : Cookie) (m : Store) (p : Place) (values : List (List Op)) (run : KeyRun) where
   abbrev left : List Entry
-  left = left_after m p.key
+  left = remaining_after m p.key
 
   pub given-none : reach last p values ≡ false → IsLongestRun (shared_after m p.key) 0 0 run → IsGiven last c p left n values run
   given-none h l = record {
@@ -93,7 +93,7 @@ module _ (last n : ℕ) (c : Cookie) (m : Store) (p : Place) (values : List (Lis
       by key_place.Start e = open_place (ap is_done e)
       by (key_place.After prefix key) e = open_place (ap is_done e)
       by key_place.Done e =
-          let behind : left ≡ [] = ap (left_after m) e ∙ filter_none (shared_entries m) in
+          let behind : left ≡ [] = ap (remaining_after m) e ∙ filter_none (shared_entries m) in
           record {
             entries = t.entries ∙ ap (λ (es : List Entry). longest (takes es bytes) es) behind
                 ∙ sym (λ i. cond (h i && not (is_done (e i))) (longest (λ entries. fits n (chunk_with last c p left values entries)) left) []);

@@ -12,7 +12,7 @@ use Rattle.mon_tx.specs.Map.{Store}
 use Rattle.mon_msg.specs.Protocol.Parts.{entry_length}
 use Rattle.mon_msg.specs.Protocol.Records.{longest}
 use Rattle.mon_msg.proofs.Runs.{longest_is}
-use Rattle.sync_provider.specs.Rows.{left_after}
+use Rattle.sync_provider.specs.Rows.{remaining_after}
 use Rattle.sync_provider.specs.Taken.{IsTaken, takes}
 use Rattle.sync_provider.proofs.SharedLaws.{Entries, entry_of, left-shared}
 use Rattle.sync_provider.proofs.TakenLaws.{plain_test, plain_run, run-longest, some-left, none-left, one-left}
@@ -42,7 +42,7 @@ all_of front whole rest e n =
 
 module _ (m : Store) (at : KeyPlace) (bytes room : ℕ) (r : room ≡ 1048576 - 33 - bytes) (run : KeyRun) (l : IsLongestRun (shared_after m at) room 65535 run) where
   abbrev pub left : List Entry
-  left = left_after m at
+  left = remaining_after m at
 
   abbrev items : List Entry
   items = run.entries.items

@@ -17,7 +17,7 @@ use Rattle.mon_tx.specs.Keys.{is_local, number, shared}
 use Rattle.mon_tx.specs.Map.{Place, Store, place_cmp}
 use Rattle.mon_tx.specs.declared.key.Area.TheVariants as area
 use Rattle.mon_tx.specs.declared.key.Key.TheVariants as key
-use Rattle.sync_provider.specs.Rows.{left_after}
+use Rattle.sync_provider.specs.Rows.{remaining_after}
 
 abbrev pub Entries : Type 0
 Entries = List (Place × List ℕ)
@@ -72,7 +72,7 @@ shared_entries-is : (m : Store) → shared_entries m ≡ map entry_of (shared_of
 unfolding shared_entries shared
 shared_entries-is m = ap (map entry_of) (entries-retain_keys m (λ at. not (is_local (number m area.Paxos key.LastCommitted) at)))
 
-pub left-shared : (m : Store) (at : KeyPlace) → left_after m at ≡ map entry_of (shared_after m at)
+pub left-shared : (m : Store) (at : KeyPlace) → remaining_after m at ≡ map entry_of (shared_after m at)
 unfolding shared_after entries_after
 left-shared m key_place.Start = filter_all (shared_entries m) ∙ shared_entries-is m
 left-shared m (key_place.After prefix own) =

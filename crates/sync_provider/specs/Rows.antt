@@ -41,5 +41,5 @@ abbrev pub ByRow : Here → (now : ℕ) → (row : Course → Result Course Whic
 ByRow here now row result = PlansRow here.me.now now provider_is (Holds (readings_of here.kv.now) here.state.now) row result
 
 -- the shared entries after a place, in order
-abbrev pub left_after : Store → KeyPlace → List Entry
-left_after m at = filter (is_after at) (shared_entries m)
+abbrev pub remaining_after : Store → KeyPlace → List Entry
+remaining_after m at = filter (is_after at) (shared_entries m)

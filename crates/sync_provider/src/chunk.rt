@@ -9,7 +9,7 @@ ghost use Rattle.mon_msg.specs.declared.plan.Next.TheVariants as next;
 ghost use Rattle.mon_wire.specs.declared.parts.Cookie.{Cookie};
 ghost use Rattle.mon_wire.specs.declared.write_lists.TheConstants.{MOST_ITEMS};
 ghost use Rattle.sync_provider.specs.declared.entries.TheConstants.{BESIDES, BESIDES_LAST};
-ghost use Rattle.sync_provider.specs.Rows.{ByRow, left_after};
+ghost use Rattle.sync_provider.specs.Rows.{ByRow, remaining_after};
 
 use crate::cookies::{answer, lacks};
 use crate::entries::{BESIDES, BESIDES_LAST, given_entries, is_end, place_len};
@@ -37,7 +37,7 @@ fn given_values(
 ) -> Result<Run, OutOfMemory>
     requires { stored.now ≡ kv.now }
     ensures values { IfOk result (λ run. (n : ℕ) (c : Cookie) → let w = readings_of kv.now in
-        run.values ≡ given_values w.last c place.now (left_after kv.now place.now.key) n w.record_of) }
+        run.values ≡ given_values w.last c place.now (remaining_after kv.now place.now.key) n w.record_of) }
     ensures bytes { IfOk result (λ run. run.bytes ≡ sum_by value_length run.values) }
     ensures few { IfOk result (λ run. length run.values ≤ MOST_ITEMS) }
 {
@@ -58,7 +58,8 @@ fn reaches(last: Version, place: &Place, count: usize) -> bool
 /// The chunk that follows a place, under this cookie: a LAST_CHUNK if nothing follows it, and otherwise a CHUNK.
 fn chunk(alloc: Global, kv: &Kv, cookie: Cookie, place: &Place) -> Result<Body, OutOfMemory>
     ensures { (n : ℕ) → let w = readings_of kv.now in
-        IfOk result (λ body. body ≡ chunk w.last cookie place.now (left_after kv.now place.now.key) n w.record_of) }
+        IfOk result (λ body. body ≡ chunk w.last cookie place.now
+        (remaining_after kv.now place.now.key) n w.record_of) }
 {
     let stored = Stored::of(alloc, kv);
     let last = stored.last();

@@ -8,7 +8,7 @@ ghost use Rattle.mon_msg.specs.Protocol.Providing.{is_finished, reach};
 ghost use Rattle.mon_wire.specs.declared.parts.Cookie.{Cookie};
 ghost use Rattle.mon_wire.specs.declared.write_lists.TheConstants.{MOST_ITEMS};
 ghost use Rattle.sync_provider.specs.declared.entries.TheConstants.{BESIDES_LAST};
-ghost use Rattle.sync_provider.specs.Rows.{left_after};
+ghost use Rattle.sync_provider.specs.Rows.{remaining_after};
 ghost use Rattle.sync_provider.specs.Taken.{IsTaken, IsGiven};
 
 use mon_bytes::{Entry, KeyPlace, OutOfMemory};
@@ -59,7 +59,7 @@ fn entries_len(entries: &[Entry]) -> usize
 
 /// Whether no shared entry follows a place.
 pub(crate) fn is_end(kv: &Kv, place: &Place) -> Result<bool, OutOfMemory>
-    ensures { IfOk result (λ end. end ≡ is_finished place.now (left_after kv.now place.now.key) []) }
+    ensures { IfOk result (λ end. end ≡ is_finished place.now (remaining_after kv.now place.now.key) []) }
 {
     let found = kv.chunk_from(&place.key, 0, 0)?;
     Ok(found.done)
@@ -91,7 +91,7 @@ fn without_last(run: KeyRun) -> KeyRun
 /// The shared entries after a place, as many as fit into a chunk whose place and values take `bytes` bytes, and whether
 /// none follows them. Each entry is copied once.
 fn longest_entries(kv: &Kv, place: &Place, bytes: usize) -> Result<KeyRun, OutOfMemory>
-    ensures { IfOk result (IsTaken (left_after kv.now place.now.key) bytes) }
+    ensures { IfOk result (IsTaken (remaining_after kv.now place.now.key) bytes) }
 {
     let room = MOST_MESSAGE.saturating_sub(BESIDES).saturating_sub(bytes);
     let found = kv.chunk_from(&place.key, room, MOST_ITEMS)?;
@@ -118,7 +118,7 @@ pub(crate) fn given_entries(
     ensures { IfOk result (λ run. (last n : ℕ) (c : Cookie) (values : List (List Op)) →
         reach last place.now values ≡ reaches → length values ≤ MOST_ITEMS →
         bytes ≡ place_length place.now + sum_by value_length values →
-        IsGiven last c place.now (left_after kv.now place.now.key) n values run) }
+        IsGiven last c place.now (remaining_after kv.now place.now.key) n values run) }
 {
     if !reaches {
         return kv.chunk_from(&place.key, 0, 0);

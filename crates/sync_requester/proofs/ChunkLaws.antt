@@ -5,7 +5,7 @@ use Rattle.std.proofs.lemmas.Bool.{le-leb, lt-leb}
 use Rattle.mon_bytes.specs.declared.entry.Entry.{Entry}
 use Rattle.mon_bytes.specs.declared.entry.KeyPlace.TheVariants.{After}
 use Rattle.mon_bytes.specs.declared.entry.KeyPlace.{KeyPlace}
-use Rattle.mon_msg.specs.Protocol.Changes.{Change, spelled}
+use Rattle.mon_msg.specs.Protocol.Changes.{Change, encoded}
 use Rattle.mon_msg.specs.Protocol.Chunks.{begin_replay, copy, copy_changes, hear_chunk, hear_last_chunk, next_place, record_changes, replay_or_end, take, take_and_ask, take_last, takes_chunks}
 use Rattle.mon_msg.specs.Protocol.Copying.{ask_chunk, of_provider}
 use Rattle.mon_msg.specs.Protocol.Course.{Course, ◌>>=◌, requester_is}
@@ -22,7 +22,7 @@ use Rattle.mon_msg.specs.declared.plan.RoleStop.{RoleStop}
 use Rattle.mon_msg.specs.declared.synchronisation.Requester.{Requester}
 use Rattle.mon_msg.specs.declared.synchronisation.SyncStage.TheVariants as sync
 use Rattle.mon_msg.specs.declared.view.Me.{Me}
-use Rattle.mon_plan.proofs.Planning.{changed-is, changed-readings, changed-state, changes-append, spelled-append}
+use Rattle.mon_plan.proofs.Planning.{changed-is, changed-readings, changed-state, changes-append, encoded-append}
 use Rattle.mon_plan.specs.Learned.{Learns}
 use Rattle.mon_plan.specs.Plans.{Plans, changed, done}
 use Rattle.mon_tx.specs.declared.op.Op.{Op}
@@ -56,9 +56,9 @@ copies-learned v values entries (Ok done) h = h
 copies-learned v values entries (Err stop.OutOfMemory) h = tt
 copies-learned v values entries (Err (stop.Spent which)) h = h
 
-pub whole-spelled : (tx : List Op) (v : ℕ) (values : List (List Op)) (entries : List Entry) → (tx ++ spelled (record_changes v values)) ++ spelled (copy_changes entries) ≡ tx ++ spelled (copied true v values entries)
-whole-spelled tx v values entries =
-    append_assoc tx (spelled (record_changes v values)) (spelled (copy_changes entries)) ∙ sym (ap (λ (ops : List Op). tx ++ ops) (spelled-append (record_changes v values) (copy_changes entries)))
+pub whole-encoded : (tx : List Op) (v : ℕ) (values : List (List Op)) (entries : List Entry) → (tx ++ encoded (record_changes v values)) ++ encoded (copy_changes entries) ≡ tx ++ encoded (copied true v values entries)
+whole-encoded tx v values entries =
+    append_assoc tx (encoded (record_changes v values)) (encoded (copy_changes entries)) ∙ sym (ap (λ (ops : List Op). tx ++ ops) (encoded-append (record_changes v values) (copy_changes entries)))
 
 module _ (s : Requester) (p : Place) (values : List (List Op)) (entries : List Entry) (last : Bool) where
   abbrev changes : List Change
@@ -90,10 +90,10 @@ module _ (s : Requester) (p : Place) (values : List (List Op)) (entries : List E
 -- by what was written for the versions after the place
 module _ (s : Requester) (p : Place) (values : List (List Op)) (entries : List Entry) (last : Bool) (from : ℕ) (behind : from ≡ suc p.version) (short : p.version + length values ≤ 2 ^ 62) where
   pub taken-is : ((x : Course) → copy s.full from values entries x ≡ Ok (changed (copied s.full from values entries) x)) → AllByRecursion Fits (copied s.full from values entries)
-      → (tx : List Op) → tx ≡ spelled (copied s.full from values entries) → (place : Place) → place ≡ next_place p (p.version + length values) entries last
+      → (tx : List Op) → tx ≡ encoded (copied s.full from values entries) → (place : Place) → place ≡ next_place p (p.version + length values) entries last
       → IsTaken s p values entries last (record { tx = tx; place = place })
   taken-is copies fit tx is place moves = record {
-    spelled = is ∙ ap (λ v. spelled (copied s.full v values entries)) behind;
+    encoded = is ∙ ap (λ v. encoded (copied s.full v values entries)) behind;
     fit = subst (λ v. AllByRecursion Fits (copied s.full v values entries)) behind fit;
     row = λ x role.
         take-done s p values entries last x role short (subst (λ v. copy s.full v values entries x ≡ Ok (changed (copied s.full v values entries) x)) behind (copies x))
@@ -149,10 +149,10 @@ module _ (w : Readings) (s : Requester) (f : ℕ) (x : Course) (b : IsHeard w s 
     abbrev pub here : Requester
     here = record s { place = taken.place }
 
-    pub chunk-asks : (c : Cookie) → take_and_ask me now c p values entries last x ≡ Ok (done requester_is changes_of (asks_chunk me now (spelled changes_of) c here (epoch_of (played changes_of w))) x)
+    pub chunk-asks : (c : Cookie) → take_and_ask me now c p values entries last x ≡ Ok (done requester_is changes_of (asks_chunk me now (encoded changes_of) c here (epoch_of (played changes_of w))) x)
     chunk-asks c =
         ap (λ (r : Result Course Which). r >>= (λ y. Ok (ask_chunk me now c y.state.requester.place y))) (h.row x b.role)
-        ∙ ap (λ (r : Readings). Ok (done requester_is changes_of (asks_chunk me now (spelled changes_of) c here (epoch_of r)) x))
+        ∙ ap (λ (r : Readings). Ok (done requester_is changes_of (asks_chunk me now (encoded changes_of) c here (epoch_of r)) x))
         (changed-readings changes_of x ∙ ap (played changes_of) b.readings)
 
   module _ (taken : Taken) (h : IsTaken s p values entries true taken) (last : ℕ) where
@@ -165,8 +165,8 @@ module _ (w : Readings) (s : Requester) (f : ℕ) (x : Course) (b : IsHeard w s 
     copy-spent e above = by_kind true e ∙ (let t = lt-leb (suc s.start) (2 ^ 62) above in rw t refl)
 
     pub copy-replays : s.full ≡ true → suc s.start ≤ 2 ^ 62
-        → take_last me now p values entries last x ≡ Ok (done requester_is changes_of (replays now (spelled changes_of) (record s { place = taken.place; stage = sync.Replay (suc s.start) last })) x)
+        → take_last me now p values entries last x ≡ Ok (done requester_is changes_of (replays now (encoded changes_of) (record s { place = taken.place; stage = sync.Replay (suc s.start) last })) x)
     copy-replays e short = by_kind true e ∙ (let t = le-leb (suc s.start) (2 ^ 62) short in rw t refl)
 
-    pub recent-ends : s.full ≡ false → take_last me now p values entries last x ≡ bootstrap me now (done requester_is changes_of (then_acts (spelled changes_of) (here true taken h) next.Bootstrap) x)
+    pub recent-ends : s.full ≡ false → take_last me now p values entries last x ≡ bootstrap me now (done requester_is changes_of (then_acts (encoded changes_of) (here true taken h) next.Bootstrap) x)
     recent-ends e = by_kind false e

@@ -3,7 +3,7 @@ use Rattle.std.proofs.Common.{◌≡◌, ℕ, suc, ◌≤◌, ◌^◌, Bool, tru
 use Rattle.std.specs.Option.{option_map}
 use Rattle.std.proofs.lemmas.Bool.{cases_Bool, leb-true, eqb-true}
 use Rattle.byteorder.specs.Endian.{little_number}
-use Rattle.mon_msg.specs.Protocol.Changes.{Change, Mark, spelled}
+use Rattle.mon_msg.specs.Protocol.Changes.{Change, Mark, encoded}
 use Rattle.mon_msg.specs.Protocol.Course.{Course, requester_is}
 use Rattle.mon_msg.specs.Protocol.Readings.{Readings, epoch_of, readings_of}
 use Rattle.mon_msg.specs.Protocol.Records.{found_as, pending, pending_of, record_at}
@@ -75,7 +75,7 @@ mark w = Mark (floor_of w) w.last_pn w.promise
 module _ (me : Me) (now epoch : ℕ) (w : Readings) (x : Course) (b : IsEntering epoch w x) (from : ℕ) where
   abbrev pub begun_full : Readings → (epoch : ℕ) → Result Course Which
   begun_full w epoch =
-      Ok (done requester_is (mark w ∷ []) (asks me now (spelled (mark w ∷ [])) body.GetCookieFull (start_requester from true) epoch) (entered (next.FullSync from) x))
+      Ok (done requester_is (mark w ∷ []) (asks me now (encoded (mark w ∷ [])) body.GetCookieFull (start_requester from true) epoch) (entered (next.FullSync from) x))
 
   pub full-begins : act me now (next.FullSync from) x ≡ begun_full w epoch
   unfolding full_sync

@@ -33,7 +33,7 @@ use Rattle.mon_wire.specs.declared.parts.Cookie.{Cookie}
 use Rattle.mon_wire.specs.declared.parts.Place.{Place}
 use Rattle.mon_wire.specs.declared.phase.Phase.TheVariants as phase
 use Rattle.mon_types.specs.declared.names.Which.{Which}
-use Rattle.sync_requester.specs.Inputs.{is_told}
+use Rattle.sync_requester.specs.Inputs.{is_role_message}
 use Rattle.sync_requester.specs.Rows.{IsHeard}
 
 module _ (me : Me) (now : ℕ) (w : Readings) (view : View) (s : Requester) where
@@ -65,7 +65,7 @@ pub idle-stage : (me : Me) (now : ℕ) (stage : SyncStage) → (stage ≡ sync.C
 idle-stage me now stage (inl e) x = ap (λ (st : SyncStage). step_in me now st x) e
 idle-stage me now stage (inr e) x = ap (λ (st : SyncStage). step_in me now st x) e
 
-pub hear-dropped : (me : Me) (shared : List Entry) (now f e : ℕ) (m : Body) → IsTrue (is_told m) → (x : Course) → of_provider f x ≡ false → hear me shared now f e m x ≡ Ok x
+pub hear-dropped : (me : Me) (shared : List Entry) (now f e : ℕ) (m : Body) → IsTrue (is_role_message m) → (x : Course) → of_provider f x ≡ false → hear me shared now f e m x ≡ Ok x
 unfolding hear_cookie hear_chunk hear_last_chunk hear_no_cookie
 hear-dropped me shared now f e (body.Cookie full c last) t x h = rw h refl
 hear-dropped me shared now f e (body.Chunk c p values entries done) t x h = rw h refl

@@ -4,13 +4,13 @@ use Rattle.std.specs.List.{AllByRecursion}
 use Rattle.std.specs.Option.{option_map}
 use Rattle.std.proofs.lemmas.Bool.{and_parts, le-leb, le-ltb, leb-true, lt-leb, lt-ltb}
 use Rattle.std.proofs.lemmas.Option.{cond_some}
-use Rattle.mon_msg.specs.Protocol.Changes.{Change, Last, Unmark, ops_of, spelled}
+use Rattle.mon_msg.specs.Protocol.Changes.{Change, Last, Unmark, ops_of, encoded}
 use Rattle.mon_msg.specs.Protocol.Course.{Course, ◌▸◌, arm, change, change_all, requester_is}
 use Rattle.mon_msg.specs.Protocol.Entering.{bootstrap}
 use Rattle.mon_msg.specs.Protocol.Learning.{learn_changes}
 use Rattle.mon_msg.specs.Protocol.Played.{Fits}
 use Rattle.mon_msg.specs.Protocol.Readings.{Readings}
-use Rattle.mon_msg.specs.Protocol.Records.{may_begin, record_at, transaction_in, where_it_may_begin}
+use Rattle.mon_msg.specs.Protocol.Records.{may_begin, record_at, transaction_in, if_it_may_begin}
 use Rattle.mon_msg.specs.Protocol.Replay.{more_of, replay_any, step_in, step_of}
 use Rattle.mon_msg.specs.Protocol.Timers.{length_of}
 use Rattle.mon_msg.specs.declared.plan.Arming.TheVariants as arming
@@ -21,7 +21,7 @@ use Rattle.mon_msg.specs.declared.synchronisation.SyncStage.TheVariants as sync
 use Rattle.mon_msg.specs.declared.view.Me.{Me}
 use Rattle.mon_plan.proofs.Kept.{kept-requester}
 use Rattle.mon_plan.proofs.Learning.{learned-fit}
-use Rattle.mon_plan.proofs.Planning.{changed-is, changed-state, changes-append, fit-append, spelled-append}
+use Rattle.mon_plan.proofs.Planning.{changed-is, changed-state, changes-append, fit-append, encoded-append}
 use Rattle.mon_plan.specs.Plans.{changed, done}
 use Rattle.mon_tx.specs.Decision.{Cell}
 use Rattle.mon_tx.specs.Decode.{transaction_of}
@@ -38,13 +38,13 @@ cell_short : (c : Cell) (value : List Op) → transaction_in c ≡ Some value �
 cell_short None value h = cc
 cell_short (Some bytes) value h = by (transaction_of bytes) h
   where
-    by_begin : (ops : List Op) → where_it_may_begin (Ok ops) ≡ Some value → length (text value) ≤ 1048544
+    by_begin : (ops : List Op) → if_it_may_begin (Ok ops) ≡ Some value → length (text value) ≤ 1048544
     by_begin ops h =
         let both = cond_some (may_begin ops) ops value h in
         let le = leb-true (12 + (16 + (4 + length (text ops)))) 1048576 (and_parts (leb (12 + (16 + (4 + length (text ops)))) 1048576) true both.0).0 in
         subst (λ (ops : List Op). length (text ops) ≤ 1048544) both.1 (omega (arith, le))
 
-    by : (r : Result (List Op) TxRefused) → where_it_may_begin r ≡ Some value → length (text value) ≤ 1048544
+    by : (r : Result (List Op) TxRefused) → if_it_may_begin r ≡ Some value → length (text value) ≤ 1048544
     by (Ok ops) h = by_begin ops h
     by (Err e) h = cc
 
@@ -207,9 +207,9 @@ end_changes next end values = learn_changes next values ++ Last end ∷ Unmark �
 pub end-fits : (next end : ℕ) (values : List (List Op)) → Fits (Last end) → AllByRecursion Fits (end_changes next end values)
 end-fits next end values short = fit-append (learn_changes next values) (Last end ∷ Unmark ∷ []) (learned-fit next values) (short, (tt, tt))
 
-pub end-spelled : (next end : ℕ) (values : List (List Op)) → (spelled (learn_changes next values) ++ ops_of (Last end)) ++ ops_of Unmark ≡ spelled (end_changes next end values)
-end-spelled next end values =
-    append_assoc (spelled (learn_changes next values)) (ops_of (Last end)) (ops_of Unmark) ∙ sym (spelled-append (learn_changes next values) (Last end ∷ Unmark ∷ []))
+pub end-encoded : (next end : ℕ) (values : List (List Op)) → (encoded (learn_changes next values) ++ ops_of (Last end)) ++ ops_of Unmark ≡ encoded (end_changes next end values)
+end-encoded next end values =
+    append_assoc (encoded (learn_changes next values)) (ops_of (Last end)) (ops_of Unmark) ∙ sym (encoded-append (learn_changes next values) (Last end ∷ Unmark ∷ []))
 
 abbrev pub steps_on : (now : ℕ) → List Op → Requester → Plan Requester
 steps_on now tx s = record {
@@ -253,7 +253,7 @@ module _ (w : Readings) (s : Requester) (x : Course) (b : Holds w s x) (me : Me)
     replay-ends past = by_end true (lt-ltb end (next + length values) past) ∙ ap (bootstrap me now) ended
 
     pub replay-steps : next + length values ≤ end
-        → step_in me now (sync.Replay next end) x ≡ Ok (done requester_is (learn_changes next values) (steps_on now (spelled (learn_changes next values)) (record s { stage = sync.Replay (next + length values) end })) x)
+        → step_in me now (sync.Replay next end) x ≡ Ok (done requester_is (learn_changes next values) (steps_on now (encoded (learn_changes next values)) (record s { stage = sync.Replay (next + length values) end })) x)
     replay-steps within =
         by_end false (le-ltb end (next + length values) within)
         ∙ (λ i. Ok (learned_so ▸ requester_is (record (b.role i) { stage = sync.Replay (next + length values) end }) ▸ arm now timer.Step))

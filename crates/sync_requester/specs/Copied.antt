@@ -2,7 +2,7 @@
 use Rattle.std.specs.List.{AllByRecursion}
 use Rattle.std.specs.Prelude.{◌≡◌, ℕ, suc, Bool, true, false, List, Result, Ok, Err, ◌++◌}
 use Rattle.mon_bytes.specs.declared.entry.Entry.{Entry}
-use Rattle.mon_msg.specs.Protocol.Changes.{Change, spelled}
+use Rattle.mon_msg.specs.Protocol.Changes.{Change, encoded}
 use Rattle.mon_msg.specs.Protocol.Chunks.{record_changes, copy_changes, copy, take}
 use Rattle.mon_msg.specs.Protocol.Course.{Course, requester_is}
 use Rattle.mon_msg.specs.Protocol.Played.{Fits}
@@ -32,7 +32,7 @@ Copies full v values entries (Err (stop.Spent which)) = (x : Course) → copy fu
 -- A chunk that was taken is written, and the requester remembers the place after it.
 pub record IsTaken (s : Requester) (p : Place) (values : List (List Op)) (entries : List Entry) (done : Bool)
     (taken : Taken) : Type 0 where
-  pub spelled : taken.tx ≡ spelled (copied s.full (suc p.version) values entries)
+  pub encoded : taken.tx ≡ encoded (copied s.full (suc p.version) values entries)
   pub fit : AllByRecursion Fits (copied s.full (suc p.version) values entries)
   pub row : (x : Course) → x.state.requester ≡ s → take p values entries done x
       ≡ Ok (requester_is (record s { place = taken.place }) (changed (copied s.full (suc p.version) values entries) x))

@@ -3,7 +3,7 @@
 ghost use Rattle.std.specs.Prelude.{◌≡◌, ℕ, ◌+◌, ◌≤◌, ◌^◌, ◌&&◌, ◌++◌, length, true, false, Some, IfOk, OnOk};
 ghost use Rattle.std.specs.List.{AllByRecursion};
 ghost use Rattle.mon_tx.specs.Text.{text, most};
-ghost use Rattle.mon_msg.specs.Protocol.Changes.{spelled};
+ghost use Rattle.mon_msg.specs.Protocol.Changes.{encoded};
 ghost use Rattle.mon_msg.specs.Protocol.Chunks.{hear_chunk, hear_last_chunk, take_last, takes_chunks};
 ghost use Rattle.mon_msg.specs.Protocol.Places.{is_cookie, same_place};
 ghost use Rattle.mon_msg.specs.Protocol.Played.{Fits};
@@ -56,7 +56,7 @@ fn write(tx: &mut Transaction, full: bool, from: u64, chunk: &Chunk<'_>) -> Resu
     requires room { from + length chunk.now.values.now ≤ 2 ^ 63 }
     ensures copy { Copies full from chunk.now.values.now chunk.now.entries.now result }
     ensures changes { OnOk result
-        (tx.new ≡ tx.old ++ spelled (copied full from chunk.now.values.now chunk.now.entries.now)) }
+        (tx.new ≡ tx.old ++ encoded (copied full from chunk.now.values.now chunk.now.entries.now)) }
     ensures fit { OnOk result (AllByRecursion Fits (copied full from chunk.now.values.now chunk.now.entries.now)) }
 {
     if !full {

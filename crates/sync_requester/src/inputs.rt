@@ -9,11 +9,11 @@ ghost use Rattle.mon_msg.specs.Protocol.Phases.{same_phase};
 ghost use Rattle.mon_msg.specs.Protocol.Readings.{readings_of};
 ghost use Rattle.mon_msg.specs.Protocol.Replay.{replay_step};
 ghost use Rattle.mon_msg.specs.Protocol.Table.{timer_comes};
-ghost use Rattle.mon_plan.specs.Inputs.{may_come, row};
+ghost use Rattle.mon_plan.specs.Inputs.{input_is_short, row};
 ghost use Rattle.mon_plan.specs.Leaves.{Leaves};
 ghost use Rattle.mon_plan.specs.Plans.{PlansRow};
 ghost use Rattle.mon_plan.specs.Seen.{IsMet};
-ghost use Rattle.sync_requester.specs.Inputs.{is_told, is_own, is_input};
+ghost use Rattle.sync_requester.specs.Inputs.{is_role_message, is_own, is_input};
 ghost use Rattle.sync_requester.specs.Rows.{ByRow};
 
 use crate::chunks::{Chunk, hear_chunk, hear_last_chunk};
@@ -49,7 +49,7 @@ fn hear(
     state: &Requester,
     message: &Message,
 ) -> Result<Plan<Requester>, RoleStop>
-    requires input { IsTrue (is_told message.now.body) }
+    requires input { IsTrue (is_role_message message.now.body) }
     requires fits { IsTrue (fits here.now.me.now.member.monitors message.now.body) }
     ensures plans { (shared : List Entry) → ByRow here.now view.now state.now
         (hears here.now.me.now shared here.now.time message.now.from message.now.epoch message.now.body) result }
@@ -140,7 +140,7 @@ pub fn step(
     now: Moment,
 ) -> Result<Plan<Requester>, RoleStop>
     requires input { IsTrue (is_input input.now) }
-    requires fits { IsTrue (may_come me.now.member.monitors input.now) }
+    requires fits { IsTrue (input_is_short me.now.member.monitors input.now) }
     ensures plans { (shared : List Entry) →
         PlansRow me.now now requester_is (IsMet me.now now (readings_of kv.now) view.now (λ s. s.requester) state.now)
         (row me.now shared now input.now) result }

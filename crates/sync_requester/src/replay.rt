@@ -4,7 +4,7 @@ ghost use Rattle.std.specs.Prelude.{◌≡◌, suc, ◌+◌, ◌-◌, ◌≤◌,
 ghost use Rattle.std.specs.List.{AllByRecursion};
 ghost use Rattle.std.specs.Option.{option_map};
 ghost use Rattle.mon_tx.specs.Text.{text, most};
-ghost use Rattle.mon_msg.specs.Protocol.Changes.{Last, Unmark, ops_of, spelled};
+ghost use Rattle.mon_msg.specs.Protocol.Changes.{Last, Unmark, ops_of, encoded};
 ghost use Rattle.mon_msg.specs.Protocol.Course.{requester_is};
 ghost use Rattle.mon_msg.specs.Protocol.Learning.{learn_changes};
 ghost use Rattle.mon_msg.specs.Protocol.Played.{Fits};
@@ -88,7 +88,7 @@ fn to_learn(
     values: &[Transaction],
 ) -> Result<Transaction, OutOfMemory>
     requires { AllByRecursion (λ ops. length (text ops) ≤ most) values.now }
-    ensures { IfOk result (λ tx. tx ≡ spelled (learn_changes from values.now)) }
+    ensures { IfOk result (λ tx. tx ≡ encoded (learn_changes from values.now)) }
 {
     let mut tx = Transaction::new(alloc);
     put_learned(&mut tx, from.get(), values)?;

@@ -65,7 +65,7 @@ left_is separator [] some = absurd (omega arith)
 left_is separator (t ∷ ts) some = refl
 
 pub record IsHost (text host : List ℕ) : Type 0 where
-  pub spelled : text ≡ joined 46 (map decimal host)
+  pub parsed : text ≡ joined 46 (map decimal host)
   pub numbers : length host ≡ 4
   pub most : AllByRecursion (λ n. n ≤ 255) host
 
@@ -73,7 +73,7 @@ host_takes : (text host : List ℕ) → host_of text ≡ Ok host → IsHost text
 unfolding host_of
 host_takes text host e =
     let parts = parts_take ℕ 46 (number_of 0 255) decimal (λ n. n ≤ 255) number_part 4 (Some text) host e in
-    record { spelled = same_left text 46 (map decimal host) parts.spelled; numbers = parts.count; most = parts.each }
+    record { parsed = same_left text 46 (map decimal host) parts.parsed; numbers = parts.count; most = parts.each }
 
 host_again : (host : List ℕ) → length host ≡ 4 → AllByRecursion (λ n. n ≤ 255) host → host_of (joined 46 (map decimal host)) ≡ Ok host
 unfolding host_of
@@ -105,7 +105,7 @@ address_takes field a e =
     let h = host_takes (cut 58 field).0 host.0 host.1 in
     let p = port_takes (cut 58 field).1 port.0 port.1 in
     let text : field ≡ joined 46 (map decimal host.0) ++ 58 ∷ decimal port.0 =
-    sym (cut_joined 58 field) ∙ (λ i. fields.joined 58 (h.spelled i) (p.0 i)) in
+    sym (cut_joined 58 field) ∙ (λ i. fields.joined 58 (h.parsed i) (p.0 i)) in
     let made : Address = record { host = host.0; port = port.0 } in
     subst (λ (b : Address). (field ≡ address_text b) × IsAddress b) (ok_is made a port.2)
     (text, record { numbers = h.numbers; most = h.most; port = p.1; port_most = p.2 })
@@ -128,7 +128,7 @@ address_part = record { takes = address_takes; again = address_again; apart_is =
 -- ---- several
 
 pub record AreAddresses (n : ℕ) (text : List ℕ) (addresses : List Address) : Type 0 where
-  pub spelled : text ≡ addresses_text addresses
+  pub parsed : text ≡ addresses_text addresses
   pub count : length addresses ≡ n
   pub each : AllByRecursion IsAddress addresses
 
@@ -136,7 +136,7 @@ pub addresses_take : (n : ℕ) (text : List ℕ) (addresses : List Address) → 
 unfolding addresses_of
 addresses_take n text addresses e =
     let parts = parts_take Address 44 address_of address_text IsAddress address_part n (Some text) addresses e in
-    record { spelled = same_left text 44 (map address_text addresses) parts.spelled; count = parts.count; each = parts.each }
+    record { parsed = same_left text 44 (map address_text addresses) parts.parsed; count = parts.count; each = parts.each }
 
 pub addresses_again : (addresses : List Address) → 0 < length addresses → AllByRecursion IsAddress addresses → addresses_of (length addresses) (addresses_text addresses) ≡ Ok addresses
 unfolding addresses_of

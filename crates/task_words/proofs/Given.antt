@@ -13,13 +13,13 @@ use Rattle.election_rules.specs.declared.rule.Rule.{Rule}
 use Rattle.mon_link.specs.declared.udp.Address.{Address}
 use Rattle.mon_types.specs.declared.member.Member.{Member}
 use Rattle.mon_wire.specs.declared.request.Service.{Service}
-use Rattle.schedule_text.specs.Spelling.{RuleFits, rule_text}
+use Rattle.schedule_text.specs.Encoding.{RuleFits, rule_text}
 use Rattle.schedule_text.specs.Words.{service_text}
 use Rattle.task_words.specs.declared.task.WordsStop.{WordsStop}
 use Rattle.task_words.specs.declared.task.WordsStop.TheVariants.{Refused, OutOfMemory}
 use Rattle.task_words.specs.Addresses.{IsAddress, addresses_of, addresses_text, commas}
 use Rattle.task_words.specs.Matches.{IsFound, IsGiven, IsText}
-use Rattle.task_words.specs.Words.{Spells}
+use Rattle.task_words.specs.Words.{Parses}
 use Rattle.task_words.proofs.AddressLaws.{addresses_read, commas_between}
 use Rattle.mon_types.proofs.Members.{same_member}
 use Rattle.task_words.proofs.Unique.{same_rule, same_service}
@@ -34,19 +34,19 @@ text_found m id o r first is text found = text_given o r text (first ∙ first_v
 
 -- an argument that encodes a value was read
 value_given : (A : Type 0) (text : A → List ℕ) (Fits : A → Type 0) (word : List ℕ) (o : Option A) (r : Result A WordsStop) (x : A)
-    → ((y : A) → Fits y → text y ≡ text x → y ≡ x) → Spells text Fits o word → r ≡ ok_or o Refused → Fits x → word ≡ text x → IsGiven x r
-value_given A text Fits word (Some y) r x unique spells is fits word_is = subst (IsGiven x) (sym is) (unique y spells.1 (sym spells.0 ∙ word_is))
-value_given A text Fits word None r x unique spells is fits word_is = absurd (spells x fits word_is)
+    → ((y : A) → Fits y → text y ≡ text x → y ≡ x) → Parses text Fits o word → r ≡ ok_or o Refused → Fits x → word ≡ text x → IsGiven x r
+value_given A text Fits word (Some y) r x unique parses is fits word_is = subst (IsGiven x) (sym is) (unique y parses.1 (sym parses.0 ∙ word_is))
+value_given A text Fits word None r x unique parses is fits word_is = absurd (parses x fits word_is)
 
 pub number_given : (least most : ℕ) (word : List ℕ) (o : Option ℕ) (r : Result ℕ WordsStop) (n : ℕ) → most < 2 ^ 64
-    → Spells decimal (λ m. (least ≤ m) × (m ≤ most)) o word → r ≡ ok_or o Refused → least ≤ n → n ≤ most → word ≡ decimal n → IsGiven n r
-number_given least most word o r n small spells is low high word_is =
-    value_given ℕ decimal (λ m. (least ≤ m) × (m ≤ most)) word o r n (λ m fits same. decimal_injective m n (omega (arith, fits.1)) (omega arith) same) spells is (low, high) word_is
+    → Parses decimal (λ m. (least ≤ m) × (m ≤ most)) o word → r ≡ ok_or o Refused → least ≤ n → n ≤ most → word ≡ decimal n → IsGiven n r
+number_given least most word o r n small parses is low high word_is =
+    value_given ℕ decimal (λ m. (least ≤ m) × (m ≤ most)) word o r n (λ m fits same. decimal_injective m n (omega (arith, fits.1)) (omega arith) same) parses is (low, high) word_is
 
 pub rule_given : (n : ℕ) (word : List ℕ) (o : Option Rule) (r : Result Rule WordsStop) (rule : Rule)
-    → Spells rule_text (RuleFits n) o word → r ≡ ok_or o Refused → RuleFits n rule → word ≡ rule_text rule → IsGiven rule r
-rule_given n word o r rule spells is fits word_is =
-    value_given Rule rule_text (RuleFits n) word o r rule (λ other other_fits same. same_rule n other rule other_fits fits same) spells is fits word_is
+    → Parses rule_text (RuleFits n) o word → r ≡ ok_or o Refused → RuleFits n rule → word ≡ rule_text rule → IsGiven rule r
+rule_given n word o r rule parses is fits word_is =
+    value_given Rule rule_text (RuleFits n) word o r rule (λ other other_fits same. same_rule n other rule other_fits fits same) parses is fits word_is
 
 -- the member that two arguments encode, or that they encode none
 pub member_given : (rank monitors : List ℕ) (o : Option Member) (r : Result Member WordsStop) (m : Member)
@@ -69,10 +69,10 @@ addresses_given n text (Err Refused) addresses found refused some count each tex
     absurd cc
 addresses_given n text (Err OutOfMemory) addresses found refused some count each text_is = tt
 
-pub service_given : (word : List ℕ) (o : Option Service) (r : Result Service WordsStop) (service : Service) → Spells service_text (λ _. Unit {0}) o word → r ≡ ok_or o Refused
+pub service_given : (word : List ℕ) (o : Option Service) (r : Result Service WordsStop) (service : Service) → Parses service_text (λ _. Unit {0}) o word → r ≡ ok_or o Refused
     → word ≡ service_text service → IsGiven service r
-service_given word o r service spells is word_is =
-    value_given Service service_text (λ _. Unit {0}) word o r service (λ other _ same. same_service other service same) spells is tt word_is
+service_given word o r service parses is word_is =
+    value_given Service service_text (λ _. Unit {0}) word o r service (λ other _ same. same_service other service same) parses is tt word_is
 
 -- how many addresses there are
 pub count_is : (text : List ℕ) (n : ℕ) (addresses : List Address) → n ≡ commas text + 1 → 1 ≤ length addresses → AllByRecursion IsAddress addresses

@@ -8,6 +8,6 @@ pub mod Parsing
 pub mod PartLaws
 pub mod PartsLoop
 pub mod Reading
-pub mod Spelled
+pub mod Parsed
 pub mod TaskKinds
 pub mod Unique

@@ -7,7 +7,7 @@ use Rattle.clap.specs.Simple.{App, Shape, built, built_leaf, entered, inherited,
 use Rattle.clap.specs.Takes.{built_takes, default_passes, is_valid, level_passes, settle_passes, takes, turn_passes, walk_passes}
 use Rattle.clap.specs.Walk.{Row, answers_to, Text, Walk, finished, nothing_held, rows_after, stop_after, walk, walk_from, walked}
 use Rattle.clap.proofs.OnLiterals.{clap_on_literals}
-use Rattle.schedule_text.specs.Spelling.{rule_text}
+use Rattle.schedule_text.specs.Encoding.{rule_text}
 use Rattle.schedule_text.specs.Words.{service_text}
 use Rattle.task_words.specs.declared.task.Task.{Task}
 use Rattle.task_words.specs.declared.task.Task.TheVariants as task

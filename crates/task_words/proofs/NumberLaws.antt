@@ -8,10 +8,10 @@ use Rattle.mon_types.specs.declared.member.Member.{Member}
 use Rattle.schedule_text.specs.declared.refusal.ScheduleKind.{ScheduleKind}
 use Rattle.schedule_text.specs.Fields.{number_of, within}
 use Rattle.schedule_text.specs.Schedule.{rule_of}
-use Rattle.schedule_text.specs.Spelling.{RuleFits, rule_text}
+use Rattle.schedule_text.specs.Encoding.{RuleFits, rule_text}
 use Rattle.schedule_text.proofs.FieldLaws.{number_form}
 use Rattle.schedule_text.proofs.HeaderLaws.{rule_again}
-use Rattle.task_words.specs.Words.{Spells, Tells}
+use Rattle.task_words.specs.Words.{Parses, Reflects}
 
 pub within_is : (least most n : ℕ) → least ≤ n → n ≤ most → IsTrue (within least most n)
 within_is least most n low high = grind (arith, nat_tests)
@@ -64,16 +64,16 @@ no_member_there None none is holds = refl
 -- ---- a value that was found, and one that wasn't
 
 module _ (A : Type 0) (text : A → List ℕ) (Fits : A → Type 0) (word : List ℕ) where
-  pub spelled_some : (found : Option A) (none : Bool) → Spells text Fits found word → is_some found ≡ not none → none ≡ false → (x : A) × ((word ≡ text x) × Fits x)
-  spelled_some (Some x) none h is fails = (x, h)
-  spelled_some None none h is fails = let lost : false ≡ true = is ∙ ap not fails in absurd cc
+  pub parsed_some : (found : Option A) (none : Bool) → Parses text Fits found word → is_some found ≡ not none → none ≡ false → (x : A) × ((word ≡ text x) × Fits x)
+  parsed_some (Some x) none h is fails = (x, h)
+  parsed_some None none h is fails = let lost : false ≡ true = is ∙ ap not fails in absurd cc
 
-  pub spelled_none : (found : Option A) (none : Bool) → Spells text Fits found word → is_some found ≡ not none → none ≡ true → (x : A) → Fits x → ¬ (word ≡ text x)
-  spelled_none (Some x) none h is holds = let lost : true ≡ false = is ∙ ap not holds in absurd cc
-  spelled_none None none h is holds = h
+  pub parsed_none : (found : Option A) (none : Bool) → Parses text Fits found word → is_some found ≡ not none → none ≡ true → (x : A) → Fits x → ¬ (word ≡ text x)
+  parsed_none (Some x) none h is holds = let lost : true ≡ false = is ∙ ap not holds in absurd cc
+  parsed_none None none h is holds = h
 
   -- the last test of several
-  pub last_tells : (found : Option A) (test : Bool) (Fact : Type 0) → Spells text Fits found word → test ≡ is_some found → ((x : A) → Fits x → word ≡ text x → Fact)
-      → (((x : A) → Fits x → ¬ (word ≡ text x)) → ¬ Fact) → Tells test Fact
-  last_tells (Some x) test Fact h is all none = subst (λ (b : Bool). Tells b Fact) (sym is) (all x h.1 h.0)
-  last_tells None test Fact h is all none = subst (λ (b : Bool). Tells b Fact) (sym is) (none h)
+  pub last_reflects : (found : Option A) (test : Bool) (Fact : Type 0) → Parses text Fits found word → test ≡ is_some found → ((x : A) → Fits x → word ≡ text x → Fact)
+      → (((x : A) → Fits x → ¬ (word ≡ text x)) → ¬ Fact) → Reflects test Fact
+  last_reflects (Some x) test Fact h is all none = subst (λ (b : Bool). Reflects b Fact) (sym is) (all x h.1 h.0)
+  last_reflects None test Fact h is all none = subst (λ (b : Bool). Reflects b Fact) (sym is) (none h)

@@ -27,7 +27,7 @@ joined-before separator text (other ∷ texts) = refl
 pub record ArePartsOf {A : Type 0} (separator : ℕ) (text : A → List ℕ) (Fits : A → Type 0) (n : ℕ) (rest : Option (List ℕ)) (xs : List A) : Type 0 where
   pub count : length xs ≡ n
   pub each : AllByRecursion Fits xs
-  pub spelled : rest ≡ before separator (map text xs)
+  pub parsed : rest ≡ before separator (map text xs)
 
 module _ (A : Type 0) (separator : ℕ) (read : List ℕ → Result A ScheduleKind) (text : A → List ℕ) (Fits : A → Type 0) (form : IsPart A separator read text Fits) where
   part_takes : (rest : Option (List ℕ)) (x : A) (after : Option (List ℕ)) → part_of separator read rest ≡ Ok (x, after)
@@ -46,7 +46,7 @@ module _ (A : Type 0) (separator : ℕ) (read : List ℕ → Result A ScheduleKi
   unfolding parts_of
   parts_take zero rest xs e =
       let end = ended_takes rest [] xs e in
-      subst (ArePartsOf separator text Fits 0 rest) end.1 (record { count = refl; each = tt; spelled = end.0 })
+      subst (ArePartsOf separator text Fits 0 rest) end.1 (record { count = refl; each = tt; parsed = end.0 })
   parts_take (suc n) rest xs e =
       let a = bind_ok (part_of separator read rest) _ xs e in
       let b = bind_ok (parts_of separator read n a.0.1) (λ (ys : List A). Ok (a.0.0 ∷ ys)) xs a.2 in
@@ -55,7 +55,7 @@ module _ (A : Type 0) (separator : ℕ) (read : List ℕ → Result A ScheduleKi
       subst (ArePartsOf separator text Fits (suc n) rest) (ok_is (a.0.0 ∷ b.0) xs b.2) (record {
         count = ap suc others.count;
         each = (first.1, others.each);
-        spelled = first.0 ∙ ap (λ (r : Option (List ℕ)). Some (fields.joined separator (text a.0.0) r)) others.spelled
+        parsed = first.0 ∙ ap (λ (r : Option (List ℕ)). Some (fields.joined separator (text a.0.0) r)) others.parsed
             ∙ ap (λ (t : List ℕ). Some t) (sym (joined-before separator (text a.0.0) (map text b.0)));
       })
 

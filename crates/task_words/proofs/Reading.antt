@@ -7,7 +7,7 @@ use Rattle.clap.specs.declared.parser.matches.ArgMatches.{ArgMatches}
 use Rattle.election_rules.specs.declared.rule.Rule.{Rule}
 use Rattle.mon_link.specs.declared.udp.Address.{Address}
 use Rattle.mon_types.specs.declared.member.Member.{Member}
-use Rattle.schedule_text.specs.Spelling.{rule_text}
+use Rattle.schedule_text.specs.Encoding.{rule_text}
 use Rattle.task_words.specs.declared.task.Task.{Task}
 use Rattle.task_words.specs.declared.task.Task.TheVariants as task
 use Rattle.task_words.specs.declared.task.WordsStop.{WordsStop}
@@ -17,15 +17,15 @@ use Rattle.task_words.specs.Addresses.{addresses_text}
 use Rattle.task_words.specs.Commands.{command}
 use Rattle.task_words.specs.Matches.{AreTexts, IsGiven}
 use Rattle.task_words.specs.Task.{Asks, AsksFor, HasWords, IsAsked, Reads, words_of}
-use Rattle.task_words.specs.Words.{Tells}
+use Rattle.task_words.specs.Words.{Reflects}
 use Rattle.task_words.proofs.TaskKinds.{Fields, Kind, Replays, Makes, Serves, Follows, Scrubs, Compares, DumpsKeys, DumpsPaxos, Exports, Imports, ids_by, kind_named, kind_of, name_by, name_of, of_name, task_by, texts_of}
 use Rattle.task_words.proofs.Matching.{finds_task, finds_texts, leaf_by, leaf_of, rows_of_task, simple, takes_task}
 
 -- ---- what a test returns
 
-pub told : (test : Bool) (fact : Type 0) → Tells test fact → test ≡ true → fact
-told true fact tells is = tells
-told false fact tells is = absurd cc
+pub told : (test : Bool) (fact : Type 0) → Reflects test fact → test ≡ true → fact
+told true fact reflects is = reflects
+told false fact reflects is = absurd cc
 
 -- ---- the parse
 
@@ -104,9 +104,9 @@ reads_given words (Err Refused) t asks given = absurd given
 reads_given words (Err OutOfMemory) t asks given = (t, asks)
 
 -- accepted arguments are read as the task that they ask for
-pub reads : (words : List (String Global)) (test : Bool) (r : Result Task WordsStop) (a : App) (m : ArgMatches) → Tells test (IsAsked words) → test ≡ true → a ≡ command
+pub reads : (words : List (String Global)) (test : Bool) (r : Result Task WordsStop) (a : App) (m : ArgMatches) → Reflects test (IsAsked words) → test ≡ true → a ≡ command
     → HasMatchesOf a (map string_bytes words) m → ((t : Task) → Asks t (words_of t) → subcommand_rows_of m ≡ subcommand_of command (words_of t) → IsGiven t r) → Reads r words
-reads words test r a m tells holds is matches given =
-    let asked = told test (IsAsked words) tells holds in
+reads words test r a m reflects holds is matches given =
+    let asked = told test (IsAsked words) reflects holds in
     let rows = (subst (λ (b : App). HasMatchesOf b (map string_bytes words) m) is matches simple).1 in
     reads_given words r asked.0 asked.1 (given asked.0 (own_words asked.0 (map string_bytes words) asked.1) (rows ∙ ap (subcommand_of command) asked.1.are))

@@ -7,13 +7,13 @@ use Rattle.election_rules.specs.declared.rule.Rule.{Rule}
 use Rattle.mon_link.specs.declared.udp.Address.{Address}
 use Rattle.mon_types.specs.declared.member.Member.{Member}
 use Rattle.mon_wire.specs.declared.request.Service.{Service}
-use Rattle.schedule_text.specs.Spelling.{rule_text}
+use Rattle.schedule_text.specs.Encoding.{rule_text}
 use Rattle.schedule_text.specs.Words.{service_text}
 use Rattle.task_words.specs.declared.task.Task.{Task}
 use Rattle.task_words.specs.declared.task.Task.TheVariants as task
 use Rattle.task_words.specs.Addresses.{addresses_text}
 use Rattle.task_words.specs.Commands.{follow_texts, made_texts, no_texts, node_texts, store_texts, versions_texts}
-use Rattle.task_words.specs.Task.{HasWords, SpellsTask, words_of}
+use Rattle.task_words.specs.Task.{HasWords, ParsesTask, words_of}
 
 pub data Kind : Type 0 where
   Replays : Kind
@@ -187,14 +187,14 @@ pub same_tail : (a b : Text) (x y : List Text) → a ∷ x ≡ b ∷ y → x ≡
 same_tail a b x y e = cc
 
 -- the arguments of a task of this kind
-pub record Spelled (k : Kind) (texts : List Text) : Type 0 where
+pub record Parsed (k : Kind) (texts : List Text) : Type 0 where
   pub fields : Fields k
   pub has : HasWords (task_by k fields)
   pub are : texts ≡ texts_of (task_by k fields)
 
 -- a task that a name and texts encode is of the name's kind
-pub spelled : (name : Text) (texts : List Text) → SpellsTask (name ∷ texts) → Spelled (kind_named name) texts
-spelled name texts s =
+pub parsed : (name : Text) (texts : List Text) → ParsesTask (name ∷ texts) → Parsed (kind_named name) texts
+parsed name texts s =
     let whole : name ∷ texts ≡ name_of s.0 ∷ texts_of s.0 = s.1.1 ∙ words_are s.0 in
     let it = of_name name s.0 (same_head _ _ _ _ whole) in
     record { fields = it.0; has = subst HasWords it.1 s.1.0; are = same_tail _ _ _ _ whole ∙ ap texts_of it.1 }
@@ -212,5 +212,5 @@ words_by DumpsPaxos f = refl
 words_by Exports f = refl
 words_by Imports f = refl
 
-pub spells : (k : Kind) (texts : List Text) → Spelled k texts → SpellsTask (name_by k ∷ texts)
-spells k texts s = (task_by k s.fields, (s.has, ap (λ (x : List Text). name_by k ∷ x) s.are ∙ words_by k s.fields))
+pub parses : (k : Kind) (texts : List Text) → Parsed k texts → ParsesTask (name_by k ∷ texts)
+parses k texts s = (task_by k s.fields, (s.has, ap (λ (x : List Text). name_by k ∷ x) s.are ∙ words_by k s.fields))

@@ -7,7 +7,7 @@ use Rattle.mon_link.specs.declared.udp.Address.{Address}
 use Rattle.mon_types.proofs.Members.{same_member}
 use Rattle.mon_types.specs.declared.member.Member.{Member}
 use Rattle.schedule_text.specs.Schedule.{rule_of}
-use Rattle.schedule_text.specs.Spelling.{RuleFits, rule_text}
+use Rattle.schedule_text.specs.Encoding.{RuleFits, rule_text}
 use Rattle.schedule_text.proofs.HeaderLaws.{rule_again}
 use Rattle.task_words.specs.declared.task.Task.{Task}
 use Rattle.task_words.specs.declared.task.Task.TheVariants as task

@@ -3,7 +3,7 @@ use Rattle.std.specs.Prelude.{◌≡◌, ℕ, ◌≤◌, ◌^◌, ◌==◌, ◌&
 use Rattle.std.specs.declared.alloc.Global.{Global}
 use Rattle.std.specs.List.{AllByRecursion, list_all}
 use Rattle.mon_types.specs.declared.member.Member.{Member}
-use Rattle.schedule_text.specs.Spelling.{RuleFits, rule_text}
+use Rattle.schedule_text.specs.Encoding.{RuleFits, rule_text}
 use Rattle.schedule_text.specs.Words.{service_text}
 use Rattle.task_words.specs.declared.asked.TheConstants.{LONGEST_WORD, MOST_MADE}
 use Rattle.task_words.specs.declared.task.StoreTask.{StoreTask}
@@ -61,8 +61,8 @@ HasWords (DumpPaxos member disk_a disk_b from to) = (from ≤ to) × (to ≤ 2 ^
 HasWords other = Unit {0}
 
 -- the arguments of a task, whether or not each of them is allowed
-abbrev pub SpellsTask : List (List ℕ) → Type 0
-SpellsTask words = (t : Task) × (HasWords t × (words ≡ words_of t))
+abbrev pub ParsesTask : List (List ℕ) → Type 0
+ParsesTask words = (t : Task) × (HasWords t × (words ≡ words_of t))
 
 -- texts of a command on a store that takes no others
 pub record AreStore (texts : List (List ℕ)) : Type 0 where

@@ -2,8 +2,8 @@
 
 ghost use Rattle.std.specs.Prelude.{◌≡◌, ◌∷◌, codes, map, string_bytes};
 ghost use Rattle.std.specs.List.{list_all};
-ghost use Rattle.task_words.specs.Task.{AreStore, IsAsked, SpellsTask, is_word};
-ghost use Rattle.task_words.specs.Words.{Tells};
+ghost use Rattle.task_words.specs.Task.{AreStore, IsAsked, ParsesTask, is_word};
+ghost use Rattle.task_words.specs.Words.{Reflects};
 
 use crate::addresses::{are_addresses, count_of};
 use crate::numbers::{member_of, number_of, rule_in, service_in};
@@ -36,7 +36,7 @@ fn are_words(words: &[String]) -> bool
 
 /// Whether these texts after `made` ask for a made schedule.
 fn asks_made(texts: &[String]) -> bool
-    ensures { Tells result (SpellsTask (codes "made" ∷ map string_bytes texts.now)) }
+    ensures { Reflects result (ParsesTask (codes "made" ∷ map string_bytes texts.now)) }
 {
     let [number, events] = texts else {
         return false;
@@ -49,7 +49,7 @@ fn asks_made(texts: &[String]) -> bool
 
 /// Whether these texts after `node` ask for a node.
 fn asks_node(texts: &[String]) -> bool
-    ensures { Tells result (SpellsTask (codes "node" ∷ map string_bytes texts.now)) }
+    ensures { Reflects result (ParsesTask (codes "node" ∷ map string_bytes texts.now)) }
 {
     let [rank, monitors, rule, addresses, _, _, turns] = texts else {
         return false;
@@ -68,7 +68,7 @@ fn asks_node(texts: &[String]) -> bool
 
 /// Whether these texts after `follow` ask for a client that follows.
 fn asks_follow(texts: &[String]) -> bool
-    ensures { Tells result (SpellsTask (codes "follow" ∷ map string_bytes texts.now)) }
+    ensures { Reflects result (ParsesTask (codes "follow" ∷ map string_bytes texts.now)) }
 {
     let [service, addresses, turns] = texts else {
         return false;
@@ -87,7 +87,7 @@ fn asks_follow(texts: &[String]) -> bool
 
 /// Whether these texts ask for a command on a store that takes a member and two files, and no other texts.
 fn are_store(texts: &[String]) -> bool
-    ensures { Tells result (AreStore (map string_bytes texts.now)) }
+    ensures { Reflects result (AreStore (map string_bytes texts.now)) }
 {
     let [rank, monitors, _, _] = texts else {
         return false;
@@ -97,7 +97,7 @@ fn are_store(texts: &[String]) -> bool
 
 /// Whether these texts after `dump-paxos` ask for a dump of versions.
 fn asks_versions(texts: &[String]) -> bool
-    ensures { Tells result (SpellsTask (codes "dump-paxos" ∷ map string_bytes texts.now)) }
+    ensures { Reflects result (ParsesTask (codes "dump-paxos" ∷ map string_bytes texts.now)) }
 {
     let [rank, monitors, _, _, from, to] = texts else {
         return false;
@@ -113,7 +113,7 @@ fn asks_versions(texts: &[String]) -> bool
 
 /// Whether a command's name and the texts after it ask for something that the program does.
 fn asks(name: &str, texts: &[String]) -> bool
-    ensures { Tells result (SpellsTask (name.now ∷ map string_bytes texts.now)) }
+    ensures { Reflects result (ParsesTask (name.now ∷ map string_bytes texts.now)) }
 {
     match name {
         "replay" => texts.is_empty(),
@@ -132,7 +132,7 @@ fn asks(name: &str, texts: &[String]) -> bool
 
 /// Whether the arguments ask for something that the program does.
 pub(crate) fn is_asked(words: &[String]) -> bool
-    ensures { Tells result (IsAsked words.now) }
+    ensures { Reflects result (IsAsked words.now) }
 {
     if !are_words(words) {
         return false;

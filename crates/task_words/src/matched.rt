@@ -7,7 +7,7 @@ ghost use Rattle.election_rules.specs.declared.rule.Rule.{Rule as rules};
 ghost use Rattle.mon_link.specs.declared.udp.Address.{Address as places};
 ghost use Rattle.mon_types.specs.declared.member.Member.{Member as members};
 ghost use Rattle.mon_wire.specs.declared.request.Service.{Service as services};
-ghost use Rattle.schedule_text.specs.Spelling.{RuleFits, rule_text};
+ghost use Rattle.schedule_text.specs.Encoding.{RuleFits, rule_text};
 ghost use Rattle.schedule_text.specs.Words.{service_text};
 ghost use Rattle.task_words.specs.Addresses.{IsAddress, addresses_text};
 ghost use Rattle.task_words.specs.Commands.{command, follow_texts, made_texts, node_texts, store_texts, versions_texts};

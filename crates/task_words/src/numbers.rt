@@ -2,9 +2,9 @@
 
 ghost use Rattle.std.specs.Prelude.{◌≡◌, ◌≤◌, ℕ, None, IfSome, decimal};
 ghost use Rattle.mon_types.specs.declared.member.Member.{Member as members};
-ghost use Rattle.schedule_text.specs.Spelling.{RuleFits, rule_text};
+ghost use Rattle.schedule_text.specs.Encoding.{RuleFits, rule_text};
 ghost use Rattle.schedule_text.specs.Words.{service_text};
-ghost use Rattle.task_words.specs.Words.{Spells};
+ghost use Rattle.task_words.specs.Words.{Parses};
 
 use election_rules::Rule;
 use mon_types::{Member, Rank};
@@ -13,7 +13,7 @@ use schedule_text::{rule_of, service_word};
 
 /// The number that an argument represents in decimal, if it is within these bounds.
 pub(crate) fn number_of(word: &[u8], least: u64, most: u64) -> Option<u64>
-    ensures { Spells decimal (λ n. (least ≤ n) × (n ≤ most)) result word.now }
+    ensures { Parses decimal (λ n. (least ≤ n) × (n ≤ most)) result word.now }
 {
     match schedule_text::number_of(word, least, most) {
         Ok(number) => Some(number),
@@ -23,7 +23,7 @@ pub(crate) fn number_of(word: &[u8], least: u64, most: u64) -> Option<u64>
 
 /// The rank and the number of monitors that two arguments represent.
 pub(crate) fn member_of(rank: &[u8], monitors: &[u8]) -> Option<Member>
-    ensures spelled { IfSome result (λ m. (rank.now ≡ decimal m.rank) × (monitors.now ≡ decimal m.monitors)) }
+    ensures parsed { IfSome result (λ m. (rank.now ≡ decimal m.rank) × (monitors.now ≡ decimal m.monitors)) }
     ensures none { result ≡ None → (m : members) → rank.now ≡ decimal m.rank → monitors.now ≡ decimal m.monitors → ⊥ }
 {
     let rank = number_of(rank, 0, 14)?;
@@ -33,7 +33,7 @@ pub(crate) fn member_of(rank: &[u8], monitors: &[u8]) -> Option<Member>
 
 /// The rule that an argument names, for this many monitors.
 pub(crate) fn rule_in(monitors: u8, word: &[u8]) -> Option<Rule>
-    ensures { Spells rule_text (RuleFits monitors) result word.now }
+    ensures { Parses rule_text (RuleFits monitors) result word.now }
 {
     match rule_of(monitors, word) {
         Ok(rule) => Some(rule),
@@ -43,7 +43,7 @@ pub(crate) fn rule_in(monitors: u8, word: &[u8]) -> Option<Rule>
 
 /// The service that an argument names.
 pub(crate) fn service_in(word: &str) -> Option<Service>
-    ensures { Spells service_text (λ _. Unit {0}) result word.now }
+    ensures { Parses service_text (λ _. Unit {0}) result word.now }
 {
     if word == service_word(Service::Kv) {
         return Some(Service::Kv);

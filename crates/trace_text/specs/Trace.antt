@@ -6,7 +6,7 @@ use Rattle.mon_wire.specs.declared.reply.Reply.{Reply}
 use Rattle.mon_wire.specs.declared.reply.Reply.TheVariants.{Done, Shown, Since, NoSuch, TooLong, MapFull, Unavailable, NotReadable, Busy}
 use Rattle.schedule_text.specs.declared.event.Event.{Event}
 use Rattle.schedule_text.specs.Words.{service_text}
-use Rattle.schedule_text.specs.Spelling.{event_text}
+use Rattle.schedule_text.specs.Encoding.{event_text}
 use Rattle.trace_text.specs.declared.step.Replied.{Replied}
 use Rattle.trace_text.specs.declared.step.StateLine.{StateLine}
 use Rattle.trace_text.specs.declared.step.Outcome.{Outcome}

@@ -21,7 +21,7 @@ use Rattle.mon_wire.specs.declared.phase.Phase.{Phase}
 use Rattle.quorum_history.proofs.Phases.{no}
 use Rattle.quorum_laws.proofs.Events.{all_runs}
 use Rattle.quorum_laws.proofs.Invariant.{InvOf, InvWith}
-use Rattle.quorum_laws.proofs.Meetings.{Arrives, each_meeting, member_of}
+use Rattle.quorum_laws.proofs.Meetings.{Arriving, each_meeting, member_of}
 use Rattle.quorum_model.specs.Clients.{with_asked}
 use Rattle.quorum_model.specs.Events.{PlainFits}
 use Rattle.quorum_model.specs.Happens.{map_after}
@@ -200,7 +200,7 @@ module _ (ms : Monitors) (several : ltb 1 ms.count ≡ true) (is_read : Message 
   all_told [] = tt
   all_told (e ∷ es) = (tt, all_told es)
 
-  module _ (asked : List Asked) (J : InvWith ms w asked) (A : Arrives ms w any_told asked J) where
+  module _ (asked : List Asked) (J : InvWith ms w asked) (A : Arriving ms w any_told asked J) where
     ends : (y : Course) → react (member_of ms A.rank A.lt) (shared_entries (w.store A.rank)) A.at (readings_of (w.store A.rank)) A.state A.came ≡ Ok y → Ends A.rank (reaction_of y)
     ends y is z k =
         let me = member_of ms A.rank A.lt in
@@ -214,7 +214,7 @@ module _ (ms : Monitors) (several : ltb 1 ms.count ≡ true) (is_read : Message 
   abbrev Of : Meeting → Type 0
   Of met = (i : ℕ) (came : Input) (r : Reaction) → met ≡ Reacts i came (Ok r) → Ends i r
 
-  reacts_so : (p : Plain) (J : InvWith ms w (with_asked p w.asked)) (A : Arrives ms w any_told (with_asked p w.asked) J) (x : Result Course Which)
+  reacts_so : (p : Plain) (J : InvWith ms w (with_asked p w.asked)) (A : Arriving ms w any_told (with_asked p w.asked) J) (x : Result Course Which)
       → react (member_of ms A.rank A.lt) (shared_entries (w.store A.rank)) A.at (readings_of (w.store A.rank)) A.state A.came ≡ x → Of (Reacts A.rank A.came (any_reaction x))
   reacts_so p J A (Ok y) is i came r q =
       let rank : A.rank ≡ i = cc in

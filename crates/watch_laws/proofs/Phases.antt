@@ -1,7 +1,7 @@
 -- Phases that tests name, and bodies of messages that definitions choose.
 use Rattle.mon_bytes.specs.declared.entry.Entry.{Entry}
 use Rattle.mon_decode.specs.Headers.{kind_in}
-use Rattle.mon_msg.specs.Protocol.Answers.{answer_of, last_answer, tells_all, told_of, told_values}
+use Rattle.mon_msg.specs.Protocol.Answers.{answer_of, last_answer, is_complete, told_of, sent_values}
 use Rattle.mon_msg.specs.Protocol.Entering.{is_even}
 use Rattle.mon_msg.specs.Protocol.Phases.{is_member, is_peon, same_phase, votes}
 use Rattle.mon_msg.specs.Protocol.Providing.{chunk, given_entries, given_values, is_finished, reach}
@@ -92,5 +92,5 @@ chunk_silent last c p left n records =
 pub answer_is : (n : ℕ) (r : Readings) (from : ℕ) → shown_in (kind_in (last_answer n r from)) ≡ Some phase.Peon
 unfolding answer_of
 answer_is n r from =
-    let told = told_values n (promise_of r) r.first r.last r.record_of from in
-    cond_both (tells_all n (promise_of r) r.first r.last from told (told_of (pending r))) (body.Last (promise_of r) r.first r.last true from told (told_of (pending r))) (body.Last (promise_of r) r.first r.last false from told None) (λ (b : Body). shown_in (kind_in b) ≡ Some phase.Peon) (λ t. refl) (λ t. refl)
+    let told = sent_values n (promise_of r) r.first r.last r.record_of from in
+    cond_both (is_complete n (promise_of r) r.first r.last from told (told_of (pending r))) (body.Last (promise_of r) r.first r.last true from told (told_of (pending r))) (body.Last (promise_of r) r.first r.last false from told None) (λ (b : Body). shown_in (kind_in b) ≡ Some phase.Peon) (λ t. refl) (λ t. refl)

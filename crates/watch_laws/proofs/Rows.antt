@@ -15,7 +15,7 @@ use Rattle.mon_msg.specs.Protocol.Elections.{election_ends, hear_ack, hear_propo
 use Rattle.mon_msg.specs.Protocol.Entering.{bootstrap, elect, is_even, own_table}
 use Rattle.mon_msg.specs.Protocol.Found.{counts}
 use Rattle.mon_msg.specs.Protocol.Hearing.{hear, hear_client, is_heard}
-use Rattle.mon_msg.specs.Protocol.Leader.{all_accepted, all_answered, commit_any, hear_accept, hear_last, hear_lease_ack, hear_whole, note, note_told, of_member, renew}
+use Rattle.mon_msg.specs.Protocol.Leader.{all_accepted, all_answered, commit_any, hear_accept, hear_last, hear_lease_ack, hear_whole, note, note_pending, of_member, renew}
 use Rattle.mon_msg.specs.Protocol.Leading.{has_queue, is_alone}
 use Rattle.mon_msg.specs.Protocol.Learning.{learn, news, news_from}
 use Rattle.mon_msg.specs.Protocol.Peon.{cancel, hear_begin, hear_collect, hear_commit, hear_lease, of_leader, promise}
@@ -254,7 +254,7 @@ module _ (me : Me) (now : ℕ) (is_read : Message → Bool) (R : ReadsShort is_r
         in_phase : (y : Course) → Kept x0 y → not (of_member (phase.Collecting ∷ []) f e x0) ≡ false → y.state.phase ≡ phase.Collecting
         in_phase y k heard = ap (λ (z : State). z.phase) k.state ∙ is heard
 
-        notes : (o : Option Told) (y : Course) → Noted y → Then Noted (note_told f last o y)
+        notes : (o : Option Told) (y : Course) → Noted y → Then Noted (note_pending f last o y)
         notes None y k = done k
         notes (Some u) y k = where_fits Noted which.Version (suc last) _ (λ _. done k)
 

@@ -20,7 +20,7 @@ use Rattle.quorum_laws.proofs.Beginning.{at_first}
 use Rattle.quorum_laws.proofs.Elections.{quorum_holds}
 use Rattle.quorum_laws.proofs.Events.{After, event_holds, same, unless_full}
 use Rattle.quorum_laws.proofs.Invariant.{InvOf, InvWith}
-use Rattle.quorum_laws.proofs.Meetings.{Arrives, each_meeting, member_of}
+use Rattle.quorum_laws.proofs.Meetings.{Arriving, each_meeting, member_of}
 use Rattle.quorum_laws.proofs.Values.{made, sharing}
 use Rattle.quorum_laws.specs.Elections.{leader_of}
 use Rattle.quorum_model.specs.Clients.{with_asked}
@@ -29,7 +29,7 @@ use Rattle.quorum_model.specs.Happens.{Stop, after_meeting, happens, kept_only, 
 use Rattle.quorum_model.specs.Meets.{Meeting, Reacts, meets}
 use Rattle.quorum_model.specs.Monitors.{Monitors}
 use Rattle.quorum_model.specs.Runs.{goes_on, ran_from, run_from}
-use Rattle.quorum_model.specs.World.{Asked, Comes, Crash, Envelope, Event, Plain, World, first_world, plain_of}
+use Rattle.quorum_model.specs.World.{Asked, Arrives, Crash, Envelope, Event, Plain, World, first_world, plain_of}
 use Rattle.quorum_walk.proofs.FineCourses.{EntryFine}
 use Rattle.quorum_walk.proofs.Walk.{Then}
 use Rattle.std.proofs.Common.{Bool, Err, List, None, Ok, Option, Result, Some, [], ap, cond, eqb, false, inl, inr, ltb, refl, subst, sym, true, ℕ, ◌∙◌, ◌∷◌, ◌≡◌, ◌⊎◌}
@@ -140,7 +140,7 @@ module _ (ms : Monitors) (several : ltb 1 ms.count ≡ true) (is_read : Message 
 
   -- ---- a monitor that does something
 
-  module _ (w : World) (I : InvOf ms w) (asked : List Asked) (J : InvWith ms w asked) (Told : Envelope → Type 0) (A : Arrives ms w Told asked J) where
+  module _ (w : World) (I : InvOf ms w) (asked : List Asked) (J : InvWith ms w asked) (Told : Envelope → Type 0) (A : Arriving ms w Told asked J) where
     abbrev pub me : Me
     me = member_of ms A.rank A.lt
 
@@ -201,7 +201,7 @@ module _ (ms : Monitors) (several : ltb 1 ms.count ≡ true) (is_read : Message 
     all_told [] = tt
     all_told (e ∷ es) = (tt, all_told es)
 
-    module _ (p : Plain) (J : InvWith ms w (with_asked p w.asked)) (A : Arrives ms w any_told (with_asked p w.asked) J) where
+    module _ (p : Plain) (J : InvWith ms w (with_asked p w.asked)) (A : Arriving ms w any_told (with_asked p w.asked) J) where
       moves : (y : Course) → react (member_of ms A.rank A.lt) (shared_entries (w.store A.rank)) A.at (readings_of (w.store A.rank)) A.state A.came ≡ Ok y
           → GoodAt i (moved w p A.rank (reaction_of y)) (cond (eqb A.rank i) (after_all i is_read y.out (seen_before i is_read A.came z)) z)
       unfolding moved
@@ -224,7 +224,7 @@ module _ (ms : Monitors) (several : ltb 1 ms.count ≡ true) (is_read : Message 
               )
 
       comes : (r : Result Course Which) → react (member_of ms A.rank A.lt) (shared_entries (w.store A.rank)) A.at (readings_of (w.store A.rank)) A.state A.came ≡ r
-          → Follows (Comes p) (Reacts A.rank A.came (any_reaction r))
+          → Follows (Arrives p) (Reacts A.rank A.came (any_reaction r))
       comes (Ok y) is = unless_full (λ next. GoodAt i next (cond (eqb A.rank i) (after_all i is_read y.out (seen_before i is_read A.came z)) z)) (w.store A.rank) (moved w p A.rank) (reaction_of y) (moves y is)
       comes (Err which) is = tt
 
@@ -233,7 +233,7 @@ module _ (ms : Monitors) (several : ltb 1 ms.count ≡ true) (is_read : Message 
       crashes (Err which) = tt
 
     follows : (e : Event) → PlainFits ms.count (plain_of e) → Follows e (meets ms w (plain_of e))
-    follows (Comes p) F = each_meeting ms w any_told I (Follows (Comes p)) (all_told w.messages) p F
+    follows (Arrives p) F = each_meeting ms w any_told I (Follows (Arrives p)) (all_told w.messages) p F
         (λ J up. record { down = not_moved w I i z G p; none = not_moved w I i z G p; reacts = λ A r is. comes p J A r is })
     follows (Crash p true) F = each_meeting ms w any_told I (Follows (Crash p true)) (all_told w.messages) p F
         (λ J up. record { down = not_moved w I i z G p; none = not_moved w I i z G p; reacts = λ A r is. crashes p J A r })

@@ -22,7 +22,7 @@ use Rattle.quorum_model.specs.Happens.{Stop, happens, is_active, map_after}
 use Rattle.quorum_model.specs.Meets.{Meeting, Reacts, meets}
 use Rattle.quorum_model.specs.Monitors.{Monitors}
 use Rattle.quorum_model.specs.Runs.{run}
-use Rattle.quorum_model.specs.World.{Comes, Event, World, first_world, plain_of, Plain}
+use Rattle.quorum_model.specs.World.{Arrives, Event, World, first_world, plain_of, Plain}
 
 -- ---- what is read of what a monitor sends
 
@@ -79,7 +79,7 @@ module _ (i : ℕ) (is_read : Message → Bool) where
 
   -- what is seen of monitor i after an event, if it is up then
   abbrev pub seen_at : Event → Meeting → Seen → Seen
-  seen_at (Comes p) (Reacts rank came (Ok r)) s = if rank == i then after_all i is_read r.sends (seen_before came s) else s
+  seen_at (Arrives p) (Reacts rank came (Ok r)) s = if rank == i then after_all i is_read r.sends (seen_before came s) else s
   seen_at e met s = s
 
   abbrev pub seen_on : (World → Seen) → Seen → Result World Stop → Seen

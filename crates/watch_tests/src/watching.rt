@@ -4,7 +4,7 @@ use hex::{decode, encode};
 use mon_bytes::Bytes;
 use mon_link::{Got, Link, ListClock, MemoryLink, Peer};
 use mon_types::{Member, Moment, Rank};
-use mon_watch::{DiskTimes, Tell, Watch, Watched};
+use mon_watch::{DiskTimes, LineReceiver, Watch, Watched};
 use std::alloc::Global;
 use std::cell::Cell;
 use std::rc::Rc;
@@ -18,8 +18,8 @@ struct Kept {
     last: Rc<Cell<usize>>,
 }
 
-impl Tell for Kept {
-    fn tell(&mut self, line: &str) {
+impl LineReceiver for Kept {
+    fn take_line(&mut self, line: &str) {
         self.last.set(line.len());
     }
 

@@ -146,7 +146,7 @@ fn fault_of(alloc: Global, digits: &str) -> Result<Option<(MsgKind, usize)>, Fai
 }
 
 /// Whether each prefix of a message is refused as too short.
-fn fronts_are_cut(alloc: Global, message: &[u8]) -> Result<bool, Fail> {
+fn prefixes_are_cut(alloc: Global, message: &[u8]) -> Result<bool, Fail> {
     for n in 0..message.len() {
         let (kind, _) = fault(alloc, &message[..n])?.ok_or("a fault")?;
         if kind != MsgKind::Cut {
@@ -156,9 +156,9 @@ fn fronts_are_cut(alloc: Global, message: &[u8]) -> Result<bool, Fail> {
     Ok(true)
 }
 
-fn all_fronts_are_cut(alloc: Global, digits: &str) -> Result<bool, Fail> {
+fn all_prefixes_are_cut(alloc: Global, digits: &str) -> Result<bool, Fail> {
     let message = hex::decode(alloc, digits)?;
-    let found = fronts_are_cut(alloc, &message);
+    let found = prefixes_are_cut(alloc, &message);
     drop(message);
     found
 }
@@ -173,7 +173,7 @@ fn is_whole(alloc: Global, digits: &str) -> Result<bool, Fail> {
 
 /// Whether each proper prefix of a message is refused as too short, and one byte more as too many.
 fn is_as_long(alloc: Global, digits: &str) -> Result<bool, Fail> {
-    Ok(all_fronts_are_cut(alloc, digits)? && is_whole(alloc, digits)?)
+    Ok(all_prefixes_are_cut(alloc, digits)? && is_whole(alloc, digits)?)
 }
 
 /// The digits of the message of that number from 0 on.
@@ -224,7 +224,7 @@ fn fault_of_changed(
 }
 
 /// Whether the changed byte of a row makes the fault that the row states.
-fn is_told(alloc: Global, row: &str) -> Result<bool, Fail> {
+fn is_as_stated(alloc: Global, row: &str) -> Result<bool, Fail> {
     let mut words = row.splitn(4, ' ');
     let (message, place) = (number(words.next())?, number(words.next())?);
     let byte = u8::try_from(number(words.next())?)?;
@@ -236,7 +236,7 @@ fn is_told(alloc: Global, row: &str) -> Result<bool, Fail> {
 #[test]
 fn a_changed_byte_is_refused_at_its_first_fault(rt: HostRuntime) -> Result<(), Fail> {
     for row in FAULTS.lines() {
-        assert!(rt; is_told(rt.alloc(), row)?, "{row}");
+        assert!(rt; is_as_stated(rt.alloc(), row)?, "{row}");
     }
     Ok(())
 }

@@ -63,6 +63,6 @@ ops_of (Mark floor last_pn promise) =
 ops_of Unmark = erase area.Sync key.InSync ∷ erase area.Sync key.Floor ∷ []
 
 -- in order
-abbrev pub spelled : List Change → List Op
-spelled [] = []
-spelled (c ∷ cs) = ops_of c ++ spelled cs
+abbrev pub encoded : List Change → List Op
+encoded [] = []
+encoded (c ∷ cs) = ops_of c ++ encoded cs

@@ -24,12 +24,12 @@ abbrev pub table_or : Option Scores → Scores → Scores
 table_or None own = own
 table_or (Some table) own = table
 
-abbrev pub merged_if_told : Option Scores → Scores → Scores
-merged_if_told None own = own
-merged_if_told (Some table) own = merged own table
+abbrev pub merged_if_sent : Option Scores → Scores → Scores
+merged_if_sent None own = own
+merged_if_sent (Some table) own = merged own table
 
 abbrev pub merge : Option Scores → Course → Course
-merge table x = elector_is (record x.state.elector { scores = merged_if_told table x.state.elector.scores }) x
+merge table x = elector_is (record x.state.elector { scores = merged_if_sent table x.state.elector.scores }) x
 
 -- ---- candidates
 

@@ -38,14 +38,14 @@ note_answer f last found x =
     leader_is (record leader { answered = answered; lasts = slice_set leader.lasts f last; found = found }) x
 
 -- a pending value that f gave is one for the version after its last one
-abbrev pub note_told : (f last : ℕ) → Option Told → Course → Result Course Which
-note_told f last None x = Ok (note_answer f last x.state.leader.found x)
-note_told f last (Some told) x = do
+abbrev pub note_pending : (f last : ℕ) → Option Told → Course → Result Course Which
+note_pending f last None x = Ok (note_answer f last x.state.leader.found x)
+note_pending f last (Some told) x = do
   v ← checked which.Version (suc last)
   Ok (note_answer f last (better x.state.leader.found (record { version = v; pn = told.pn; value = told.value })) x)
 
 abbrev pub note : (f last : ℕ) → Option Told → Course → Result Course Which
-note f last told x = note_told f last (counts told) x
+note f last told x = note_pending f last (counts told) x
 
 module _ (me : Me) where
   abbrev pub all_answered : Course → Bool

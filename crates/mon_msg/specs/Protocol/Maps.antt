@@ -35,8 +35,8 @@ map_of Kv bytes = option_map map.Kv (if_ok (kv_decode.map_of bytes))
 map_of Log bytes = option_map map.Log (if_ok (log_decode.map_of bytes))
 
 -- the map that bytes encode, if they are no longer than a map's encoding may be
-abbrev pub spelled_map : Service → List ℕ → Option ShownMap
-spelled_map s bytes = if nat_le (length bytes) (most_map s) then map_of s bytes else None
+abbrev pub decoded_map : Service → List ℕ → Option ShownMap
+decoded_map s bytes = if nat_le (length bytes) (most_map s) then map_of s bytes else None
 
 -- the map after the incremental that bytes encode, if they encode one
 abbrev pub with_incremental : ShownMap → List ℕ → Option ShownMap

@@ -1,7 +1,7 @@
 -- What a monitor does at an input, from its whole store: what it writes, sends and remembers.
 use Rattle.std.specs.Prelude.{ℕ, List, Result, Ok, Err}
 use Rattle.mon_msg.specs.Joined.{joined}
-use Rattle.mon_msg.specs.Protocol.Changes.{spelled}
+use Rattle.mon_msg.specs.Protocol.Changes.{encoded}
 use Rattle.mon_msg.specs.Protocol.Course.{Course}
 use Rattle.mon_msg.specs.Protocol.State.{State}
 use Rattle.mon_msg.specs.Protocol.Table.{react}
@@ -22,7 +22,7 @@ pub record Reaction : Type 0 where
   pub state : State
 
 abbrev pub reaction_of : Course → Reaction
-reaction_of x = record { transaction = joined (spelled x.changes); sends = x.out; state = x.state }
+reaction_of x = record { transaction = joined (encoded x.changes); sends = x.out; state = x.state }
 
 abbrev pub any_reaction : Result Course Which → Result Reaction Which
 any_reaction (Ok x) = Ok (reaction_of x)

@@ -79,11 +79,11 @@ readings_of m = record {
 unfoldable pub shared_entries : Store → List Entry
 shared_entries m = map (λ e. record { prefix = e.0.0; key = e.0.1; value = e.1 }) (entries (shared m))
 
-abbrev pub told_after : {A : Type 0} → (Cell → A) → List Op → Area → Key → A → A
-told_after tell ops a k before = option_map_or tell (decision ops (place a k)) before
+abbrev pub read_after : {A : Type 0} → (Cell → A) → List Op → Area → Key → A → A
+read_after of_cell ops a k before = option_map_or of_cell (decision ops (place a k)) before
 
 abbrev pub number_after : List Op → Area → Key → ℕ → ℕ
-number_after = told_after number_in
+number_after = read_after number_in
 
 abbrev pub cell_after : List Op → Area → Key → Cell → Cell
 cell_after ops a k before = or_before (decision ops (place a k)) before
@@ -91,15 +91,15 @@ cell_after ops a k before = or_before (decision ops (place a k)) before
 -- what the readers return after changes of the store
 unfoldable pub after : List Op → Readings → Readings
 after ops w = record {
-  epoch = told_after number_if_there ops area.Monitor key.ElectionEpoch w.epoch;
+  epoch = read_after number_if_there ops area.Monitor key.ElectionEpoch w.epoch;
   boot = number_after ops area.Monitor key.BootCount w.boot;
-  last_pn = told_after number_if_there ops area.Paxos key.LastPn w.last_pn;
-  promise = told_after number_if_there ops area.Paxos key.AcceptedPn w.promise;
+  last_pn = read_after number_if_there ops area.Paxos key.LastPn w.last_pn;
+  promise = read_after number_if_there ops area.Paxos key.AcceptedPn w.promise;
   pending_v = number_after ops area.Paxos key.PendingV w.pending_v;
   pending_pn = number_after ops area.Paxos key.PendingPn w.pending_pn;
   first = number_after ops area.Paxos key.FirstCommitted w.first;
   last = number_after ops area.Paxos key.LastCommitted w.last;
-  marked = told_after marks ops area.Sync key.InSync w.marked;
+  marked = read_after marks ops area.Sync key.InSync w.marked;
   floor = number_after ops area.Sync key.Floor w.floor;
   record_of = λ v. cell_after ops area.Paxos (key.Version v) (w.record_of v);
   row = λ s k. cell_after ops (area_of s) k (w.row s k);

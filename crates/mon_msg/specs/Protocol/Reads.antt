@@ -3,7 +3,7 @@ use Rattle.std.specs.Prelude.{ℕ, suc, Bool, not, ◌||◌, ◌==◌, nat_le, n
 use Rattle.mon_lease.specs.Lease.{stands, readable}
 use Rattle.mon_msg.specs.Protocol.Course.{Course}
 use Rattle.mon_msg.specs.Protocol.Phases.{is_member}
-use Rattle.mon_msg.specs.Protocol.Services.{service_first, service_last, read_map, kept_from, may_tell}
+use Rattle.mon_msg.specs.Protocol.Services.{service_first, service_last, read_map, kept_from, fits_reply}
 use Rattle.mon_msg.specs.Protocol.Records.{longest}
 use Rattle.mon_msg.specs.Protocol.Sending.{reply_to}
 use Rattle.mon_msg.specs.Protocol.State.{State, lease_of}
@@ -17,7 +17,8 @@ use Rattle.mon_types.specs.declared.names.Which.{Which}
 
 -- the incrementals after version v that are kept, as many as one reply takes, and whether there are more
 abbrev pub changes_after : Readings → Service → ℕ → List (List ℕ) → Reply
-changes_after w s v kept = let told = longest may_tell kept in reply.Since s v told (nat_lt (length told) (length kept))
+changes_after w s v kept =
+    let updates = longest fits_reply kept in reply.Since s v updates (nat_lt (length updates) (length kept))
 
 abbrev pub shown : Readings → Service → Reply
 shown w s = reply.Shown s w.last (service_last w s) (read_map w s)

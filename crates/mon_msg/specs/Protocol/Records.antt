@@ -20,13 +20,13 @@ most_value = MOST_PROPOSED
 abbrev pub may_begin : List Op → Bool
 may_begin value = fits 1 (body.Begin 0 0 value)
 
-abbrev pub where_it_may_begin : Result (List Op) TxRefused → Option (List Op)
-where_it_may_begin (Ok value) = if may_begin value then Some value else None
-where_it_may_begin (Err e) = None
+abbrev pub if_it_may_begin : Result (List Op) TxRefused → Option (List Op)
+if_it_may_begin (Ok value) = if may_begin value then Some value else None
+if_it_may_begin (Err e) = None
 
 abbrev pub transaction_in : Cell → Option (List Op)
 transaction_in None = None
-transaction_in (Some bytes) = where_it_may_begin (transaction_of bytes)
+transaction_in (Some bytes) = if_it_may_begin (transaction_of bytes)
 
 -- The value that the record of a version encodes, of the records that a store keeps. A record that is no transaction counts
 -- as none, and so does one with which a BEGIN could not be sent.
@@ -36,12 +36,12 @@ record_at records v = transaction_in (records v)
 -- ---- the pending value
 
 -- a value that is too long to be proposed counts as none
-abbrev pub where_short : List Op → Option (List Op)
-where_short value = if nat_le (length (text value)) most_value then Some value else None
+abbrev pub if_short_value : List Op → Option (List Op)
+if_short_value value = if nat_le (length (text value)) most_value then Some value else None
 
 abbrev pub found_as : (v pn : ℕ) → Option (List Op) → Option Found
 found_as v pn value =
-    option_map (λ short. record { version = v; pn = pn; value = short }) (option_and_then where_short value)
+    option_map (λ short. record { version = v; pn = pn; value = short }) (option_and_then if_short_value value)
 
 -- the value that was accepted last, for that version and under that number, if it is for the version after the last one
 unfoldable pub pending_of : (v pn last : ℕ) → (records : ℕ → Cell) → Option Found

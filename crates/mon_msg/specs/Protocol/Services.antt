@@ -1,8 +1,8 @@
 -- What a monitor keeps of a service: its map, and what changed it.
 use Rattle.std.specs.Option.{option_and_then}
 use Rattle.std.specs.Prelude.{ℕ, suc, ◌+◌, Bool, ◌&&◌, nat_le, List, Option, Some, None, if◌then◌else◌, [], ◌∷◌, zero, ◌-◌, length, sum_by}
-use Rattle.mon_msg.specs.declared.limits.TheConstants.{MOST_TOLD_BYTES}
-use Rattle.mon_msg.specs.Protocol.Maps.{empty_map, spelled_map, next_map}
+use Rattle.mon_msg.specs.declared.limits.TheConstants.{MOST_SINCE_BYTES}
+use Rattle.mon_msg.specs.Protocol.Maps.{empty_map, decoded_map, next_map}
 use Rattle.mon_msg.specs.Protocol.Readings.{Readings}
 use Rattle.mon_wire.specs.declared.reply.ShownMap.{ShownMap}
 use Rattle.mon_wire.specs.declared.write_lists.TheConstants.{MOST_ITEMS}
@@ -31,7 +31,7 @@ read_on w s (suc count) v m = elim (option_and_then (next_map s m) (w.row s (key
 -- the newest full map, if it is there, can be read and isn't newer than the last version
 abbrev pub full_map : Readings → Service → Option ShownMap
 full_map w s =
-    if nat_le (full_latest w s) (service_last w s) then option_and_then (spelled_map s) (w.row s (key.Full (full_latest w s))) else None
+    if nat_le (full_latest w s) (service_last w s) then option_and_then (decoded_map s) (w.row s (key.Full (full_latest w s))) else None
 
 abbrev pub read_from : Readings → Service → Option ShownMap → ShownMap
 read_from w s (Some m) = read_on w s (service_last w s - full_latest w s) (suc (full_latest w s)) m
@@ -51,5 +51,5 @@ kept_from w s (suc count) v = elim (w.row s (key.Version v)) as (λ _. List (Lis
   | Some bytes ↦ bytes ∷ kept_from w s count (suc v)
 ]
 
-abbrev pub may_tell : List (List ℕ) → Bool
-may_tell incrementals = nat_le (length incrementals) MOST_ITEMS && nat_le (sum_by (λ bytes. length bytes + 4) incrementals) MOST_TOLD_BYTES
+abbrev pub fits_reply : List (List ℕ) → Bool
+fits_reply incrementals = nat_le (length incrementals) MOST_ITEMS && nat_le (sum_by (λ bytes. length bytes + 4) incrementals) MOST_SINCE_BYTES

@@ -13,7 +13,7 @@ use Rattle.mon_wire.specs.declared.parts.Place.{Place}
 use Rattle.mon_wire.specs.declared.parts.Told.{Told}
 use Rattle.mon_wire.specs.declared.reply.Reply.{Reply}
 use Rattle.mon_wire.specs.declared.request.Request.{Request}
-use Rattle.mon_wire.specs.Message.Format.{Reader, Format, nothing, ◌⊗◌, list, some, Spelling, spelling, variant}
+use Rattle.mon_wire.specs.Message.Format.{Reader, Format, nothing, ◌⊗◌, list, some, Encoding, encoding, variant}
 use Rattle.mon_wire.specs.Message.Fields.{numeral, flag, set, value}
 use Rattle.mon_wire.specs.Message.Parts.{optional, cookie, told, place, entry, a_command}
 use Rattle.mon_wire.specs.Message.Client.{a_request, a_reply, a_routed}
@@ -65,32 +65,32 @@ abbrev pub reply : Format (ℕ × Reply)
 reply = numeral ⊗ a_reply
 
 -- the byte of the kind, and what follows the header
-abbrev pub spelled : ℕ → ℕ → Body → Spelling
-spelled n own body.Probe = spelling 1 nothing tt
-spelled n own (body.ProbeReply quorum first last) = spelling 2 (probe_reply n) (quorum, (first, last))
-spelled n own (body.Propose t) = spelling 3 (scored n own) t
-spelled n own body.Ack = spelling 4 nothing tt
-spelled n own (body.Victory quorum) = spelling 5 (set n) quorum
-spelled n own (body.Collect pn first last) = spelling 6 collect (pn, (first, last))
-spelled n own (body.Last pn first l whole from values pending) = spelling 7 last (pn, (first, (l, (whole, (from, (values, pending))))))
-spelled n own (body.Begin pn version v) = spelling 8 begin (pn, (version, v))
-spelled n own (body.Accept pn version) = spelling 9 accept (pn, version)
-spelled n own (body.Commit from values) = spelling 10 commit (from, values)
-spelled n own (body.Lease l) = spelling 11 numeral l
-spelled n own (body.LeaseAck l) = spelling 12 numeral l
-spelled n own (body.Forward seq command) = spelling 13 forward (seq, command)
-spelled n own (body.Route seq reply) = spelling 14 route (seq, reply)
-spelled n own body.GetCookieFull = spelling 15 nothing tt
-spelled n own (body.GetCookieRecent l) = spelling 16 numeral l
-spelled n own (body.Cookie full k l) = spelling 17 granted (full, (k, l))
-spelled n own (body.GetChunk k at) = spelling 18 asked (k, at)
-spelled n own (body.Chunk k at values entries done) = spelling 19 chunk (k, (at, (values, (entries, done))))
-spelled n own (body.LastChunk k at values entries l) = spelling 20 last_chunk (k, (at, (values, (entries, l))))
-spelled n own (body.NoCookie k) = spelling 21 cookie k
-spelled n own (body.Ping t) = spelling 22 (scored n own) t
-spelled n own (body.PingReply t) = spelling 23 (scored n own) t
-spelled n own (body.Request id r) = spelling 24 request (id, r)
-spelled n own (body.Reply id r) = spelling 25 reply (id, r)
+abbrev pub encoded : ℕ → ℕ → Body → Encoding
+encoded n own body.Probe = encoding 1 nothing tt
+encoded n own (body.ProbeReply quorum first last) = encoding 2 (probe_reply n) (quorum, (first, last))
+encoded n own (body.Propose t) = encoding 3 (scored n own) t
+encoded n own body.Ack = encoding 4 nothing tt
+encoded n own (body.Victory quorum) = encoding 5 (set n) quorum
+encoded n own (body.Collect pn first last) = encoding 6 collect (pn, (first, last))
+encoded n own (body.Last pn first l whole from values pending) = encoding 7 last (pn, (first, (l, (whole, (from, (values, pending))))))
+encoded n own (body.Begin pn version v) = encoding 8 begin (pn, (version, v))
+encoded n own (body.Accept pn version) = encoding 9 accept (pn, version)
+encoded n own (body.Commit from values) = encoding 10 commit (from, values)
+encoded n own (body.Lease l) = encoding 11 numeral l
+encoded n own (body.LeaseAck l) = encoding 12 numeral l
+encoded n own (body.Forward seq command) = encoding 13 forward (seq, command)
+encoded n own (body.Route seq reply) = encoding 14 route (seq, reply)
+encoded n own body.GetCookieFull = encoding 15 nothing tt
+encoded n own (body.GetCookieRecent l) = encoding 16 numeral l
+encoded n own (body.Cookie full k l) = encoding 17 granted (full, (k, l))
+encoded n own (body.GetChunk k at) = encoding 18 asked (k, at)
+encoded n own (body.Chunk k at values entries done) = encoding 19 chunk (k, (at, (values, (entries, done))))
+encoded n own (body.LastChunk k at values entries l) = encoding 20 last_chunk (k, (at, (values, (entries, l))))
+encoded n own (body.NoCookie k) = encoding 21 cookie k
+encoded n own (body.Ping t) = encoding 22 (scored n own) t
+encoded n own (body.PingReply t) = encoding 23 (scored n own) t
+encoded n own (body.Request id r) = encoding 24 request (id, r)
+encoded n own (body.Reply id r) = encoding 25 reply (id, r)
 
 -- reading what follows the header
 abbrev pub body_at : ℕ → ℕ → Kind → Reader Body

@@ -6,16 +6,16 @@ use Rattle.mon_wire.specs.declared.reply.Reply.TheVariants as reply
 use Rattle.mon_wire.specs.declared.request.Service.{Service}
 use Rattle.mon_wire.specs.declared.request.Request.{Request}
 use Rattle.mon_wire.specs.declared.request.Request.TheVariants as request
-use Rattle.mon_wire.specs.Message.Format.{Reader, Format, nothing, dependent, ◌⊗◌, list, Spelling, spelling, variant, tagged, choice}
+use Rattle.mon_wire.specs.Message.Format.{Reader, Format, nothing, dependent, ◌⊗◌, list, Encoding, encoding, variant, tagged, choice}
 use Rattle.mon_wire.specs.Message.Fields.{numeral, flag, utf8, name, blob, service}
 use Rattle.mon_wire.specs.Message.Parts.{shown_map}
 
-abbrev pub request_spelled : Request → Spelling
-request_spelled (request.Set key value) = spelling 1 (name ⊗ utf8) (key, value)
-request_spelled (request.Remove key) = spelling 2 name key
-request_spelled (request.Log text) = spelling 3 utf8 text
-request_spelled (request.Show s) = spelling 4 service s
-request_spelled (request.Since s version) = spelling 5 (service ⊗ numeral) (s, version)
+abbrev pub request_encoded : Request → Encoding
+request_encoded (request.Set key value) = encoding 1 (name ⊗ utf8) (key, value)
+request_encoded (request.Remove key) = encoding 2 name key
+request_encoded (request.Log text) = encoding 3 utf8 text
+request_encoded (request.Show s) = encoding 4 service s
+request_encoded (request.Since s version) = encoding 5 (service ⊗ numeral) (s, version)
 
 abbrev pub request_kinds : List (ℕ × Reader Request)
 request_kinds =
@@ -26,7 +26,7 @@ unfoldable pub request_at : Reader Request
 request_at c = tagged request_kinds c
 
 abbrev pub a_request : Format Request
-a_request = choice request_spelled request_at
+a_request = choice request_encoded request_at
 
 -- ---- replies
 
@@ -36,16 +36,16 @@ shown = dependent service (λ s. numeral ⊗ numeral ⊗ shown_map s)
 abbrev pub since : Format (Service × (ℕ × (Bool × List (List ℕ))))
 since = service ⊗ numeral ⊗ flag ⊗ list blob
 
-abbrev pub reply_spelled : Reply → Spelling
-reply_spelled (reply.Done version) = spelling 1 numeral version
-reply_spelled (reply.Shown s paxos version m) = spelling 2 shown (s, (paxos, (version, m)))
-reply_spelled (reply.Since s from incrementals more) = spelling 3 since (s, (from, (more, incrementals)))
-reply_spelled reply.NoSuch = spelling 4 nothing tt
-reply_spelled (reply.TooLong len most) = spelling 5 (numeral ⊗ numeral) (len, most)
-reply_spelled (reply.MapFull would_be) = spelling 6 numeral would_be
-reply_spelled reply.Unavailable = spelling 7 nothing tt
-reply_spelled (reply.NotReadable has lease) = spelling 8 (numeral ⊗ flag) (has, lease)
-reply_spelled (reply.Busy waiting) = spelling 9 numeral waiting
+abbrev pub reply_encoded : Reply → Encoding
+reply_encoded (reply.Done version) = encoding 1 numeral version
+reply_encoded (reply.Shown s paxos version m) = encoding 2 shown (s, (paxos, (version, m)))
+reply_encoded (reply.Since s from incrementals more) = encoding 3 since (s, (from, (more, incrementals)))
+reply_encoded reply.NoSuch = encoding 4 nothing tt
+reply_encoded (reply.TooLong len most) = encoding 5 (numeral ⊗ numeral) (len, most)
+reply_encoded (reply.MapFull would_be) = encoding 6 numeral would_be
+reply_encoded reply.Unavailable = encoding 7 nothing tt
+reply_encoded (reply.NotReadable has lease) = encoding 8 (numeral ⊗ flag) (has, lease)
+reply_encoded (reply.Busy waiting) = encoding 9 numeral waiting
 
 -- what a leader answers to a command that a peon handed on
 abbrev pub routed_kinds : List (ℕ × Reader Reply)
@@ -65,7 +65,7 @@ unfoldable pub reply_at : Reader Reply
 reply_at c = tagged reply_kinds c
 
 abbrev pub a_reply : Format Reply
-a_reply = choice reply_spelled reply_at
+a_reply = choice reply_encoded reply_at
 
 abbrev pub is_routed : Reply → Bool
 is_routed (reply.Done version) = true

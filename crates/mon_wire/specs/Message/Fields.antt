@@ -4,7 +4,7 @@ use Rattle.std.specs.Str.{is_utf8}
 use Rattle.byteorder.specs.Endian.{little_bytes}
 use Rattle.mon_types.specs.Ranks.{to_bits, from_bits}
 use Rattle.mon_bytes.specs.declared.limits.TheConstants.{MOST_NAME, MOST_PREFIX}
-use Rattle.mon_bytes.specs.Reading.{Reading, number, front}
+use Rattle.mon_bytes.specs.Reading.{Reading, number, next_bytes}
 use Rattle.mon_bytes.specs.Forms.{text_bytes}
 use Rattle.mon_bytes.specs.Texts.{is_word}
 use Rattle.mon_tx.specs.declared.op.Op.{Op}
@@ -62,7 +62,7 @@ set n = record { text = set_bytes; read = set_at n; Form = λ s. (length s ≡ 1
 unfoldable pub blob_at : Reader (List ℕ)
 blob_at c = do
   n ← cut (number 4 c)
-  cut (front n.0 n.1)
+  cut (next_bytes n.0 n.1)
 
 abbrev pub blob : Format (List ℕ)
 blob = record { text = text_bytes; read = blob_at; Form = λ bytes. length bytes < 2 ^ 32 }
@@ -70,7 +70,7 @@ blob = record { text = text_bytes; read = blob_at; Form = λ bytes. length bytes
 unfoldable pub text_at : Reader (List ℕ)
 text_at c = do
   n ← cut (number 4 c)
-  bytes ← cut (front n.0 n.1)
+  bytes ← cut (next_bytes n.0 n.1)
   if is_utf8 bytes.0 then Ok bytes else Err (refused.At n.1.at fault.Value)
 
 abbrev pub utf8 : Format (List ℕ)
@@ -81,7 +81,7 @@ unfoldable pub word_at : ℕ → Reader (List ℕ)
 word_at most c = do
   n ← cut (number 1 c)
   if n.0 == 0 then Err (refused.At c.at fault.Value) else (if nat_lt most n.0 then Err (refused.At c.at fault.Value) else (do
-    bytes ← cut (front n.0 n.1)
+    bytes ← cut (next_bytes n.0 n.1)
     if is_word most bytes.0 then Ok bytes else Err (refused.At n.1.at fault.Value)))
 
 abbrev pub word : ℕ → Format (List ℕ)
@@ -94,15 +94,15 @@ abbrev pub prefix : Format (List ℕ)
 prefix = word MOST_PREFIX
 
 -- a transaction's text with its length
-abbrev pub spelled_at : ℕ → Reading → Result (List Op) TxRefused → Result (List Op × Reading) MsgRefused
-spelled_at at after (Ok ops) = Ok (ops, after)
-spelled_at at after (Err e) = Err (refused.At at fault.Value)
+abbrev pub decoded_at : ℕ → Reading → Result (List Op) TxRefused → Result (List Op × Reading) MsgRefused
+decoded_at at after (Ok ops) = Ok (ops, after)
+decoded_at at after (Err e) = Err (refused.At at fault.Value)
 
 unfoldable pub value_at : Reader (List Op)
 value_at c = do
   n ← cut (number 4 c)
-  bytes ← cut (front n.0 n.1)
-  spelled_at n.1.at bytes.1 (transaction_of bytes.0)
+  bytes ← cut (next_bytes n.0 n.1)
+  decoded_at n.1.at bytes.1 (transaction_of bytes.0)
 
 abbrev pub value : Format (List Op)
 value = record { text = λ ops. text_bytes (transaction_text ops); read = value_at; Form = HasText }

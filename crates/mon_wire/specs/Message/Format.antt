@@ -9,7 +9,7 @@ use Rattle.mon_wire.specs.declared.refusal.MsgKind.TheVariants as fault
 use Rattle.mon_wire.specs.declared.refusal.MsgRefused.{MsgRefused}
 use Rattle.mon_wire.specs.declared.refusal.MsgRefused.TheVariants as refused
 pub use Rattle.mon_bytes.specs.Answers.{◌>>=◌}
-pub use Rattle.mon_bytes.specs.Format.{dependent, ◌⊗◌, seen_as, as_parts, Spelling, spelling, variant, choice}
+pub use Rattle.mon_bytes.specs.Format.{dependent, ◌⊗◌, seen_as, as_parts, Encoding, encoding, variant, choice}
 unfoldable pub use Rattle.mon_bytes.specs.Format.{items, u16_bytes}
 
 -- whether memory ran out

@@ -6,7 +6,7 @@ use Rattle.mon_bytes.specs.declared.command.MapRefused.{MapRefused}
 use Rattle.mon_bytes.specs.declared.entry.Entry.{Entry}
 use Rattle.mon_bytes.specs.declared.entry.KeyPlace.{KeyPlace}
 use Rattle.mon_bytes.specs.declared.entry.KeyPlace.TheVariants.{Start, After, Done}
-use Rattle.mon_bytes.specs.Reading.{Reading, number, front}
+use Rattle.mon_bytes.specs.Reading.{Reading, number, next_bytes}
 use Rattle.mon_bytes.specs.Forms.{text_bytes}
 use Rattle.map_kv.specs.Text.{map_text as kv_text, MapFits as KvFits}
 use Rattle.map_kv.specs.Decode.{map_of as kv_of}
@@ -22,19 +22,19 @@ use Rattle.mon_wire.specs.declared.reply.ShownMap.{ShownMap}
 use Rattle.mon_wire.specs.declared.reply.ShownMap.TheVariants as map
 use Rattle.mon_wire.specs.declared.request.Service.{Service}
 use Rattle.mon_wire.specs.declared.request.Service.TheVariants as service
-use Rattle.mon_wire.specs.Message.Format.{◌>>=◌, cut, Reader, Format, nothing, ◌⊗◌, as_parts, Spelling, spelling, variant, tagged, choice}
+use Rattle.mon_wire.specs.Message.Format.{◌>>=◌, cut, Reader, Format, nothing, ◌⊗◌, as_parts, Encoding, encoding, variant, tagged, choice}
 use Rattle.mon_wire.specs.Message.Fields.{numeral, utf8, name, prefix, blob, value}
 
 -- a flag, and with 1 the value
-abbrev pub option_spelled : {A : Type 0} → Format A → Option A → Spelling
-option_spelled f None = spelling 0 nothing tt
-option_spelled f (Some x) = spelling 1 f x
+abbrev pub option_encoded : {A : Type 0} → Format A → Option A → Encoding
+option_encoded f None = encoding 0 nothing tt
+option_encoded f (Some x) = encoding 1 f x
 
 abbrev pub option_kinds : {A : Type 0} → Format A → List (ℕ × Reader (Option A))
 option_kinds f = (0, variant nothing (λ x. None)) ∷ (1, variant f (λ x. Some x)) ∷ []
 
 abbrev pub optional : {A : Type 0} → Format A → Format (Option A)
-optional f = choice (option_spelled f) (tagged (option_kinds f))
+optional f = choice (option_encoded f) (tagged (option_kinds f))
 
 abbrev pub cookie : Format Cookie
 cookie = as_parts (numeral ⊗ numeral) (λ p. record { boot = p.0; seq = p.1 }) (λ k. (k.boot, k.seq))
@@ -44,10 +44,10 @@ told = as_parts (numeral ⊗ value) (λ p. record { pn = p.0; value = p.1 }) (λ
 
 -- ---- places and entries
 
-abbrev pub key_place_spelled : KeyPlace → Spelling
-key_place_spelled Start = spelling 0 nothing tt
-key_place_spelled (After p k) = spelling 1 (prefix ⊗ name) (p, k)
-key_place_spelled Done = spelling 2 nothing tt
+abbrev pub key_place_encoded : KeyPlace → Encoding
+key_place_encoded Start = encoding 0 nothing tt
+key_place_encoded (After p k) = encoding 1 (prefix ⊗ name) (p, k)
+key_place_encoded Done = encoding 2 nothing tt
 
 abbrev pub key_place_kinds : List (ℕ × Reader KeyPlace)
 key_place_kinds = (0, variant nothing (λ x. Start)) ∷ (1, variant (prefix ⊗ name) (λ p. After p.0 p.1)) ∷ (2, variant nothing (λ x. Done)) ∷ []
@@ -56,7 +56,7 @@ unfoldable pub key_place_at : Reader KeyPlace
 key_place_at c = tagged key_place_kinds c
 
 abbrev pub key_place : Format KeyPlace
-key_place = choice key_place_spelled key_place_at
+key_place = choice key_place_encoded key_place_at
 
 abbrev pub place : Format Place
 place = as_parts (numeral ⊗ key_place) (λ p. record { version = p.0; key = p.1 }) (λ x. (x.version, x.key))
@@ -66,10 +66,10 @@ entry = as_parts (prefix ⊗ name ⊗ blob) (λ p. record { prefix = p.0; key = 
 
 -- ---- commands
 
-abbrev pub command_spelled : Command → Spelling
-command_spelled (command.Set key value) = spelling 1 (name ⊗ utf8) (key, value)
-command_spelled (command.Remove key) = spelling 2 name key
-command_spelled (command.Log text) = spelling 3 utf8 text
+abbrev pub command_encoded : Command → Encoding
+command_encoded (command.Set key value) = encoding 1 (name ⊗ utf8) (key, value)
+command_encoded (command.Remove key) = encoding 2 name key
+command_encoded (command.Log text) = encoding 3 utf8 text
 
 abbrev pub command_kinds : List (ℕ × Reader Command)
 command_kinds =
@@ -79,7 +79,7 @@ unfoldable pub command_at : Reader Command
 command_at c = tagged command_kinds c
 
 abbrev pub a_command : Format Command
-a_command = choice command_spelled command_at
+a_command = choice command_encoded command_at
 
 -- ---- the map of a service, with the length of its text
 
@@ -90,11 +90,11 @@ map_at shown at after (Err e) = Err (refused.At at fault.Value)
 unfoldable pub shown_map_at : Service → Reader ShownMap
 shown_map_at service.Kv c = do
   n ← cut (number 4 c)
-  bytes ← cut (front n.0 n.1)
+  bytes ← cut (next_bytes n.0 n.1)
   map_at map.Kv n.1.at bytes.1 (kv_of bytes.0)
 shown_map_at service.Log c = do
   n ← cut (number 4 c)
-  bytes ← cut (front n.0 n.1)
+  bytes ← cut (next_bytes n.0 n.1)
   map_at map.Log n.1.at bytes.1 (log_of bytes.0)
 
 abbrev pub shown_text : ShownMap → List ℕ

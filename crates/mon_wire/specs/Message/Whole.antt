@@ -9,7 +9,7 @@ use Rattle.mon_wire.specs.declared.refusal.MsgRefused.{MsgRefused}
 use Rattle.mon_wire.specs.declared.refusal.MsgRefused.TheVariants as refused
 use Rattle.mon_wire.specs.Message.Format.{◌>>=◌, cut, Reader}
 use Rattle.mon_wire.specs.Message.Fields.{number_bytes, number_at}
-use Rattle.mon_wire.specs.Message.Bodies.{spelled, body_at}
+use Rattle.mon_wire.specs.Message.Bodies.{encoded, body_at}
 use Rattle.mon_wire.specs.Message.Length.{most_message}
 
 -- the kind of a client's request, which names no sender and no epoch
@@ -31,15 +31,15 @@ kind_of n = get_or kinds (n - 1) kind.Probe
 -- ---- how messages are encoded
 
 abbrev pub text : Message → List ℕ
-text m = 1 ∷ (spelled m.monitors m.from m.body).tag ∷ m.from ∷ m.monitors ∷ (number_bytes m.epoch ++ (spelled m.monitors m.from m.body).text)
+text m = 1 ∷ (encoded m.monitors m.from m.body).tag ∷ m.from ∷ m.monitors ∷ (number_bytes m.epoch ++ (encoded m.monitors m.from m.body).text)
 
 -- which messages there are
 pub record IsMessage (m : Message) : Type 0 where
   pub sender : m.from < m.monitors
   pub monitors : m.monitors ≤ 15
   pub epoch : m.epoch ≤ 2 ^ 62
-  pub asks : (spelled m.monitors m.from m.body).tag ≡ asking → (m.from ≡ 0) × (m.epoch ≡ 0)
-  pub body : (spelled m.monitors m.from m.body).Form
+  pub asks : (encoded m.monitors m.from m.body).tag ≡ asking → (m.from ≡ 0) × (m.epoch ≡ 0)
+  pub body : (encoded m.monitors m.from m.body).Form
 
 pub record HasText (m : Message) : Type 0 where
   pub form : IsMessage m

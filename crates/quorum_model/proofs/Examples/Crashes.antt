@@ -9,7 +9,7 @@ use Rattle.quorum_model.specs.Files.{no_files}
 use Rattle.quorum_model.specs.Happens.{lost}
 use Rattle.quorum_model.specs.Monitors.{classic}
 use Rattle.quorum_model.specs.Runs.{run, ran_from}
-use Rattle.quorum_model.specs.Upsets.{crash_keeps, opening_count, stops, writes_nothing}
+use Rattle.quorum_model.specs.InjectedFaults.{crash_keeps, opening_count, stops, writes_nothing}
 use Rattle.quorum_model.specs.World.{Crash, Start, first_world}
 
 -- the first start of a monitor, in which a crash loses what it writes: its store stays empty, and it is down

@@ -1,7 +1,7 @@
 use Rattle.std.proofs.Common.{◌≡◌, refl}
 use Rattle.mon_store.specs.Whole.{disk_a, disk_b}
-use Rattle.mon_node.specs.Nodes.{stood_of}
-use Rattle.cephmon_run.proofs.Nodes.{count_since, counted_none, ends_served, ends_unopened, tells_still}
+use Rattle.mon_node.specs.Nodes.{store_view_of}
+use Rattle.cephmon_run.proofs.Nodes.{count_since, counted_none, ends_served, ends_unopened, visible_still}
 use Rattle.cephmon_run.proofs.node.run_node.Goals as goal
 
 pub returns-in-Err : goal.returns-in-Err
@@ -11,7 +11,7 @@ returns-in-Err g c =
     (record { disks = c.args.disks; link = g.L.Link.state c.args.link.now; clock = g.C.Clock.left c.args.clock.now })
     (record { disks = c.in-Err.refused.disks; link = g.L.Link.state c.args.link.now; clock = g.C.Clock.left c.args.clock.now })
     c.in-Err.refused.why c.of_opening.result c.of_opening.ensures
-    (record { tells = it.answer; counts = it.counts; alike = it.any_moment; link = refl; clock = refl })
+    (record { is_stop = it.answer; counts = it.counts; alike = it.any_time; link = refl; clock = refl })
 
 pub returns-in-Ok : goal.returns-in-Ok
 returns-in-Ok g c =
@@ -24,17 +24,17 @@ returns-in-Ok g c =
     (record { disks = c.serve-served.result.disks; link = g.L.Link.state c.serve-served.new.link; clock = g.C.Clock.left c.serve-served.new.clock })
     c.serve-served.result.end c.of_end.result c.of_end.ensures
     (record {
-      stood = stood_of c.in-Ok.store;
+      store_view = store_view_of c.in-Ok.store;
       opened = it.answer;
       open_disks = record { a = disk_a c.in-Ok.store; b = disk_b c.in-Ok.store };
-      alike = it.any_moment;
+      alike = it.any_time;
       begun = c.serve-served.result.turns;
       first = run.0;
       given = run.1;
       serves = run.2;
-      stands = λ tell. run.3 (
-        tells_still (state c.args.disks.a).content.seen (state (disk_a c.in-Ok.store)).content.seen it.a_tells tell.0,
-        tells_still (state c.args.disks.b).content.seen (state (disk_b c.in-Ok.store)).content.seen it.b_tells tell.1,
+      stands = λ both_visible. run.3 (
+        visible_still (state c.args.disks.a).content.seen (state (disk_a c.in-Ok.store)).content.seen it.a_visible both_visible.0,
+        visible_still (state c.args.disks.b).content.seen (state (disk_b c.in-Ok.store)).content.seen it.b_visible both_visible.1,
       );
       link_counts = c.serve-served.ensures.faults;
       disks_count = count_since c.serve-served.result.end _ _ _ _ _ _ none.0 none.1 c.serve-served.ensures.counts;

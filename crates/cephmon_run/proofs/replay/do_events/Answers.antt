@@ -1,7 +1,7 @@
 use Rattle.std.proofs.Common.{◌≡◌, suc, ◌+◌, None, Ok, Err, refl, ◌∙◌, subst, arith}
 use Rattle.std.proofs.lemmas.Result.{err_from_is_err_and}
 use Rattle.std.specs.Io.KnownBytes.{Appends}
-use Rattle.mon_link.specs.Whole.{AppendsFront}
+use Rattle.mon_link.specs.Whole.{AppendsPrefix}
 use Rattle.trace_text.specs.Trace.{end_text}
 use Rattle.cephmon_run.specs.Replay.{fault_of, no_memory}
 use Rattle.cephmon_run.proofs.Schedules.{all_fit, monitors_of}
@@ -72,7 +72,7 @@ returns-in_err-write_all-clause-writes g c =
     let none = none_of es c.as_slice-event-items.result.now l.event-index c.as_slice-event-items.ensures (omega (arith, c.loop-event-test.false)) in
     let line : c.as_slice.result.now ≡ end_text l.event-index l.world.log =
     c.as_slice.ensures.value ∙ c.in_ok-line.ensures ∙ (λ i. end_text (l.invariant.number i) (c.log_len.ensures i)) in
-    let front = writes_fault c.in_err-write_all.field-0.0 mid new (record { text = end_text l.event-index l.world.log; stop = None }) (subst (AppendsFront mid new) line c.in_err-write_all.ensures.part) in
+    let front = writes_fault c.in_err-write_all.field-0.0 mid new (record { text = end_text l.event-index l.world.log; stop = None }) (subst (AppendsPrefix mid new) line c.in_err-write_all.ensures.part) in
     λ ms count rule. rw (p.1, p.2) (ends ms (Err (fault_of c.in_err-write_all.field-0.0)) l.world (g.K.Sink.held c.args.sink.now) mid new es l.event-index none (l.invariant.so_far ms count rule) front)
 
 pub returns-clause-writes : goal.returns-clause-writes

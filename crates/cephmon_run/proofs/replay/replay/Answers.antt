@@ -1,9 +1,9 @@
 use Rattle.std.proofs.Common.{◌≡◌, ◌∙◌, subst}
 use Rattle.std.proofs.lemmas.Result.{err_from_is_err_and}
 use Rattle.std.specs.Io.KnownBytes.{Appends}
-use Rattle.mon_link.specs.Whole.{AppendsFront}
+use Rattle.mon_link.specs.Whole.{AppendsPrefix}
 use Rattle.quorum_model.specs.Scenes.{first_scene}
-use Rattle.schedule_text.specs.Spelling.{ended_line, header}
+use Rattle.schedule_text.specs.Encoding.{ended_line, header}
 use Rattle.cephmon_run.specs.Trace.{trace_from, trace}
 use Rattle.cephmon_run.proofs.Schedules.{first_line}
 use Rattle.cephmon_run.proofs.Writing.{front_first, writes_behind, writes_fault}
@@ -17,7 +17,7 @@ returns-in_err-write_all-clause-writes g c =
     let s = c.args.schedule.now in
     λ ms count rule.
     let line : c.as_slice.result.now ≡ ended_line (header ms.count ms.rule) = c.as_slice.ensures.value ∙ c.in_ok-line.ensures ∙ first_line s ms count rule in
-    let front = front_first old new (ended_line (header ms.count ms.rule)) (trace_from ms 0 first_scene s.events).text (subst (AppendsFront old new) line c.in_err-write_all.ensures.part) in
+    let front = front_first old new (ended_line (header ms.count ms.rule)) (trace_from ms 0 first_scene s.events).text (subst (AppendsPrefix old new) line c.in_err-write_all.ensures.part) in
     rw (p.1, p.2) (writes_fault c.in_err-write_all.field-0.0 old new (trace ms s.events) front)
 
 pub returns-clause-writes : goal.returns-clause-writes

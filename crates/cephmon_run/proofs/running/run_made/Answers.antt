@@ -1,6 +1,6 @@
 use Rattle.std.proofs.Common.{◌≡◌, Err, ap, refl, subst, sym, ◌∙◌}
 use Rattle.std.specs.Io.KnownBytes.{Appends}
-use Rattle.mon_link.specs.Whole.{AppendsFront}
+use Rattle.mon_link.specs.Whole.{AppendsPrefix}
 use Rattle.cephmon_run.specs.Run.{MadeCause}
 use Rattle.cephmon_run.specs.Outside.{Outside}
 use Rattle.cephmon_run.specs.Replay.{fault_of, status_of}
@@ -30,4 +30,4 @@ returns g c = λ left read_faults.
     let is : c.status_of-in-Err-write_all.result ≡ status_of (fault_of e) = c.status_of-in-Err-write_all.ensures ∙ ap status_of c.from-in-Err-write_all.ensures in
     subst (MadeCause c.args.number c.args.events before after) (sym is)
     (made_fault e c.args.number c.args.events before after c.in-Ok.line.items c.requires.most (record { left = refl; faults = refl }) c.in-Ok.ensures.line
-    (subst (AppendsFront before.held after.held) c.as_slice.ensures.value c.in-Err-write_all.ensures.part) (λ failed. c.in-Err-write_all.ensures.cause.failed (ap Err failed)))
+    (subst (AppendsPrefix before.held after.held) c.as_slice.ensures.value c.in-Err-write_all.ensures.part) (λ failed. c.in-Err-write_all.ensures.cause.failed (ap Err failed)))

@@ -1,7 +1,7 @@
 use Rattle.std.proofs.Common.{suc}
 use Rattle.log_copies.proofs.Growing.{more_values, committed}
 use Rattle.log_copies.proofs.Leaving.{still_has}
-use Rattle.log_copies.proofs.Telling.{run_told, versions_are, learned_values}
+use Rattle.log_copies.proofs.Matching.{run_told, versions_are, learned_values}
 use Rattle.log_copies.proofs.laws.law_learned.Goals as goal
 
 pub returns : goal.returns

@@ -1,11 +1,11 @@
 use Rattle.log_model.proofs.Committed.{shown, shown_shared}
-use Rattle.log_model.proofs.ToldFront.{told_front, told_others}
+use Rattle.log_model.proofs.LongestPrefix.{longest_is_prefix, others_remain}
 use Rattle.log_model.proofs.laws.law_shown.Goals as goal
 
 pub returns : goal.returns
 returns c = record {
   kept = shown;
   shared = λ log fits all c h m same. shown_shared log c m same fits all h;
-  first = told_front;
-  more = told_others;
+  first = longest_is_prefix;
+  more = others_remain;
 }

@@ -1,7 +1,7 @@
 use Rattle.std.proofs.Common.{◌+◌, ◌≤◌, ◌^◌, ℕ, refl, arith}
 use Rattle.mon_wire.proofs.BodyLengths.{length-message}
 use Rattle.mon_wire.specs.Message.Whole.{HasText, IsMessage}
-use Rattle.map_follower.specs.Turns.{request_of}
+use Rattle.map_follower.specs.Iterations.{request_of}
 use Rattle.map_follower.specs.declared.follower.Follower.{Follower}
 use Rattle.map_follower.proofs.asking.request_of.Goals as goal
 

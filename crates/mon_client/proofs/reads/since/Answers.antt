@@ -17,11 +17,11 @@ returns-clause-plans c =
     let w = readings_of here.kv.now in
     let v = here.view.now in
     let s = c.args.clients in
-    let told = told_by w v c.args.service c.args.version in
+    let changes_reply = told_by w v c.args.service c.args.version in
     answers me now (Met me now w v s) (read me now c.args.session (λ r. since r c.args.service c.args.version))
-    (sent.Reply c.args.session told) s
+    (sent.Reply c.args.session changes_reply) s
     (λ x b.
     read-is me now w v x (under_way me now w v s x b) c.args.session c.args.service c.args.version
-    ∙ ap (λ (y : Course). Ok (say (sent.Reply c.args.session told ∷ []) y)) (same me now w v s x b))
+    ∙ ap (λ (y : Course). Ok (say (sent.Reply c.args.session changes_reply ∷ []) y)) (same me now w v s x b))
     c.in_ok-answered.field-0
     (c.in_ok-answered.ensures ∙ (λ i. plan_of (sent.Reply c.args.session (c.in_ok-reply.ensures i) ∷ []) [] s next.Stay))

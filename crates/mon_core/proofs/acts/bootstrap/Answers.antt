@@ -6,7 +6,7 @@ use Rattle.mon_msg.specs.declared.plan.Next.TheVariants as next
 use Rattle.mon_probe.specs.Rows.{IsBegun}
 use Rattle.mon_msg.specs.Protocol.Readings.{Readings}
 use Rattle.mon_msg.specs.declared.plan.RoleStop.{RoleStop}
-use Rattle.mon_core.proofs.Acting.{act_fails, act_goes_on, kept, tells_epoch}
+use Rattle.mon_core.proofs.Acting.{act_fails, act_goes_on, kept, writes_epoch}
 use Rattle.mon_core.proofs.Leaving.{ends_last, may_end}
 use Rattle.mon_core.specs.Acts.{Acts, IsLast, MayAct}
 use Rattle.mon_msg.specs.declared.plan.Next.{Next}
@@ -20,7 +20,7 @@ returns-in_err-plan c =
     subst (λ (r : Result Unit RoleStop). Acts c.args.here.now.me.now m c.args.here.now.time e next.Bootstrap e r) (sym (p.1 ∙ ap Err p.2))
     (act_fails c.args.here.now.me.now c.args.here.now.time m prober_is next.Bootstrap e (IsBegun c.args.here.now.me.now (readings_of m) c.in_ok-epoch.epoch)
     (λ x u. record {
-      epoch = tells_epoch m e x u c.in_ok-epoch.epoch c.in_ok-epoch.ensures;
+      epoch = writes_epoch m e x u c.in_ok-epoch.epoch c.in_ok-epoch.ensures;
       marked = λ alone. ap (λ (w : Readings). w.marked) (kept m e x u (c.requires alone));
     })
     e c.in_err-plan.field-0.0 c.in_err-plan.ensures.plans)
@@ -44,7 +44,7 @@ returns c =
     let e = c.args.event.now in
     act_goes_on c.args.here.now.me.now c.args.here.now.time m prober_is next.Bootstrap e (IsBegun c.args.here.now.me.now (readings_of m) c.in_ok-epoch.epoch)
     (λ x u. record {
-      epoch = tells_epoch m e x u c.in_ok-epoch.epoch c.in_ok-epoch.ensures;
+      epoch = writes_epoch m e x u c.in_ok-epoch.epoch c.in_ok-epoch.ensures;
       marked = λ alone. ap (λ (w : Readings). w.marked) (kept m e x u (c.requires alone));
     })
     c.start_over.new.self c.start_over.ensures.goes c.in_ok-plan.plan c.in_ok-plan.ensures.plans

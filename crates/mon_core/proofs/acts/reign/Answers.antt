@@ -6,7 +6,7 @@ use Rattle.mon_plan.specs.Plans.{leads}
 use Rattle.paxos_leader.specs.Drafts.{IsWon}
 use Rattle.mon_msg.specs.declared.plan.RoleStop.{RoleStop}
 use Rattle.mon_core.specs.Acts.{Acts}
-use Rattle.mon_core.proofs.Acting.{act_ends, act_fails, kept, tells_epoch}
+use Rattle.mon_core.proofs.Acting.{act_ends, act_fails, kept, writes_epoch}
 use Rattle.mon_core.proofs.acts.reign.Goals as goal
 
 pub returns-in_err-plan : goal.returns-in_err-plan
@@ -16,7 +16,7 @@ returns-in_err-plan c =
     let p = err_from_is_err_and c.from_residual-in_err-plan.result c.from_residual-in_err-plan.ensures.1 in
     subst (λ (r : Result Unit RoleStop). Acts c.args.here.now.me.now m c.args.here.now.time e (next.Win c.args.quorum) e r) (sym (p.1 ∙ ap Err p.2))
     (act_fails c.args.here.now.me.now c.args.here.now.time m leads (next.Win c.args.quorum) e (IsWon c.in_ok-epoch.epoch (readings_of m))
-    (λ x u. record { epoch = tells_epoch m e x u c.in_ok-epoch.epoch c.in_ok-epoch.ensures; kept = kept m e x u c.requires })
+    (λ x u. record { epoch = writes_epoch m e x u c.in_ok-epoch.epoch c.in_ok-epoch.ensures; kept = kept m e x u c.requires })
     e c.in_err-plan.field-0.0 c.in_err-plan.ensures.plans)
 
 pub returns : goal.returns
@@ -24,6 +24,6 @@ returns c =
     let m = c.args.here.now.kv.now in
     let e = c.args.event.now in
     act_ends c.args.here.now.me.now c.args.here.now.time m leads (next.Win c.args.quorum) e (IsWon c.in_ok-epoch.epoch (readings_of m))
-    (λ x u. record { epoch = tells_epoch m e x u c.in_ok-epoch.epoch c.in_ok-epoch.ensures; kept = kept m e x u c.requires })
+    (λ x u. record { epoch = writes_epoch m e x u c.in_ok-epoch.epoch c.in_ok-epoch.ensures; kept = kept m e x u c.requires })
     c.enter_phase.new.self c.enter_phase.ensures.goes c.in_ok-plan.plan c.in_ok-plan.ensures.plans
     c.carry_out.new.self c.in_ok-carry_out.field-0 c.in_ok-carry_out.ensures c.in_ok-plan.ensures.stays

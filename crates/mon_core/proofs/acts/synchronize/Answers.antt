@@ -14,7 +14,7 @@ use Rattle.mon_event.specs.Events.{Goes}
 use Rattle.mon_event.specs.declared.event.Event.{Event}
 use Rattle.mon_core.specs.Acts.{Acts, KeepsAll, MayAct}
 use Rattle.mon_msg.specs.declared.plan.RoleStop.{RoleStop}
-use Rattle.mon_core.proofs.Acting.{act_ends, act_fails, kept, tells_epoch}
+use Rattle.mon_core.proofs.Acting.{act_ends, act_fails, kept, writes_epoch}
 use Rattle.mon_core.proofs.acts.synchronize.Goals as goal
 
 abbrev copying : Bool → ℕ → Next
@@ -37,7 +37,7 @@ returns-in_err-plan c =
     subst (λ (r : Result Unit RoleStop). Acts c.args.here.now.me.now m c.args.here.now.time e (copying c.args.full c.args.from) e r) (sym (p.1 ∙ ap Err p.2))
     (act_fails c.args.here.now.me.now c.args.here.now.time m requester_is (copying c.args.full c.args.from) e (IsEntering c.in_ok-epoch.epoch (readings_of m))
     (λ x u. record {
-      epoch = tells_epoch m e x u c.in_ok-epoch.epoch c.in_ok-epoch.ensures;
+      epoch = writes_epoch m e x u c.in_ok-epoch.epoch c.in_ok-epoch.ensures;
       kept = kept m e x u (keeps c.args.full c.args.from c.args.here.now.me.now m e c.requires);
     })
     e c.in_err-plan.field-0.0 c.in_err-plan.ensures.plans)
@@ -48,7 +48,7 @@ returns c =
     let e = c.args.event.now in
     act_ends c.args.here.now.me.now c.args.here.now.time m requester_is (copying c.args.full c.args.from) e (IsEntering c.in_ok-epoch.epoch (readings_of m))
     (λ x u. record {
-      epoch = tells_epoch m e x u c.in_ok-epoch.epoch c.in_ok-epoch.ensures;
+      epoch = writes_epoch m e x u c.in_ok-epoch.epoch c.in_ok-epoch.ensures;
       kept = kept m e x u (keeps c.args.full c.args.from c.args.here.now.me.now m e c.requires);
     })
     c.enter_phase.new.self (enters c.args.full c.args.from e c.enter_phase.new.self c.enter_phase.ensures.goes)

@@ -1,10 +1,10 @@
 use Rattle.std.proofs.Common.{◌≡◌, true, Result, ap, sym, subst, ◌∙◌}
-use Rattle.mon_bounds.specs.Fitting.{MayCome}
+use Rattle.mon_bounds.specs.Fitting.{IsValidInput}
 use Rattle.mon_msg.specs.Protocol.Course.{Course}
 use Rattle.mon_msg.specs.Protocol.Readings.{readings_of, shared_entries}
 use Rattle.mon_msg.specs.Protocol.Table.{at_rest, running}
 use Rattle.mon_msg.specs.declared.input.Input.{Input}
-use Rattle.mon_plan.specs.Inputs.{may_come, row}
+use Rattle.mon_plan.specs.Inputs.{input_is_short, row}
 use Rattle.mon_types.specs.declared.names.Which.{Which}
 use Rattle.mon_event.specs.Events.{Reaches}
 use Rattle.mon_event.specs.Roles.{role_of}
@@ -27,8 +27,8 @@ answer-requires-clause-input c =
     record {
       role = ap role_of c.requires.is ∙ sym c.hearer.ensures ∙ c.in-Some.is;
       comes =
-          subst (λ (came : Input). may_come me.member.monitors came ≡ true) (sym c.requires.is)
-          (heard_fits me c.args.message.now (sym c.is_heard-heard.ensures ∙ c.if-not-heard.false) (subst MayCome c.requires.is c.requires.comes));
+          subst (λ (came : Input). input_is_short me.member.monitors came ≡ true) (sym c.requires.is)
+          (heard_fits me c.args.message.now (sym c.is_heard-heard.ensures ∙ c.if-not-heard.false) (subst IsValidInput c.requires.is c.requires.comes));
     }
 
 pub returns-in-Some : goal.returns-in-Some

@@ -4,7 +4,7 @@ use Rattle.mon_msg.specs.Protocol.Readings.{readings_of, shared_entries}
 use Rattle.mon_msg.specs.Protocol.Table.{at_rest, running}
 use Rattle.mon_msg.specs.declared.input.Input.TheVariants as input
 use Rattle.mon_msg.specs.declared.input.Input.{Input}
-use Rattle.mon_plan.specs.Inputs.{may_come, row}
+use Rattle.mon_plan.specs.Inputs.{input_is_short, row}
 use Rattle.mon_types.specs.declared.names.Which.{Which}
 use Rattle.mon_event.specs.Events.{Reaches}
 use Rattle.mon_event.specs.Roles.{role_of}
@@ -24,7 +24,7 @@ returns-then-not-is_armed c =
 pub answer-requires-clause-input : goal.answer-requires-clause-input
 answer-requires-clause-input c = record {
   role = ap role_of c.requires.is ∙ ap Some (sym c.woken_by.ensures);
-  comes = subst (λ (came : Input). may_come c.args.here.now.me.now.member.monitors came ≡ true) (sym c.requires.is) refl;
+  comes = subst (λ (came : Input). input_is_short c.args.here.now.me.now.member.monitors came ≡ true) (sym c.requires.is) refl;
 }
 
 pub answer-requires-clause-ready : goal.answer-requires-clause-ready

@@ -1,5 +1,5 @@
 use Rattle.std.proofs.Common.{◌≡◌, ◌++◌, ◌+◌, List, Result, is_some, ap, sym, subst, ◌∙◌, arith}
-use Rattle.mon_msg.specs.Protocol.Changes.{spelled}
+use Rattle.mon_msg.specs.Protocol.Changes.{encoded}
 use Rattle.mon_msg.specs.Protocol.Course.{Course}
 use Rattle.mon_msg.specs.Protocol.Readings.{readings_of}
 use Rattle.mon_msg.specs.Protocol.Table.{at_rest}
@@ -26,7 +26,7 @@ bootstrap-requires c =
     let within = c.if-boot-gt-GREATEST.false in
     first_keeps c.args.here.now.kv.now c.count_start.new.event.tx (c.boot-boot.result + 1) (is_some (readings_of c.of-stored.result).epoch) (omega arith)
     (c.in_ok-count_start.ensures.written
-    ∙ ap (λ (ops : List Op). ops ++ spelled (first_changes (c.boot-boot.result + 1) (is_some (readings_of c.of-stored.result).epoch))) c.requires.unwritten)
+    ∙ ap (λ (ops : List Op). ops ++ encoded (first_changes (c.boot-boot.result + 1) (is_some (readings_of c.of-stored.result).epoch))) c.requires.unwritten)
 
 pub returns : goal.returns
 returns c =

@@ -3,7 +3,7 @@ use Rattle.mon_msg.specs.Protocol.Readings.{readings_of}
 use Rattle.svc_core.specs.Cache.{known, known_once_read}
 use Rattle.mon_event.specs.State.{state_of}
 use Rattle.mon_core.specs.Known.{asks_any_map, asks_for, is_shown}
-use Rattle.mon_core.proofs.Told.{asks_none, on_ok_any, unasked}
+use Rattle.mon_core.proofs.Shown.{asks_none, on_ok_any, unasked}
 use Rattle.mon_core.proofs.monitor.played.Goals as goal
 
 pub returns-in-Set-clause-known : goal.returns-in-Set-clause-known

@@ -7,7 +7,7 @@ use Rattle.mon_event.specs.State.{state_of}
 use Rattle.mon_msg.specs.Joined.{joined}
 use Rattle.svc_core.specs.Cache.{known_after}
 use Rattle.mon_core.specs.Core.{Monitor}
-use Rattle.mon_core.specs.Reacts.{Reacts, TellsNamed}
+use Rattle.mon_core.specs.Reacts.{Reacts, SendsNamed}
 use Rattle.mon_core.proofs.Reacting.{reacts, stops}
 use Rattle.mon_core.proofs.monitor.react_to.Goals as goal
 
@@ -37,7 +37,7 @@ returns-clause-reacts c =
       me = refl;
       reacts = is;
       bounded = IfOk-at_ok (IsBounded me) is (reaction_ok me c.args.here.now.time m (state_of e.state) came c.requires.ready.remembers c.requires.comes);
-      named = subst (AllByRecursion TellsNamed) c.as_slice.ensures c.see_named.ensures;
+      named = subst (AllByRecursion SendsNamed) c.as_slice.ensures c.see_named.ensures;
       known = λ s. c.in_ok-follow.ensures.known s ∙ ap (known_after s tx) (c.in_ok-played.ensures.known s);
       follows = c.in_ok-follow.ensures.follows m c.in_ok-played.ensures.follows;
     }

@@ -31,7 +31,7 @@ pub carry-requires : goal.carry-requires
 carry-requires c = λ e n k.
     let d = c.in_ok-plan-in-Prober.ensures.plans (shared_entries c.args.here.now.kv.now) in
     may_act put_prober (λ x s active stage. stage) c.args.here.now.me.now c.args.here.now.kv.now c.args.event.now c.requires.ready
-    c.in_ok-plan-in-Prober.plan d.changes d.fit d.spelled e n k c.view-view.result.phase c.view-view.ensures.phase c.in_ok-plan-in-Prober.ensures.leaves
+    c.in_ok-plan-in-Prober.plan d.changes d.fit d.encoded e n k c.view-view.result.phase c.view-view.ensures.phase c.in_ok-plan-in-Prober.ensures.leaves
 
 pub returns-in_err-plan-in-Prober : goal.returns-in_err-plan-in-Prober
 returns-in_err-plan-in-Prober c =
@@ -53,7 +53,7 @@ pub carry-requires-in-Elector : goal.carry-requires-in-Elector
 carry-requires-in-Elector c = λ e n k.
     let d = c.in_ok-plan-in-Elector.ensures.plans (shared_entries c.args.here.now.kv.now) in
     may_act put_elector (λ x s active stage. stage) c.args.here.now.me.now c.args.here.now.kv.now c.args.event.now c.requires.ready
-    c.in_ok-plan-in-Elector.plan d.changes d.fit d.spelled e n k c.view-view.result.phase c.view-view.ensures.phase c.in_ok-plan-in-Elector.ensures.leaves
+    c.in_ok-plan-in-Elector.plan d.changes d.fit d.encoded e n k c.view-view.result.phase c.view-view.ensures.phase c.in_ok-plan-in-Elector.ensures.leaves
 
 pub returns-in_err-plan-in-Elector : goal.returns-in_err-plan-in-Elector
 returns-in_err-plan-in-Elector c =
@@ -84,7 +84,7 @@ carry-requires-in-Leader c = λ e n k.
     let d = subst (λ (x : Leader). PlansRow c.args.here.now.me.now c.args.here.now.time leads (IsMet c.args.here.now.me.now c.args.here.now.time (readings_of c.args.here.now.kv.now) c.view-view.result (λ s. s.leader) x) (row c.args.here.now.me.now (shared_entries c.args.here.now.kv.now) c.args.here.now.time c.args.input.now) (Ok c.in_ok-plan-in-Leader.plan))
     c.take_leader-leader.ensures.taken (c.in_ok-plan-in-Leader.ensures.plans (shared_entries c.args.here.now.kv.now)) in
     may_act put_leader (λ l s active stage. ap (phase_as l.stage) active) c.args.here.now.me.now c.args.here.now.kv.now c.args.event.now c.requires.ready
-    c.in_ok-plan-in-Leader.plan d.changes d.fit d.spelled e n (carried_whole put_leader c.args.event.now (record c.args.event.now { state = c.take_leader-leader.new.self }) refl refl (leader_taken (state_of c.args.event.now.state) (state_of c.take_leader-leader.new.self) c.take_leader-leader.ensures.left) c.in_ok-plan-in-Leader.plan e n k) c.view-view.result.phase c.view-view.ensures.phase c.in_ok-plan-in-Leader.ensures.leaves
+    c.in_ok-plan-in-Leader.plan d.changes d.fit d.encoded e n (carried_whole put_leader c.args.event.now (record c.args.event.now { state = c.take_leader-leader.new.self }) refl refl (leader_taken (state_of c.args.event.now.state) (state_of c.take_leader-leader.new.self) c.take_leader-leader.ensures.left) c.in_ok-plan-in-Leader.plan e n k) c.view-view.result.phase c.view-view.ensures.phase c.in_ok-plan-in-Leader.ensures.leaves
 
 pub returns-in_err-plan-in-Leader : goal.returns-in_err-plan-in-Leader
 returns-in_err-plan-in-Leader c =
@@ -111,7 +111,7 @@ pub carry-requires-in-Peon : goal.carry-requires-in-Peon
 carry-requires-in-Peon c = λ e n k.
     let d = c.in_ok-plan-in-Peon.ensures.plans (shared_entries c.args.here.now.kv.now) in
     may_act put_peon (λ x s active stage. stage) c.args.here.now.me.now c.args.here.now.kv.now c.args.event.now c.requires.ready
-    c.in_ok-plan-in-Peon.plan d.changes d.fit d.spelled e n k c.view-view.result.phase c.view-view.ensures.phase c.in_ok-plan-in-Peon.ensures.leaves
+    c.in_ok-plan-in-Peon.plan d.changes d.fit d.encoded e n k c.view-view.result.phase c.view-view.ensures.phase c.in_ok-plan-in-Peon.ensures.leaves
 
 pub returns-in_err-plan-in-Peon : goal.returns-in_err-plan-in-Peon
 returns-in_err-plan-in-Peon c =
@@ -137,7 +137,7 @@ carry-requires-in-Clients c = λ e n k.
     let d = subst (λ (x : Clients). PlansRow c.args.here.now.me.now c.args.here.now.time clients_are (IsMet c.args.here.now.me.now c.args.here.now.time (readings_of c.args.here.now.kv.now) c.view-view.result (λ s. s.clients) x) (row c.args.here.now.me.now (shared_entries c.args.here.now.kv.now) c.args.here.now.time c.args.input.now) (Ok c.in_ok-plan-in-Clients.plan))
     c.take_clients-clients.ensures.taken (c.in_ok-plan-in-Clients.ensures.plans (shared_entries c.args.here.now.kv.now)) in
     may_act put_clients (λ x s active stage. stage) c.args.here.now.me.now c.args.here.now.kv.now c.args.event.now c.requires.ready
-    c.in_ok-plan-in-Clients.plan d.changes d.fit d.spelled e n (carried_whole put_clients c.args.event.now (record c.args.event.now { state = c.take_clients-clients.new.self }) refl refl (clients_taken (state_of c.args.event.now.state) (state_of c.take_clients-clients.new.self) c.take_clients-clients.ensures.left) c.in_ok-plan-in-Clients.plan e n k) c.view-view.result.phase c.view-view.ensures.phase c.in_ok-plan-in-Clients.ensures.leaves
+    c.in_ok-plan-in-Clients.plan d.changes d.fit d.encoded e n (carried_whole put_clients c.args.event.now (record c.args.event.now { state = c.take_clients-clients.new.self }) refl refl (clients_taken (state_of c.args.event.now.state) (state_of c.take_clients-clients.new.self) c.take_clients-clients.ensures.left) c.in_ok-plan-in-Clients.plan e n k) c.view-view.result.phase c.view-view.ensures.phase c.in_ok-plan-in-Clients.ensures.leaves
 
 pub returns-in_err-plan-in-Clients : goal.returns-in_err-plan-in-Clients
 returns-in_err-plan-in-Clients c =
@@ -161,7 +161,7 @@ pub carry-requires-in-Provider : goal.carry-requires-in-Provider
 carry-requires-in-Provider c = λ e n k.
     let d = c.in_ok-plan-in-Provider.ensures.plans in
     may_act put_provider (λ x s active stage. stage) c.args.here.now.me.now c.args.here.now.kv.now c.args.event.now c.requires.ready
-    c.in_ok-plan-in-Provider.plan d.changes d.fit d.spelled e n k c.view-view.result.phase c.view-view.ensures.phase c.in_ok-plan-in-Provider.ensures.leaves
+    c.in_ok-plan-in-Provider.plan d.changes d.fit d.encoded e n k c.view-view.result.phase c.view-view.ensures.phase c.in_ok-plan-in-Provider.ensures.leaves
 
 pub returns-in_err-plan-in-Provider : goal.returns-in_err-plan-in-Provider
 returns-in_err-plan-in-Provider c =
@@ -186,7 +186,7 @@ pub carry-requires-in-Requester : goal.carry-requires-in-Requester
 carry-requires-in-Requester c = λ e n k.
     let d = c.in_ok-plan-in-Requester.ensures.plans (shared_entries c.args.here.now.kv.now) in
     may_act put_requester (λ x s active stage. stage) c.args.here.now.me.now c.args.here.now.kv.now c.args.event.now c.requires.ready
-    c.in_ok-plan-in-Requester.plan d.changes d.fit d.spelled e n k c.view-view.result.phase c.view-view.ensures.phase c.in_ok-plan-in-Requester.ensures.leaves
+    c.in_ok-plan-in-Requester.plan d.changes d.fit d.encoded e n k c.view-view.result.phase c.view-view.ensures.phase c.in_ok-plan-in-Requester.ensures.leaves
 
 pub returns-in_err-plan-in-Requester : goal.returns-in_err-plan-in-Requester
 returns-in_err-plan-in-Requester c =

@@ -9,9 +9,9 @@ pub act-requires : goal.act-requires
 act-requires g c = c.requires c.carry_out.new.self c.in_ok-next.next c.in_ok-next.ensures
 
 pub returns : goal.returns
-returns g c = λ cs fit spells x u.
+returns g c = λ cs fit encodes x u.
     let m = c.args.here.now.kv.now in
     let k = c.in_ok-next.ensures in
     let after = done (remembering g.S.RoleState.put) cs c.args.plan x in
     subst (λ (n : Next). Reaches (readings_of m) (act c.args.here.now.me.now c.args.here.now.time n after) c.act.new.event c.act.result) k.next
-    (c.act.ensures after (k.done cs fit spells (readings_of m) x u))
+    (c.act.ensures after (k.done cs fit encodes (readings_of m) x u))

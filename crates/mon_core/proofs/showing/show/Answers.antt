@@ -5,7 +5,7 @@ use Rattle.mon_msg.specs.Protocol.Table.{at_rest}
 use Rattle.mon_wire.specs.declared.reply.Reply.{Reply}
 use Rattle.mon_event.specs.State.{state_of}
 use Rattle.mon_core.proofs.Acting.{rests}
-use Rattle.mon_core.proofs.Told.{shows, told_seen}
+use Rattle.mon_core.proofs.Shown.{shows, told_seen}
 use Rattle.mon_core.proofs.showing.show.Goals as goal
 
 pub returns-clause-row : goal.returns-clause-row

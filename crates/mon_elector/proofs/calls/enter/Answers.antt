@@ -1,5 +1,5 @@
 use Rattle.std.proofs.Common.{◌≡◌, ℕ, suc, ◌+◌, ◌≤◌, ◌^◌, [], ◌∷◌, min, sym, ap, ◌∙◌, arith}
-use Rattle.mon_msg.specs.Protocol.Changes.{Epoch, spelled}
+use Rattle.mon_msg.specs.Protocol.Changes.{Epoch, encoded}
 use Rattle.mon_msg.specs.Protocol.Course.{elector_is}
 use Rattle.mon_msg.specs.declared.election.Elector.{Elector}
 use Rattle.mon_msg.specs.declared.plan.Arming.TheVariants as arming
@@ -40,6 +40,6 @@ returns-clause-plans c =
     (Epoch (suc e) ∷ []) (short, tt) (laws.asks me c.args.now (suc e) s) (arming.Arm timer.Election (min (c.args.now + 5000) (2 ^ 62)) ∷ []) (laws.stands me c.args.now s) next.Stay
     (λ x b. laws.call-even me c.args.now e s x b (sym c.is_even.ensures ∙ c.if-not-is_even.false) short)
     c.in_ok-call-2.field-0
-    (ap (λ (p : Plan Elector). p.tx) is ∙ c.in_ok-to_epoch.ensures.changes ∙ ap (λ (k : ℕ). spelled (Epoch k ∷ [])) odd)
+    (ap (λ (p : Plan Elector). p.tx) is ∙ c.in_ok-to_epoch.ensures.changes ∙ ap (λ (k : ℕ). encoded (Epoch k ∷ [])) odd)
     (ap (λ (p : Plan Elector). p.out) is ∙ ap (λ (k : ℕ). laws.asks me c.args.now k s) odd)
     (ap (λ (p : Plan Elector). p.timers) is) (ap (λ (p : Plan Elector). p.state) is) (ap (λ (p : Plan Elector). p.next) is)

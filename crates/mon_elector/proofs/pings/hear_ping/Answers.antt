@@ -6,7 +6,7 @@ use Rattle.mon_msg.specs.declared.election.Elector.{Elector}
 use Rattle.mon_msg.specs.declared.plan.Next.TheVariants as next
 use Rattle.mon_msg.specs.declared.plan.Sent.{Sent}
 use Rattle.mon_wire.specs.declared.body.Body.TheVariants as body
-use Rattle.mon_elector.specs.Rows.{table_told}
+use Rattle.mon_elector.specs.Rows.{sent_table}
 use Rattle.mon_elector.proofs.Known.{epoch_in, plan_of, plans, stays}
 use Rattle.mon_elector.proofs.PingLaws as laws
 use Rattle.mon_elector.proofs.pings.hear_ping.Goals as goal
@@ -29,10 +29,10 @@ returns-clause-plans c =
     let f = c.args.from in
     let table = c.in-Some.table in
     let heard : c.with_heard-heard.result ≡ with_heard f table s = c.with_heard-heard.ensures ∙ ap (λ (t : Scores). with_heard f t s) c.scores.ensures in
-    let told : c.in_ok-table.table ≡ table_told me.rule (with_heard f table s).scores = c.in_ok-table.ensures ∙ ap (λ (t : Elector). table_told me.rule t.scores) heard in
+    let told : c.in_ok-table.table ≡ sent_table me.rule (with_heard f table s).scores = c.in_ok-table.ensures ∙ ap (λ (t : Elector). sent_table me.rule t.scores) heard in
     let sent = c.message-sent.ensures ∙ (λ i. message_to me (c.epoch.ensures i) (body.PingReply (told i)) f) in
     let out = c.in_ok-out.ensures ∙ ap (λ (m : Sent). m ∷ []) sent in
     plans here (hear_ping me f c.args.table.now) c.sending.result
-    [] tt (message_to me (epoch_in here) (body.PingReply (table_told me.rule (with_heard f table s).scores)) f ∷ []) [] (with_heard f table s) next.Stay
+    [] tt (message_to me (epoch_in here) (body.PingReply (sent_table me.rule (with_heard f table s).scores)) f ∷ []) [] (with_heard f table s) next.Stay
     (c.sending.ensures ∙ (λ i. plan_of [] (out i) [] (heard i) next.Stay))
     (λ x b. ap (λ (t : Option Scores). hear_ping me f t x) c.in-Some.is ∙ laws.ping-answered here x b f table)

@@ -1,5 +1,5 @@
 use Rattle.mon_journal.proofs.Headers.{file_again}
-use Rattle.mon_journal.proofs.Spells.{file_found}
+use Rattle.mon_journal.proofs.Encodes.{file_found}
 use Rattle.mon_journal.proofs.law.law_written.Goals as goal
 
 pub returns-clause-read : goal.returns-clause-read

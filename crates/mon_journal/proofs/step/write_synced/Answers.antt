@@ -18,32 +18,32 @@ returns-in_err-sync-clause-call g c =
     let old = (g.D.Disk.state c.args.disk.now).content in
     let mid = (g.D.Disk.state c.write_at.new.self).content in
     let first = TornFrom old c.args.at c.args.bytes.now in
-    rw (p.1, p.2) (then_calls first (images mid) first c.in_ok-write_at.ensures.call c.in_err-sync.ensures.call (λ d h. h) (λ d h. now old mid first c.in_ok-write_at.ensures.call.any_moment d h))
+    rw (p.1, p.2) (then_calls first (images mid) first c.in_ok-write_at.ensures.call c.in_err-sync.ensures.call (λ d h. h) (λ d h. now old mid first c.in_ok-write_at.ensures.call.any_time d h))
 
 pub returns-clause-call : goal.returns-clause-call
 returns-clause-call g c =
     let old = (g.D.Disk.state c.args.disk.now).content in
     let mid = (g.D.Disk.state c.write_at.new.self).content in
     let first = TornFrom old c.args.at c.args.bytes.now in
-    then_calls first (images mid) first c.in_ok-write_at.ensures.call c.in_ok-sync.ensures.call (λ d h. h) (λ d h. now old mid first c.in_ok-write_at.ensures.call.any_moment d h)
+    then_calls first (images mid) first c.in_ok-write_at.ensures.call c.in_ok-sync.ensures.call (λ d h. h) (λ d h. now old mid first c.in_ok-write_at.ensures.call.any_time d h)
 
 pub returns-in_err-write_at-clause-not_begun : goal.returns-in_err-write_at-clause-not_begun
 returns-in_err-write_at-clause-not_begun g c =
     let old = g.D.Disk.state c.args.disk.now in
     let new = g.D.Disk.state c.write_at.new.self in
     let e = c.in_err-write_at.field-0.0 in
-    refused (LeavesOnly old.content new.content (images old.content)) (Write c.args.at c.args.bytes.now) e old.told new.told c.in_err-write_at.ensures.call.made (λ is. (c.in_err-write_at.ensures.no_memory (ap (λ x. Err x) is)).any_moment)
+    refused (LeavesOnly old.content new.content (images old.content)) (Write c.args.at c.args.bytes.now) e old.observed new.observed c.in_err-write_at.ensures.call.made (λ is. (c.in_err-write_at.ensures.no_memory (ap (λ x. Err x) is)).any_time)
 
 pub returns-in_err-sync-clause-not_begun : goal.returns-in_err-sync-clause-not_begun
 returns-in_err-sync-clause-not_begun g c =
     let old = g.D.Disk.state c.args.disk.now in
     let mid = g.D.Disk.state c.write_at.new.self in
     let new = g.D.Disk.state c.sync.new.self in
-    done_before (LeavesOnly old.content new.content (images old.content)) (Write c.args.at c.args.bytes.now) Sync (Some c.in_err-sync.field-0.0) old.told mid.told new.told c.in_ok-write_at.ensures.call.made c.in_err-sync.ensures.call.made
+    done_before (LeavesOnly old.content new.content (images old.content)) (Write c.args.at c.args.bytes.now) Sync (Some c.in_err-sync.field-0.0) old.observed mid.observed new.observed c.in_ok-write_at.ensures.call.made c.in_err-sync.ensures.call.made
 
 pub returns-clause-not_begun : goal.returns-clause-not_begun
 returns-clause-not_begun g c =
     let old = g.D.Disk.state c.args.disk.now in
     let mid = g.D.Disk.state c.write_at.new.self in
     let new = g.D.Disk.state c.sync.new.self in
-    done_before (LeavesOnly old.content new.content (images old.content)) (Write c.args.at c.args.bytes.now) Sync None old.told mid.told new.told c.in_ok-write_at.ensures.call.made c.in_ok-sync.ensures.call.made
+    done_before (LeavesOnly old.content new.content (images old.content)) (Write c.args.at c.args.bytes.now) Sync None old.observed mid.observed new.observed c.in_ok-write_at.ensures.call.made c.in_ok-sync.ensures.call.made

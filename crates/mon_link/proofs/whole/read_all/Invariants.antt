@@ -7,7 +7,7 @@ invariant-loop-buffer g l = record {
   later : g.S.Source.faults l.fn.source ≤ g.S.Source.faults l.source;
   most : length l.bytes.items ≤ l.most;
   taken : Consumes (g.S.Source.left l.fn.source) (g.S.Source.left l.source) l.bytes.items;
-  tells : is_some (g.S.Source.left l.source) ≡ is_some (g.S.Source.left l.fn.source);
+  visible : is_some (g.S.Source.left l.source) ≡ is_some (g.S.Source.left l.fn.source);
 }
 
 abbrev pub decreases-loop-buffer : goal.decreases-loop-buffer

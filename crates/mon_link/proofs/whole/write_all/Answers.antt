@@ -8,5 +8,5 @@ loop-done-preserved g c = record {
   later = omega (arith, c.in_ok-done.ensures.cause.later);
   most = omega (arith, c.in_ok-done.ensures.bound, length-drop c.loop-done.done c.args.bytes.now);
   put = front_more _ _ _ c.args.bytes.now c.loop-done.done c.in_ok-done.field-0 c.loop-done.invariant.put (rw take_rest at c.in_ok-done.ensures.bytes);
-  tells = c.in_ok-done.ensures.tells ∙ c.loop-done.invariant.tells;
+  visible = c.in_ok-done.ensures.visible ∙ c.loop-done.invariant.visible;
 }

@@ -7,7 +7,7 @@ invariant-loop-done g l = record {
   later : g.K.Sink.faults l.fn.sink ≤ g.K.Sink.faults l.sink;
   most : l.done ≤ length l.bytes;
   put : Appends (g.K.Sink.held l.fn.sink) (g.K.Sink.held l.sink) (take l.done l.bytes);
-  tells : is_some (g.K.Sink.held l.sink) ≡ is_some (g.K.Sink.held l.fn.sink);
+  visible : is_some (g.K.Sink.held l.sink) ≡ is_some (g.K.Sink.held l.fn.sink);
 }
 
 abbrev pub decreases-loop-done : goal.decreases-loop-done

@@ -6,7 +6,7 @@ use Rattle.std.proofs.lemmas.List.{length_push}
 use Rattle.mon_kv.specs.Readers.{epoch}
 use Rattle.mon_node.specs.Posting.{Posts, letter, datagrams_of}
 use Rattle.mon_node.specs.declared.end.NodeEnd.{NodeEnd}
-use Rattle.mon_node.proofs.Sending.{AreLeft, never_sent, letter_sent, letter_stops, letter_spent, letters_done, number_behind}
+use Rattle.mon_node.proofs.Sending.{AreSentSoFar, never_sent, letter_sent, letter_stops, letter_spent, letters_done, number_behind}
 use Rattle.mon_node.proofs.posting.send_all.Goals as goal
 
 pub returns-in_err-letter-clause-posts : goal.returns-in_err-letter-clause-posts
@@ -61,7 +61,7 @@ loop-sent-preserved g c =
     let new = g.L.Link.state c.send_letter.new.link in
     let is : text ≡ letter me (epoch m) x = c.in_ok-letter.ensures.letter ∙ ap (λ (n : ℕ). letter me n x) (c.known-epoch.ensures ∙ c.epoch.ensures.value) in
     let posts = subst (λ (boot : ℕ). Posts {T = Unit {0}} {E = NodeEnd} (datagrams_of boot l.next text) (Ok u) now new) c.boot_count-boot.ensures.0 c.in_ok-send_letter.ensures.posts in
-    subst (λ (k : ℕ). AreLeft me m c.args.next.now c.args.out k c.send_letter.new.next (g.L.Link.state c.args.link.now) new) (sym (length_push l.yielded x))
+    subst (λ (k : ℕ). AreSentSoFar me m c.args.next.now c.args.out k c.send_letter.new.next (g.L.Link.state c.args.link.now) new) (sym (length_push l.yielded x))
     (letter_sent me m c.args.next.now c.args.out (length l.yielded) l.next (g.L.Link.state c.args.link.now) now l.invariant
     x text t.0 t.1 is new u c.send_letter.new.next c.in_ok-send_letter.ensures.behind c.in_ok-send_letter.ensures.most posts)
 

@@ -1,5 +1,5 @@
 use Rattle.std.proofs.Common.{refl, sym, append-nil}
-use Rattle.mon_plan.proofs.Learning.{learns-empty, learns-spent, learns-done, learns-fit, learns-spelled, empty-changes, above}
+use Rattle.mon_plan.proofs.Learning.{learns-empty, learns-spent, learns-done, learns-fit, learns-encoded, empty-changes, above}
 use Rattle.mon_plan.proofs.writers.learn.Goals as goal
 
 pub returns-then-is_empty-clause-act : goal.returns-then-is_empty-clause-act
@@ -19,7 +19,7 @@ returns-clause-act c = learns-done c.args.from c.args.values.now c.requires.from
 
 pub returns-clause-changes : goal.returns-clause-changes
 returns-clause-changes c =
-    learns-spelled c.args.tx.now c.put_learned.new.tx c.put_last.new.tx c.args.from c.in-Some.last c.args.values.now c.requires.from c.if-is_empty.ensures
+    learns-encoded c.args.tx.now c.put_learned.new.tx c.put_last.new.tx c.args.from c.in-Some.last c.args.values.now c.requires.from c.if-is_empty.ensures
     c.in-Some.ensures.value c.in_ok-put_learned.ensures.changes c.in_ok-put_last.ensures.changes
 
 pub returns-clause-fit : goal.returns-clause-fit

@@ -2,7 +2,7 @@ use Rattle.std.proofs.Common.{◌≡◌, ◌≤◌, ◌+◌, ◌++◌, [], drop,
 use Rattle.std.proofs.lemmas.List.{drop_all}
 use Rattle.mon_tx.specs.Text.{text, most}
 use Rattle.mon_tx.specs.declared.op.Op.{Op}
-use Rattle.mon_msg.specs.Protocol.Changes.{spelled}
+use Rattle.mon_msg.specs.Protocol.Changes.{encoded}
 use Rattle.mon_msg.specs.Protocol.Learning.{learn_changes}
 use Rattle.mon_wire.proofs.WriteLoops.{item_has}
 use Rattle.mon_plan.proofs.Learning.{learned-next, learned-fit}
@@ -17,14 +17,14 @@ returns-in_err-put_learn-clause-fit c = learned-fit c.args.from c.args.values.no
 pub loop-value-preserved : goal.loop-value-preserved
 loop-value-preserved c = record {
   at = omega (arith, c.loop-value.invariant.at);
-  tx = ap (λ (tx : List Op). tx ++ spelled (learn_changes (c.loop-value.v + 1) (drop (c.loop-value.value-index + 1) c.args.values.now))) c.in_ok-put_learn.ensures
-      ∙ learned-next c.loop-value.tx (c.args.tx.now ++ spelled (learn_changes c.args.from c.args.values.now)) c.loop-value.v c.loop-value.value-index c.args.values.now c.value-item.result c.loop-value-test.true c.value-item.is c.loop-value.invariant.tx;
+  tx = ap (λ (tx : List Op). tx ++ encoded (learn_changes (c.loop-value.v + 1) (drop (c.loop-value.value-index + 1) c.args.values.now))) c.in_ok-put_learn.ensures
+      ∙ learned-next c.loop-value.tx (c.args.tx.now ++ encoded (learn_changes c.args.from c.args.values.now)) c.loop-value.v c.loop-value.value-index c.args.values.now c.value-item.result c.loop-value-test.true c.value-item.is c.loop-value.invariant.tx;
 }
 
 pub returns-clause-changes : goal.returns-clause-changes
 returns-clause-changes c =
     let none : drop c.loop-value.value-index c.args.values.now ≡ [] = drop_all c.loop-value.value-index c.args.values.now c.loop-value-test.false in
-    sym (append-nil c.loop-value.tx) ∙ sym (ap (λ (vs : List (List Op)). c.loop-value.tx ++ spelled (learn_changes c.loop-value.v vs)) none) ∙ c.loop-value.invariant.tx
+    sym (append-nil c.loop-value.tx) ∙ sym (ap (λ (vs : List (List Op)). c.loop-value.tx ++ encoded (learn_changes c.loop-value.v vs)) none) ∙ c.loop-value.invariant.tx
 
 pub returns-clause-fit : goal.returns-clause-fit
 returns-clause-fit c = learned-fit c.args.from c.args.values.now

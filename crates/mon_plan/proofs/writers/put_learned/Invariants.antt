@@ -1,10 +1,10 @@
 use Rattle.std.proofs.Common.{◌≡◌, ◌+◌, ◌++◌, drop}
-use Rattle.mon_msg.specs.Protocol.Changes.{spelled}
+use Rattle.mon_msg.specs.Protocol.Changes.{encoded}
 use Rattle.mon_msg.specs.Protocol.Learning.{learn_changes}
 use Rattle.mon_plan.proofs.writers.put_learned.Given as goal
 
 abbrev pub invariant-loop-value : goal.invariant-loop-value
 invariant-loop-value l = record {
   at : l.v ≡ l.fn.from + l.value-index;
-  tx : l.tx ++ spelled (learn_changes l.v (drop l.value-index l.values)) ≡ l.fn.tx ++ spelled (learn_changes l.fn.from l.values);
+  tx : l.tx ++ encoded (learn_changes l.v (drop l.value-index l.values)) ≡ l.fn.tx ++ encoded (learn_changes l.fn.from l.values);
 }

@@ -1,5 +1,5 @@
 use Rattle.std.proofs.Common.{◌≡◌, ℕ, ◌+◌, ◌≤◌, ◌^◌, [], ◌∷◌, min, refl, sym, ap, ◌∙◌}
-use Rattle.mon_msg.specs.Protocol.Changes.{Epoch, spelled}
+use Rattle.mon_msg.specs.Protocol.Changes.{Epoch, encoded}
 use Rattle.mon_msg.specs.Protocol.Course.{prober_is}
 use Rattle.mon_msg.specs.Protocol.Entering.{next_even}
 use Rattle.mon_msg.specs.Protocol.Readings.{readings_of}
@@ -56,5 +56,5 @@ returns-clause-plans c =
     (Epoch (next_even e) ∷ []) (short, tt) [] [] (laws.alone me c.args.now) (next.Win (only me.member.rank))
     (λ x b. laws.begin-leads me c.args.now w e x b (sym c.has_others.ensures ∙ c.if-has_others.false) (sym c.may_lead.ensures ∙ c.if-not-may_lead.false) short)
     c.in_ok-lead.field-0
-    (ap (λ (p : Plan Prober). p.tx) is ∙ ap (λ (k : ℕ). spelled (Epoch k ∷ [])) even)
+    (ap (λ (p : Plan Prober). p.tx) is ∙ ap (λ (k : ℕ). encoded (Epoch k ∷ [])) even)
     (ap (λ (p : Plan Prober). p.out) is) (ap (λ (p : Plan Prober). p.timers) is) (ap (λ (p : Plan Prober). p.state) is) (ap (λ (p : Plan Prober). p.next) is)

@@ -54,17 +54,17 @@ returns-then-is_cut_off-clause-plans c =
     (λ x b. laws.reply-cut_off me now w v s x b c.args.from c.args.quorum c.args.first c.args.last (sym c.is_probing.ensures ∙ c.if-not-is_probing.false) (sym c.is_marked.ensures ∙ c.if-is_marked.false)
     (sym c.is_cut_off.ensures ∙ c.if-is_cut_off.true))
 
-pub returns-then-is_behind-clause-plans : goal.returns-then-is_behind-clause-plans
-returns-then-is_behind-clause-plans c =
+pub returns-then-lags-clause-plans : goal.returns-then-lags-clause-plans
+returns-then-lags-clause-plans c =
     λ now.
     let here = c.args.here.now in
     let me = here.me.now in
     let v = here.view.now in
     let s = here.state.now in
     let w = readings_of here.stored.now in
-    acts me now w v s (hear_probe_reply me now c.args.from c.args.quorum c.args.first c.args.last) c.planned-then-is_behind.result (next.RecentSync c.args.from) (λ x. refl) c.planned-then-is_behind.ensures
+    acts me now w v s (hear_probe_reply me now c.args.from c.args.quorum c.args.first c.args.last) c.planned-then-lags.result (next.RecentSync c.args.from) (λ x. refl) c.planned-then-lags.ensures
     (λ x b. laws.reply-behind me now w v s x b c.args.from c.args.quorum c.args.first c.args.last (sym c.is_probing.ensures ∙ c.if-not-is_probing.false) (sym c.is_marked.ensures ∙ c.if-is_marked.false)
-    (sym c.is_cut_off.ensures ∙ c.if-is_cut_off.false) (sym c.is_behind.ensures ∙ c.if-is_behind.true))
+    (sym c.is_cut_off.ensures ∙ c.if-is_cut_off.false) (sym c.lags.ensures ∙ c.if-lags.true))
 
 pub returns-then-is_quorum-clause-plans : goal.returns-then-is_quorum-clause-plans
 returns-then-is_quorum-clause-plans c =
@@ -76,7 +76,7 @@ returns-then-is_quorum-clause-plans c =
     let w = readings_of here.stored.now in
     acts me now w v s (hear_probe_reply me now c.args.from c.args.quorum c.args.first c.args.last) c.planned-then-is_quorum.result next.Elect (λ x. refl) c.planned-then-is_quorum.ensures
     (λ x b. laws.reply-quorum me now w v s x b c.args.from c.args.quorum c.args.first c.args.last (sym c.is_probing.ensures ∙ c.if-not-is_probing.false) (sym c.is_marked.ensures ∙ c.if-is_marked.false)
-    (sym c.is_cut_off.ensures ∙ c.if-is_cut_off.false) (sym c.is_behind.ensures ∙ c.if-is_behind.false) (sym c.is_quorum.ensures ∙ c.if-is_quorum.true))
+    (sym c.is_cut_off.ensures ∙ c.if-is_cut_off.false) (sym c.lags.ensures ∙ c.if-lags.false) (sym c.is_quorum.ensures ∙ c.if-is_quorum.true))
 
 pub returns-then-is_majority-clause-plans : goal.returns-then-is_majority-clause-plans
 returns-then-is_majority-clause-plans c =
@@ -92,7 +92,7 @@ returns-then-is_majority-clause-plans c =
     [] tt [] [] (record { outside = with_rank s.outside f }) next.Elect
     (c.planned-then-is_majority.ensures ∙ (λ i. plan_of [] [] [] (record { outside = c.with-outside.ensures i }) next.Elect))
     (λ x b. laws.reply-elects me now w v s x b f c.args.quorum c.args.first c.args.last (sym c.is_probing.ensures ∙ c.if-not-is_probing.false) (sym c.is_marked.ensures ∙ c.if-is_marked.false)
-    (sym c.is_cut_off.ensures ∙ c.if-is_cut_off.false) (sym c.is_behind.ensures ∙ c.if-is_behind.false) (sym c.is_quorum.ensures ∙ c.if-is_quorum.false)
+    (sym c.is_cut_off.ensures ∙ c.if-is_cut_off.false) (sym c.lags.ensures ∙ c.if-lags.false) (sym c.is_quorum.ensures ∙ c.if-is_quorum.false)
     (sym (c.is_majority.ensures ∙ enough) ∙ c.if-is_majority.true))
 
 pub returns-clause-plans : goal.returns-clause-plans
@@ -109,5 +109,5 @@ returns-clause-plans c =
     [] tt [] [] (record { outside = with_rank s.outside f }) next.Stay
     (c.stay-2.ensures ∙ (λ i. plan_of [] [] [] (record { outside = c.with-outside.ensures i }) next.Stay))
     (λ x b. laws.reply-waits me now w v s x b f c.args.quorum c.args.first c.args.last (sym c.is_probing.ensures ∙ c.if-not-is_probing.false) (sym c.is_marked.ensures ∙ c.if-is_marked.false)
-    (sym c.is_cut_off.ensures ∙ c.if-is_cut_off.false) (sym c.is_behind.ensures ∙ c.if-is_behind.false) (sym c.is_quorum.ensures ∙ c.if-is_quorum.false)
+    (sym c.is_cut_off.ensures ∙ c.if-is_cut_off.false) (sym c.lags.ensures ∙ c.if-lags.false) (sym c.is_quorum.ensures ∙ c.if-is_quorum.false)
     (sym (c.is_majority.ensures ∙ enough) ∙ c.if-is_majority.false))

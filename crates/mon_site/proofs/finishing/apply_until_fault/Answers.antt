@@ -9,7 +9,7 @@ use Rattle.mon_site.proofs.finishing.apply_until_fault.Goals as goal
 
 pub returns-in-Ok : goal.returns-in-Ok
 returns-in-Ok c member m f faulty =
-    let u = c.args.upset in
+    let u = c.args.injected in
     let ops = c.args.tx.now in
     let new = c.checkpoint.new.store in
     let k = subst (λ (k : Kept). Keeps u member m f ops c.keep.new.store (Ok k)) c.in-Ok-Whole.field-0-is (c.in-Ok-Whole.ensures.keeps member m f faulty) in
@@ -17,14 +17,14 @@ returns-in-Ok c member m f faulty =
 
 pub returns-in-Err-checkpoint : goal.returns-in-Err-checkpoint
 returns-in-Err-checkpoint c member m f faulty =
-    let u = c.args.upset in
+    let u = c.args.injected in
     let ops = c.args.tx.now in
     let k = subst (λ (k : Kept). Keeps u member m f ops c.keep.new.store (Ok k)) c.in-Ok-Whole.field-0-is (c.in-Ok-Whole.ensures.keeps member m f faulty) in
     memory_stops m ops c.in-Err-checkpoint.stop (c.in-Err-checkpoint.ensures (on_live u f) u.call u.image member (apply ops m) (after_append ops f) k.2)
 
 pub returns-in-Ok-Cut : goal.returns-in-Ok-Cut
 returns-in-Ok-Cut c member m f faulty =
-    let u = c.args.upset in
+    let u = c.args.injected in
     let ops = c.args.tx.now in
     let new = c.keep.new.store in
     let k = subst (λ (k : Kept). Keeps u member m f ops new (Ok k)) c.in-Ok-Cut.field-0-is (c.in-Ok-Cut.ensures.keeps member m f faulty) in

@@ -9,7 +9,7 @@ use Rattle.mon_site.proofs.finishing.finish.Goals as goal
 
 pub returns-in-Ok : goal.returns-in-Ok
 returns-in-Ok c member m f faulty =
-    let u = c.args.upset in
+    let u = c.args.injected in
     let ops = c.args.tx.now in
     let s = c.apply_until_fault.new.store in
     let w = c.in-Ok.ensures member m f faulty in (

@@ -62,36 +62,36 @@ returns-in_err-payload-clause-map g c =
     let p = err_from_is_err_and c.from_residual-in_err-payload.result c.from_residual-in_err-payload.ensures.1 in
     let s = (g.D.Disk.state c.args.disk.now).content.seen in
     let l = c.loop-kv in
-    let behind = c.next_payload-in-loop-kv.new.self.gate in
-    let next = subst (λ (t : Option (List ℕ)). Next {V = Vec ℕ Global} (λ v. v.items) t l.reader.gate behind (Err c.in_err-payload.field-0.0)) l.invariant.disk.seen c.in_err-payload.ensures.next in
-    rw (p.1, p.2) (reads_on_fails (λ (v : Vec ℕ Global). v.items) l.reader.gate behind c.in_err-payload.field-0.0 s l.at l.kv l.invariant.map next)
+    let after_payload = c.next_payload-in-loop-kv.new.self.gate in
+    let next = subst (λ (t : Option (List ℕ)). Next {V = Vec ℕ Global} (λ v. v.items) t l.reader.gate after_payload (Err c.in_err-payload.field-0.0)) l.invariant.disk.seen c.in_err-payload.ensures.next in
+    rw (p.1, p.2) (reads_on_fails (λ (v : Vec ℕ Global). v.items) l.reader.gate after_payload c.in_err-payload.field-0.0 s l.at l.kv l.invariant.map next)
 
 pub returns-in_err-kv-2-clause-map : goal.returns-in_err-kv-2-clause-map
 returns-in_err-kv-2-clause-map g c =
     let p = err_from_is_err_and c.from_residual-in_err-kv-2.result c.from_residual-in_err-kv-2.ensures.1 in
     let s = (g.D.Disk.state c.args.disk.now).content.seen in
     let l = c.loop-kv in
-    let behind = c.next_payload-in-loop-kv.new.self.gate in
+    let after_payload = c.next_payload-in-loop-kv.new.self.gate in
     let payload = c.in-Some-2.payload in
-    let one = subst (λ o. Next {V = Vec ℕ Global} (λ v. v.items) (g.D.Disk.state l.disk).content.seen l.reader.gate behind (Ok o)) c.in-Some-2.is c.in_ok-payload.ensures.next in
-    let next = subst (λ (t : Option (List ℕ)). Next {V = Vec ℕ Global} (λ v. v.items) t l.reader.gate behind (Ok (Some payload))) l.invariant.disk.seen one in
+    let one = subst (λ o. Next {V = Vec ℕ Global} (λ v. v.items) (g.D.Disk.state l.disk).content.seen l.reader.gate after_payload (Ok o)) c.in-Some-2.is c.in_ok-payload.ensures.next in
+    let next = subst (λ (t : Option (List ℕ)). Next {V = Vec ℕ Global} (λ v. v.items) t l.reader.gate after_payload (Ok (Some payload))) l.invariant.disk.seen one in
     let fails = subst (λ (bytes : List ℕ). Fails c.in_err-kv-2.field-0.0 (at_fault l.at (after bytes l.kv))) c.deref-in-Some-2.ensures.value c.in_err-kv-2.ensures.map in
-    rw (p.1, p.2) (next_fails (λ (v : Vec ℕ Global). v.items) l.reader.gate behind s l.at l.kv payload c.in_err-kv-2.field-0.0 l.invariant.map next fails)
+    rw (p.1, p.2) (next_fails (λ (v : Vec ℕ Global). v.items) l.reader.gate after_payload s l.at l.kv payload c.in_err-kv-2.field-0.0 l.invariant.map next fails)
 
 pub loop-kv-preserved : goal.loop-kv-preserved
 loop-kv-preserved g c =
     let state = g.D.Disk.state in
     let s = (state c.args.disk.now).content.seen in
     let l = c.loop-kv in
-    let behind = c.next_payload-in-loop-kv.new.self.gate in
+    let after_payload = c.next_payload-in-loop-kv.new.self.gate in
     let payload = c.in-Some-2.payload in
-    let one = subst (λ o. Next {V = Vec ℕ Global} (λ v. v.items) (state l.disk).content.seen l.reader.gate behind (Ok o)) c.in-Some-2.is c.in_ok-payload.ensures.next in
-    let next = subst (λ (t : Option (List ℕ)). Next {V = Vec ℕ Global} (λ v. v.items) t l.reader.gate behind (Ok (Some payload))) l.invariant.disk.seen one in
+    let one = subst (λ o. Next {V = Vec ℕ Global} (λ v. v.items) (state l.disk).content.seen l.reader.gate after_payload (Ok o)) c.in-Some-2.is c.in_ok-payload.ensures.next in
+    let next = subst (λ (t : Option (List ℕ)). Next {V = Vec ℕ Global} (λ v. v.items) t l.reader.gate after_payload (Ok (Some payload))) l.invariant.disk.seen one in
     let map = subst (λ (bytes : List ℕ). at_fault l.at (after bytes l.kv) ≡ Ok c.in_ok-kv-2.kv) c.deref-in-Some-2.ensures.value c.in_ok-kv-2.ensures.map in
     let at : l.at + 5 + length c.deref-in-Some-2-2.result.now ≡ c.in_ok-at-2.at = ok_is _ _ c.in_ok-at-2.ensures.place in
     let place = subst (λ (bytes : List ℕ). l.at + 5 + length bytes ≡ c.in_ok-at-2.at) c.deref-in-Some-2-2.ensures.value at in
     record {
-      map = goes_on_there (λ (v : Vec ℕ Global). v.items) l.reader.gate behind s l.at l.kv payload c.in_ok-kv-2.kv c.in_ok-at-2.at l.invariant.map next map place;
+      map = goes_on_there (λ (v : Vec ℕ Global). v.items) l.reader.gate after_payload s l.at l.kv payload c.in_ok-kv-2.kv c.in_ok-at-2.at l.invariant.map next map place;
       size = c.in_ok-kv-2.ensures.size;
       disk = then_reads None (state c.args.disk.now) (state l.disk) (state c.next_payload-in-loop-kv.new.disk) l.invariant.disk c.in_ok-payload.ensures.disk;
       on = c.in_ok-payload.ensures.on;
@@ -102,7 +102,7 @@ pub returns-clause-map : goal.returns-clause-map
 returns-clause-map g c =
     let s = (g.D.Disk.state c.args.disk.now).content.seen in
     let l = c.loop-kv in
-    let behind = c.next_payload-in-loop-kv.new.self.gate in
-    let one = subst (λ o. Next {V = Vec ℕ Global} (λ v. v.items) (g.D.Disk.state l.disk).content.seen l.reader.gate behind (Ok o)) c.in_default-2.is c.in_ok-payload.ensures.next in
-    let next = subst (λ (t : Option (List ℕ)). Next {V = Vec ℕ Global} (λ v. v.items) t l.reader.gate behind (Ok None)) l.invariant.disk.seen one in
-    ends_there (λ (v : Vec ℕ Global). v.items) l.reader.gate behind s l.at l.kv l.invariant.map next
+    let after_payload = c.next_payload-in-loop-kv.new.self.gate in
+    let one = subst (λ o. Next {V = Vec ℕ Global} (λ v. v.items) (g.D.Disk.state l.disk).content.seen l.reader.gate after_payload (Ok o)) c.in_default-2.is c.in_ok-payload.ensures.next in
+    let next = subst (λ (t : Option (List ℕ)). Next {V = Vec ℕ Global} (λ v. v.items) t l.reader.gate after_payload (Ok None)) l.invariant.disk.seen one in
+    ends_there (λ (v : Vec ℕ Global). v.items) l.reader.gate after_payload s l.at l.kv l.invariant.map next

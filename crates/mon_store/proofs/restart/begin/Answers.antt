@@ -49,14 +49,14 @@ returns-clause-call g c =
     widened (CreatedFrom old.content (next_journal j m) (checkpoint_text m ∷ [])) (Begins old.content (next_journal j m) m) one (as_begins old.content (next_journal j m) m c.in_ok-text.ensures.form)
 
 pub returns-in_err-text-clause-settles : goal.returns-in_err-text-clause-settles
-returns-in_err-text-clause-settles g c = not_begun (g.D.Disk.state c.args.disk.now).content (next_journal c.args.journal.now c.args.kv.now) c.args.kv.now (g.D.Disk.state c.args.disk.now).told (g.met.D.Disk.settled c.args.disk.now)
+returns-in_err-text-clause-settles g c = not_begun (g.D.Disk.state c.args.disk.now).content (next_journal c.args.journal.now c.args.kv.now) c.args.kv.now (g.D.Disk.state c.args.disk.now).observed (g.met.D.Disk.settled c.args.disk.now)
 
 pub returns-in_err-restart-clause-settles : goal.returns-in_err-restart-clause-settles
 returns-in_err-restart-clause-settles g c =
     let is : c.deref.result.now ≡ checkpoint_text c.args.kv.now = c.deref.ensures.value ∙ c.in_ok-text.ensures.text in
     let j = c.args.journal.now in
-    let old = (g.D.Disk.state c.args.disk.now).told in
-    let new = (g.D.Disk.state c.restart.new.disk).told in
+    let old = (g.D.Disk.state c.args.disk.now).observed in
+    let new = (g.D.Disk.state c.restart.new.disk).observed in
     let x = (g.D.Disk.state c.args.disk.now).content in
     has_begun x (next_journal j c.args.kv.now) c.args.kv.now old new c.in_ok-text.ensures.form
     (subst (λ (bytes : List ℕ). IfSome old (λ s. IfSome new (λ t. Made x (created j.member (j.generation + 1) (Some bytes)) (bytes ∷ []) (made_more 4 s t) (t.settles t.made)))) is c.restart.ensures.settles)
@@ -65,8 +65,8 @@ pub returns-clause-settles : goal.returns-clause-settles
 returns-clause-settles g c =
     let is : c.deref.result.now ≡ checkpoint_text c.args.kv.now = c.deref.ensures.value ∙ c.in_ok-text.ensures.text in
     let j = c.args.journal.now in
-    let old = (g.D.Disk.state c.args.disk.now).told in
-    let new = (g.D.Disk.state c.restart.new.disk).told in
+    let old = (g.D.Disk.state c.args.disk.now).observed in
+    let new = (g.D.Disk.state c.restart.new.disk).observed in
     let x = (g.D.Disk.state c.args.disk.now).content in
     has_begun x (next_journal j c.args.kv.now) c.args.kv.now old new c.in_ok-text.ensures.form
     (subst (λ (bytes : List ℕ). IfSome old (λ s. IfSome new (λ t. Made x (created j.member (j.generation + 1) (Some bytes)) (bytes ∷ []) (made_more 4 s t) (t.settles t.made)))) is c.restart.ensures.settles)

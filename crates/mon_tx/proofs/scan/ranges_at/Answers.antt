@@ -1,6 +1,6 @@
 use Rattle.std.proofs.Common.{◌≡◌, Bool, ◌||◌, sym, ap, ◌∙◌}
 use Rattle.std.proofs.lemmas.Result.{err_from_is_err_and}
-use Rattle.mon_tx.specs.Spelled.{ranges_at}
+use Rattle.mon_tx.specs.EncodedOp.{ranges_at}
 use Rattle.mon_tx.proofs.Over.{goes_over, stops, is_over}
 use Rattle.mon_tx.proofs.scan.ranges_at.Goals.{then-found, else-found}
 use Rattle.mon_tx.proofs.scan.ranges_at.Goals as goal

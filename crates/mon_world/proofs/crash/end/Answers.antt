@@ -34,4 +34,4 @@ returns c m f faulty =
     let x = c.in_ok-reaction.reaction in
     let new = c.react.new.self in
     let h = subst (λ (m : Store). IsReaction core new m now came x) (c.kv.ensures ∙ faulty.map) c.in_ok-reaction.ensures in
-    ends core.me now m core.state came c.args.upset core.me.member f (record { transaction = x.tx; sends = x.out; state = new.state }) c.end_with.result h.reacts (c.end_with.ensures core.me.member m f faulty)
+    ends core.me now m core.state came c.args.injected core.me.member f (record { transaction = x.tx; sends = x.out; state = new.state }) c.end_with.result h.reacts (c.end_with.ensures core.me.member m f faulty)

@@ -26,7 +26,7 @@ returns-in_ok-settle_both-in-Ok c member m f faulty =
     let ops = c.args.tx.now in
     let ended = c.in-Ok.field-0 in
     let is = c.in_ok-written.ensures ∙ ap (λ (m : Store). written (apply ops m)) faulty.map in
-    settled c.args.upset member m f ops ended.disks.a ended.disks.b ended.kept c.in_ok-written.written _ (c.in-Ok.ensures member m f faulty) is c.then_some.ensures (c.in_ok-settle_both-in-Ok.ensures member)
+    settled c.args.injected member m f ops ended.disks.a ended.disks.b ended.kept c.in_ok-written.written _ (c.in-Ok.ensures member m f faulty) is c.then_some.ensures (c.in_ok-settle_both-in-Ok.ensures member)
 
 pub returns-in-Err : goal.returns-in-Err
 returns-in-Err c member m f faulty =

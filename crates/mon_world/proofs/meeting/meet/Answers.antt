@@ -2,29 +2,29 @@ use Rattle.std.proofs.Common.{Option, sym, ap, subst, ◌∙◌}
 use Rattle.std.specs.Prelude.{is_some}
 use Rattle.std.proofs.lemmas.Result.{err_from_is_err_and}
 use Rattle.mon_msg.specs.Protocol.State.{State}
-use Rattle.mon_world.specs.Monitor.{Stands}
-use Rattle.mon_world.proofs.Standing.{as_it_stands, is_up, is_down, takes_turn, stops_turn, no_start}
+use Rattle.mon_world.specs.Monitor.{Represents}
+use Rattle.mon_world.proofs.Standing.{as_it_stands, is_up, is_down, handles_input, stops_input, no_start}
 use Rattle.mon_world.proofs.meeting.meet.Goals as goal
 
-pub take_turn-requires-clause-up : goal.take_turn-requires-clause-up
-take_turn-requires-clause-up c =
+pub handle_input-requires-clause-up : goal.handle_input-requires-clause-up
+handle_input-requires-clause-up c =
     let stands = c.requires.stands in
     let up = is_up stands.1 stands.2 c.in-Some.before (sym c.in-Some.is ∙ c.state.ensures stands.0 stands.1 stands.2 stands.3 stands.4) in
-    (stands.0, stands.1, up.state, stands.3, subst (λ (s : Option State). Stands stands.0 stands.1 s stands.3 c.args.monitor.now) up.up stands.4)
+    (stands.0, stands.1, up.state, stands.3, subst (λ (s : Option State). Represents stands.0 stands.1 s stands.3 c.args.monitor.now) up.up stands.4)
 
-pub returns-in_err-take_turn-in-Some-clause-meets : goal.returns-in_err-take_turn-in-Some-clause-meets
-returns-in_err-take_turn-in-Some-clause-meets c = λ me m s f h.
-    let p = err_from_is_err_and c.from_residual-in_err-take_turn-in-Some.result c.from_residual-in_err-take_turn-in-Some.ensures.1 in
+pub returns-in_err-handle_input-in-Some-clause-meets : goal.returns-in_err-handle_input-in-Some-clause-meets
+returns-in_err-handle_input-in-Some-clause-meets c = λ me m s f h.
+    let p = err_from_is_err_and c.from_residual-in_err-handle_input-in-Some.result c.from_residual-in_err-handle_input-in-Some.ensures.1 in
     let up = is_up m s c.in-Some.before (sym c.in-Some.is ∙ c.state.ensures me m s f h) in
     rw (p.1, p.2)
-    (stops_turn me c.args.at m s f c.in-Some.before c.args.input.now c.take_turn.new.monitor (no_start c.args.input.now c.is_start.result c.is_start.ensures c.if-is_start.false) up _
-    (c.in_err-take_turn-in-Some.ensures.turns me m up.state f (subst (λ (s : Option State). Stands me m s f c.args.monitor.now) up.up h)))
+    (stops_input me c.args.at m s f c.in-Some.before c.args.input.now c.handle_input.new.monitor (no_start c.args.input.now c.is_start.result c.is_start.ensures c.if-is_start.false) up _
+    (c.in_err-handle_input-in-Some.ensures.handles me m up.state f (subst (λ (s : Option State). Represents me m s f c.args.monitor.now) up.up h)))
 
-pub returns-in_ok-take_turn-in-Some-clause-meets : goal.returns-in_ok-take_turn-in-Some-clause-meets
-returns-in_ok-take_turn-in-Some-clause-meets c = λ me m s f h.
+pub returns-in_ok-handle_input-in-Some-clause-meets : goal.returns-in_ok-handle_input-in-Some-clause-meets
+returns-in_ok-handle_input-in-Some-clause-meets c = λ me m s f h.
     let up = is_up m s c.in-Some.before (sym c.in-Some.is ∙ c.state.ensures me m s f h) in
-    takes_turn me c.args.at m s f c.in-Some.before c.args.input.now c.take_turn.new.monitor (no_start c.args.input.now c.is_start.result c.is_start.ensures c.if-is_start.false) up _
-    (c.in_ok-take_turn-in-Some.ensures.turns me m up.state f (subst (λ (s : Option State). Stands me m s f c.args.monitor.now) up.up h))
+    handles_input me c.args.at m s f c.in-Some.before c.args.input.now c.handle_input.new.monitor (no_start c.args.input.now c.is_start.result c.is_start.ensures c.if-is_start.false) up _
+    (c.in_ok-handle_input-in-Some.ensures.handles me m up.state f (subst (λ (s : Option State). Represents me m s f c.args.monitor.now) up.up h))
 
 pub returns-in-None-clause-meets : goal.returns-in-None-clause-meets
 returns-in-None-clause-meets c = λ me m s f h. (
@@ -33,7 +33,7 @@ returns-in-None-clause-meets c = λ me m s f h. (
   h,
 )
 
-pub returns-in_ok-take_turn-in-Some-clause-passes : goal.returns-in_ok-take_turn-in-Some-clause-passes
-returns-in_ok-take_turn-in-Some-clause-passes c = λ me m s f h.
+pub returns-in_ok-handle_input-in-Some-clause-passes : goal.returns-in_ok-handle_input-in-Some-clause-passes
+returns-in_ok-handle_input-in-Some-clause-passes c = λ me m s f h.
     let up = is_up m s c.in-Some.before (sym c.in-Some.is ∙ c.state.ensures me m s f h) in
-    c.in_ok-take_turn-in-Some.ensures.passes me m up.state f (subst (λ (s : Option State). Stands me m s f c.args.monitor.now) up.up h)
+    c.in_ok-handle_input-in-Some.ensures.passes me m up.state f (subst (λ (s : Option State). Represents me m s f c.args.monitor.now) up.up h)

@@ -28,4 +28,4 @@ returns c m s to f holds at =
     let core = c.core_at-core.result in
     let t = c.take-disks.ensures.takes m s f holds in
     let state = remembers me s came c.take-disks.result.core.state core.state to t.state c.core_at-core.ensures.state at in
-    crashes_as c.args.upset m f came c.args.now c.crash-remains.result core me to c.core_at-core.ensures.me state (c.crash-remains.ensures m f t.rests)
+    crashes_as c.args.injected m f came c.args.now c.crash-remains.result core me to c.core_at-core.ensures.me state (c.crash-remains.ensures m f t.rests)

@@ -22,7 +22,7 @@ returns-in-Err-clause-keeps c member m f runs =
     subst (IsntKept ops m) (sym c.stop_of.ensures) (isnt_kept m ops e (can_stop m ops e c.requires.short at) at)
 
 pub returns-in-Ok-clause-passes : goal.returns-in-Ok-clause-passes
-returns-in-Ok-clause-passes c member m f runs = while_passes _ _ _ _ _ (c.in-Ok.ensures.any_moment member m f runs)
+returns-in-Ok-clause-passes c member m f runs = while_passes _ _ _ _ _ (c.in-Ok.ensures.any_time member m f runs)
 
 pub returns-in-Err-clause-passes : goal.returns-in-Err-clause-passes
-returns-in-Err-clause-passes c member m f runs = while_passes _ _ _ _ _ (c.in-Err.ensures.any_moment member m f runs)
+returns-in-Err-clause-passes c member m f runs = while_passes _ _ _ _ _ (c.in-Err.ensures.any_time member m f runs)

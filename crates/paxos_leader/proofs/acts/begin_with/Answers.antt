@@ -6,7 +6,7 @@ use Rattle.mon_msg.specs.declared.plan.Next.TheVariants as next
 use Rattle.mon_wire.specs.declared.body.Body.TheVariants as body
 use Rattle.paxos_leader.specs.Drafts.{IsHere, value_timers}
 use Rattle.paxos_leader.specs.declared.draft.Draft.{Draft}
-use Rattle.paxos_leader.proofs.Acting.{begun-here, valued}
+use Rattle.paxos_leader.proofs.Acting.{begun-here, awaiting_votes}
 use Rattle.paxos_leader.proofs.Going.{goes}
 use Rattle.paxos_leader.proofs.acts.begin_with.Goals as goal
 
@@ -20,8 +20,8 @@ returns-clause-goes c =
     let ks : List ℕ = members me d.state.quorum in
     goes me c.args.act.now.time (IsHere c.args.act.now.epoch last) d (λ y. Ok (begin_with me c.args.act.now.time c.args.stage c.args.version c.args.value c.args.origin y))
     (Vote c.args.version d.state.pn c.args.value ∷ []) (c.in_ok-asked.ensures.fit, tt)
-    (map (message_to me c.args.act.now.epoch (body.Begin d.state.pn c.args.version c.args.value)) ks) (value_timers c.args.act.now.time) (valued me c.args.stage c.args.value c.args.origin d.state)
+    (map (message_to me c.args.act.now.epoch (body.Begin d.state.pn c.args.version c.args.value)) ks) (value_timers c.args.act.now.time) (awaiting_votes me c.args.stage c.args.value c.args.origin d.state)
     (λ y b e. ap Ok (begun-here me c.args.act.now.time c.args.act.now.epoch last d.state y b e c.args.stage c.args.version c.args.value c.args.origin))
-    (record { tx = asked.tx; out = asked.out; timers = c.in_ok-timers.timers; state = c.valued.result; next = next.Stay })
+    (record { tx = asked.tx; out = asked.out; timers = c.in_ok-timers.timers; state = c.awaiting_votes.result; next = next.Stay })
     (ap (λ (a : Draft). a.tx) is) (ap (λ (a : Draft). a.out) is) c.in_ok-timers.ensures
-    (c.valued.ensures ∙ ap (λ (a : Draft). valued me c.args.stage c.args.value c.args.origin a.state) is) refl
+    (c.awaiting_votes.ensures ∙ ap (λ (a : Draft). awaiting_votes me c.args.stage c.args.value c.args.origin a.state) is) refl

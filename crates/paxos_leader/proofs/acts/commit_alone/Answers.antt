@@ -1,6 +1,6 @@
 use Rattle.std.proofs.Common.{◌≡◌, ℕ, ◌++◌, List, [], ◌∷◌, Ok, Err, ap, subst, ◌∙◌}
 use Rattle.std.specs.List.{AllByRecursion}
-use Rattle.mon_msg.specs.Protocol.Changes.{spelled}
+use Rattle.mon_msg.specs.Protocol.Changes.{encoded}
 use Rattle.mon_msg.specs.Protocol.Learning.{learn}
 use Rattle.mon_msg.specs.Protocol.Played.{Fits}
 use Rattle.mon_msg.specs.declared.plan.Next.TheVariants as next
@@ -17,7 +17,7 @@ pub returns-clause-alone : goal.returns-clause-alone
 returns-clause-alone c =
     let d = c.args.draft in
     let values : List (List Op) = c.args.value ∷ [] in
-    let tx : c.learn.new.tx ≡ d.tx ++ spelled (learned c.args.version values) = c.in-Ok.ensures.changes ∙ ap (λ (v : ℕ). d.tx ++ spelled (learned v values)) c.get.ensures.value in
+    let tx : c.learn.new.tx ≡ d.tx ++ encoded (learned c.args.version values) = c.in-Ok.ensures.changes ∙ ap (λ (v : ℕ). d.tx ++ encoded (learned v values)) c.get.ensures.value in
     record {
       fit = subst (λ (v : ℕ). AllByRecursion Fits (learned v values)) c.get.ensures.value c.in-Ok.ensures.fit;
       learns = λ x. subst (λ (v : ℕ). learn v values x ≡ Ok (changed (learned v values) x)) c.get.ensures.value (c.in-Ok.ensures.act x);

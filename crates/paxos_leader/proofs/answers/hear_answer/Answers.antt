@@ -1,6 +1,6 @@
 use Rattle.std.proofs.Common.{◌≡◌, List, [], ◌∷◌, ◌++◌, refl, sym, ap, ◌∙◌}
 use Rattle.std.specs.List.{AllByRecursion}
-use Rattle.mon_msg.specs.Protocol.Changes.{Change, spelled}
+use Rattle.mon_msg.specs.Protocol.Changes.{Change, encoded}
 use Rattle.mon_msg.specs.Protocol.Leader.{hear_answer}
 use Rattle.mon_msg.specs.Protocol.Learning.{news, news_from}
 use Rattle.mon_msg.specs.Protocol.Played.{Fits}
@@ -15,7 +15,7 @@ use Rattle.mon_plan.specs.Plans.{changed}
 use Rattle.paxos_leader.specs.Drafts.{IsAsking}
 use Rattle.paxos_leader.specs.Rows.{IsHeard, goes_on}
 use Rattle.paxos_leader.proofs.Answering.{learned-asks}
-use Rattle.paxos_leader.proofs.Behind.{behind-fails, behind-does, learning-fails}
+use Rattle.paxos_leader.proofs.Prepended.{prepended-fails, prepended-does, learning-fails}
 use Rattle.paxos_leader.proofs.Hearing.{answer-is, answer-learned}
 use Rattle.paxos_leader.proofs.answers.hear_answer.Goals as goal
 
@@ -46,16 +46,16 @@ returns-in-Err-go_on_after-clause-plans c =
     let cs : List Change = learned (news_from own a.start) (news own a.start a.values.now) in
     let fit : AllByRecursion Fits cs = c.in-Ok.ensures.fit in
     let tx : List Op = c.learn_news.new.tx in
-    let spells : tx ≡ spelled cs = c.in-Ok.ensures.changes ∙ ap (λ (t : List Op). t ++ spelled cs) c.new-tx.ensures in
+    let encodes : tx ≡ encoded cs = c.in-Ok.ensures.changes ∙ ap (λ (t : List Op). t ++ encoded cs) c.new-tx.ensures in
     let after : Readings = readings_of (apply tx m) in
-    behind-fails me now (IsHeard (phase.Collecting ∷ []) a.from e w l) (IsAsking (epoch_of after) after)
+    prepended-fails me now (IsHeard (phase.Collecting ∷ []) a.from e w l) (IsAsking (epoch_of after) after)
     (hear_answer me now a.from a.last a.whole a.start a.values.now a.pending.now) (goes_on me now a.from a.last a.whole a.pending.now) l cs
-    (λ x b. b.role) (λ x b. learned-asks cs fit m tx spells a.from e l x b)
+    (λ x b. b.role) (λ x b. learned-asks cs fit m tx encodes a.from e l x b)
     (λ x b. answer-learned me now a.from e x a.pn a.first a.last a.whole a.start a.values.now a.pending.now own (ap (λ (r : Readings). r.last) b.readings ∙ sym is) (changed cs x) (c.in-Ok.ensures.act x))
     c.in-Err-go_on_after.stop (c.in-Err-go_on_after.ensures.goes [] tt refl)
 
-pub returns-in_ok-behind-in-Ok-go_on_after-clause-plans : goal.returns-in_ok-behind-in-Ok-go_on_after-clause-plans
-returns-in_ok-behind-in-Ok-go_on_after-clause-plans c =
+pub returns-in_ok-prepended-in-Ok-go_on_after-clause-plans : goal.returns-in_ok-prepended-in-Ok-go_on_after-clause-plans
+returns-in_ok-prepended-in-Ok-go_on_after-clause-plans c =
     λ e.
     let me = c.args.here.now.me.now in
     let now = c.args.here.now.time in
@@ -68,17 +68,17 @@ returns-in_ok-behind-in-Ok-go_on_after-clause-plans c =
     let cs : List Change = learned (news_from own a.start) (news own a.start a.values.now) in
     let fit : AllByRecursion Fits cs = c.in-Ok.ensures.fit in
     let tx : List Op = c.learn_news.new.tx in
-    let spells : tx ≡ spelled cs = c.in-Ok.ensures.changes ∙ ap (λ (t : List Op). t ++ spelled cs) c.new-tx.ensures in
+    let encodes : tx ≡ encoded cs = c.in-Ok.ensures.changes ∙ ap (λ (t : List Op). t ++ encoded cs) c.new-tx.ensures in
     let after : Readings = readings_of (apply tx m) in
     let p : Plan Leader = c.in-Ok-go_on_after.plan in
-    let joins = c.in_ok-behind-in-Ok-go_on_after.ensures in
-    behind-does me now (IsHeard (phase.Collecting ∷ []) a.from e w l) (IsAsking (epoch_of after) after)
+    let joins = c.in_ok-prepended-in-Ok-go_on_after.ensures in
+    prepended-does me now (IsHeard (phase.Collecting ∷ []) a.from e w l) (IsAsking (epoch_of after) after)
     (hear_answer me now a.from a.last a.whole a.start a.values.now a.pending.now) (goes_on me now a.from a.last a.whole a.pending.now) l cs
-    (λ x b. b.role) (λ x b. learned-asks cs fit m tx spells a.from e l x b)
+    (λ x b. b.role) (λ x b. learned-asks cs fit m tx encodes a.from e l x b)
     (λ x b. answer-learned me now a.from e x a.pn a.first a.last a.whole a.start a.values.now a.pending.now own (ap (λ (r : Readings). r.last) b.readings ∙ sym is) (changed cs x) (c.in-Ok.ensures.act x))
-    fit p c.in_ok-behind-in-Ok-go_on_after.field-0 (c.in-Ok-go_on_after.ensures.goes [] tt refl)
-    (ap (λ (q : Plan Leader). q.tx) joins ∙ ap (λ (t : List Op). t ++ p.tx) spells)
+    fit p c.in_ok-prepended-in-Ok-go_on_after.field-0 (c.in-Ok-go_on_after.ensures.goes [] tt refl)
+    (ap (λ (q : Plan Leader). q.tx) joins ∙ ap (λ (t : List Op). t ++ p.tx) encodes)
     (ap (λ (q : Plan Leader). q.out) joins) (ap (λ (q : Plan Leader). q.timers) joins) (ap (λ (q : Plan Leader). q.state) joins) (ap (λ (q : Plan Leader). q.next) joins)
 
-pub returns-in_ok-behind-in-Ok-go_on_after-clause-stays : goal.returns-in_ok-behind-in-Ok-go_on_after-clause-stays
-returns-in_ok-behind-in-Ok-go_on_after-clause-stays c = ap (λ (q : Plan Leader). q.next) c.in_ok-behind-in-Ok-go_on_after.ensures ∙ c.in-Ok-go_on_after.ensures.stays
+pub returns-in_ok-prepended-in-Ok-go_on_after-clause-stays : goal.returns-in_ok-prepended-in-Ok-go_on_after-clause-stays
+returns-in_ok-prepended-in-Ok-go_on_after-clause-stays c = ap (λ (q : Plan Leader). q.next) c.in_ok-prepended-in-Ok-go_on_after.ensures ∙ c.in-Ok-go_on_after.ensures.stays

@@ -16,7 +16,7 @@ use Rattle.paxos_leader.specs.Rows.{IsHeard}
 use Rattle.paxos_leader.specs.declared.seen.Act.{Act}
 use Rattle.paxos_leader.proofs.Answering.{asks-here, heard-phase}
 use Rattle.paxos_leader.proofs.Going.{from_start}
-use Rattle.paxos_leader.proofs.Hearing.{last-above, last-below, last-behind, last-answer}
+use Rattle.paxos_leader.proofs.Hearing.{last-above, last-below, last-prepended, last-answer}
 use Rattle.paxos_leader.proofs.Noting.{nothing_but, stay_leaves, bootstrap_leaves, stays_leaves}
 use Rattle.paxos_leader.proofs.Settling.{collect-fresh}
 use Rattle.paxos_leader.proofs.answers.hear_last.Goals as goal
@@ -63,8 +63,8 @@ returns-then-get-2-clause-plans c =
     (subst (λ (k : Leader). a.pn < k.pn) (sym b.role) (omega arith)))
     c.stay.result c.stay.ensures
 
-pub returns-then-is_behind-clause-plans : goal.returns-then-is_behind-clause-plans
-returns-then-is_behind-clause-plans c =
+pub returns-then-needs_copy-clause-plans : goal.returns-then-needs_copy-clause-plans
+returns-then-needs_copy-clause-plans c =
     λ e.
     let me = c.args.here.now.me.now in
     let now = c.args.here.now.time in
@@ -75,13 +75,13 @@ returns-then-is_behind-clause-plans c =
     nothing_but me now At (hear_last me now a.from e a.pn a.first a.last a.whole a.start a.values.now a.pending.now) l (λ x b _. b.stage)
     next.Bootstrap (λ x. refl) (λ x b. b.role)
     (λ x b.
-    last-behind me now a.from e x a.pn a.first a.last a.whole a.start a.values.now a.pending.now b.member
+    last-prepended me now a.from e x a.pn a.first a.last a.whole a.start a.values.now a.pending.now b.member
     (subst (λ (k : Leader). a.pn ≡ k.pn) (sym b.role) (omega arith))
-    (ap (λ (n : ℕ). nat_lt (suc n) a.first && nat_lt n a.last) (ap (λ (r : Readings). r.last) b.readings ∙ sym c.own_last.ensures) ∙ sym c.is_behind.ensures ∙ c.if-is_behind.true))
+    (ap (λ (n : ℕ). nat_lt (suc n) a.first && nat_lt n a.last) (ap (λ (r : Readings). r.last) b.readings ∙ sym c.own_last.ensures) ∙ sym c.needs_copy.ensures ∙ c.if-needs_copy.true))
     c.planned.result c.planned.ensures
 
-pub returns-then-is_behind-clause-leaves : goal.returns-then-is_behind-clause-leaves
-returns-then-is_behind-clause-leaves c =
+pub returns-then-needs_copy-clause-leaves : goal.returns-then-needs_copy-clause-leaves
+returns-then-needs_copy-clause-leaves c =
     λ at. bootstrap_leaves at c.planned.result (ap (λ (p : Plan Leader). p.next) c.planned.ensures) (ap (λ (p : Plan Leader). p.tx) c.planned.ensures)
 
 pub returns-then-get-2-clause-leaves : goal.returns-then-get-2-clause-leaves
@@ -101,7 +101,7 @@ returns-clause-plans c =
     (λ x b.
     last-answer me now a.from e x a.pn a.first a.last a.whole a.start a.values.now a.pending.now b.member
     (subst (λ (k : Leader). a.pn ≡ k.pn) (sym b.role) (omega arith))
-    (ap (λ (n : ℕ). nat_lt (suc n) a.first && nat_lt n a.last) (ap (λ (r : Readings). r.last) b.readings ∙ sym c.own_last.ensures) ∙ sym c.is_behind.ensures ∙ c.if-is_behind.false))
+    (ap (λ (n : ℕ). nat_lt (suc n) a.first && nat_lt n a.last) (ap (λ (r : Readings). r.last) b.readings ∙ sym c.own_last.ensures) ∙ sym c.needs_copy.ensures ∙ c.if-needs_copy.false))
     (c.hear_answer.ensures.plans e)
 
 pub returns-clause-leaves : goal.returns-clause-leaves

@@ -1,7 +1,7 @@
 use Rattle.std.proofs.Common.{◌≡◌, ℕ, suc, ◌-◌, ◌≤◌, ◌++◌, List, length, length-drop, take, drop, sym, ap, subst, ◌∙◌, arith}
 use Rattle.std.specs.List.{AllByRecursion}
 use Rattle.std.specs.Prelude.{OnOk}
-use Rattle.mon_msg.specs.Protocol.Changes.{spelled}
+use Rattle.mon_msg.specs.Protocol.Changes.{encoded}
 use Rattle.mon_msg.specs.Protocol.Learning.{news, news_from}
 use Rattle.mon_msg.specs.Protocol.Played.{Fits}
 use Rattle.mon_tx.specs.Text.{text, most}
@@ -30,6 +30,6 @@ returns c =
     let rest : take (length values - k) (drop k values) ≡ news c.args.own a.start values = rest_is k values ∙ same_news k (suc c.args.own - a.start) values (omega (arith, c.min-known.ensures, c.get-next.ensures.value, c.get-start.ensures.value)) in
     record {
       act = subst (λ (vs : List (List Op)). Learns (news_from c.args.own a.start) vs c.learn.result) rest (subst (λ (v : ℕ). Learns v (take (length values - k) (drop k values)) c.learn.result) from c.learn.ensures.act);
-      changes = subst (λ (vs : List (List Op)). OnOk c.learn.result (c.learn.new.tx ≡ c.args.tx.now ++ spelled (learned (news_from c.args.own a.start) vs))) rest (subst (λ (v : ℕ). OnOk c.learn.result (c.learn.new.tx ≡ c.args.tx.now ++ spelled (learned v (take (length values - k) (drop k values))))) from c.learn.ensures.changes);
+      changes = subst (λ (vs : List (List Op)). OnOk c.learn.result (c.learn.new.tx ≡ c.args.tx.now ++ encoded (learned (news_from c.args.own a.start) vs))) rest (subst (λ (v : ℕ). OnOk c.learn.result (c.learn.new.tx ≡ c.args.tx.now ++ encoded (learned v (take (length values - k) (drop k values))))) from c.learn.ensures.changes);
       fit = subst (λ (vs : List (List Op)). OnOk c.learn.result (AllByRecursion Fits (learned (news_from c.args.own a.start) vs))) rest (subst (λ (v : ℕ). OnOk c.learn.result (AllByRecursion Fits (learned v (take (length values - k) (drop k values))))) from c.learn.ensures.fit);
     }

@@ -1,6 +1,6 @@
 use Rattle.std.proofs.Common.{List, [], ◌∷◌, ◌++◌, Some, Result, Err, refl, sym, ap, subst, ◌∙◌}
 use Rattle.std.proofs.lemmas.Result.{err_from_is_err_and}
-use Rattle.mon_msg.specs.Protocol.Changes.{Change, spelled}
+use Rattle.mon_msg.specs.Protocol.Changes.{Change, encoded}
 use Rattle.mon_msg.specs.Protocol.Leading.{begin_alone}
 use Rattle.mon_msg.specs.Protocol.Readings.{readings_of}
 use Rattle.mon_msg.specs.declared.paxos.Leader.{Leader}
@@ -36,6 +36,6 @@ returns-clause-plans c =
     let h = c.in_ok-plan.ensures.alone in
     let new = c.new-draft.ensures in
     alone-answers c.args.here.now.me.now now c.args.here.now.kv.now c.args.state v value c.args.origin h.fit plan.tx
-    (ap (λ (p : Plan Leader). p.tx) h.plan ∙ ap (λ (d : Draft). d.tx ++ spelled cs) new) h.learns
+    (ap (λ (p : Plan Leader). p.tx) h.plan ∙ ap (λ (d : Draft). d.tx ++ encoded cs) new) h.learns
     (record plan { out = c.in_ok-out.out }) refl c.in_ok-out.ensures (ap (λ (p : Plan Leader). p.timers) h.plan)
     (ap (λ (p : Plan Leader). p.state) h.plan ∙ ap (λ (d : Draft). record d.state { stage = stage.Active }) new) (ap (λ (p : Plan Leader). p.next) h.plan)

@@ -1,6 +1,6 @@
 use Rattle.std.proofs.Common.{◌≡◌, ℕ, suc, ◌≤◌, ◌<◌, ◌^◌, List, [], ◌∷◌, ◌++◌, length, Some, Ok, Err, refl, sym, ap, subst, ◌∙◌, arith}
 use Rattle.std.specs.List.{AllByRecursion}
-use Rattle.mon_msg.specs.Protocol.Changes.{Change, spelled}
+use Rattle.mon_msg.specs.Protocol.Changes.{Change, encoded}
 use Rattle.mon_msg.specs.Protocol.Course.{Course}
 use Rattle.mon_msg.specs.Protocol.Leading.{commit}
 use Rattle.mon_msg.specs.Protocol.Learning.{learn}
@@ -61,13 +61,13 @@ returns-clause-goes c =
     let same : learned c.get.result c.as_slice.result.now ≡ cs = λ i. learned (c.get.ensures.value i) (one i) in
     let fit : AllByRecursion Fits cs = subst (AllByRecursion Fits) same c.in-Ok.ensures.fit in
     let tx : List Op = c.learn.new.tx in
-    let spells : tx ≡ spelled cs = c.in-Ok.ensures.changes ∙ ap (λ (t : List Op). t ++ spelled (learned c.get.result c.as_slice.result.now)) c.new-tx.ensures ∙ ap spelled same in
+    let encodes : tx ≡ encoded cs = c.in-Ok.ensures.changes ∙ ap (λ (t : List Op). t ++ encoded (learned c.get.result c.as_slice.result.now)) c.new-tx.ensures ∙ ap encoded same in
     let learns : (y : Course) → learn v (value ∷ []) y ≡ Ok (changed cs y) =
     λ (y : Course). (λ i. learn (sym c.get.ensures.value i) (sym one i) y) ∙ c.in-Ok.ensures.act y ∙ ap (λ (ds : List Change). Ok (changed ds y)) same in
     let after : Readings = readings_of (apply tx m) in
     hands_on me now (IsVoted w) (record { tx = []; out = []; state = record l { value = Some value } }) (commit me now value)
-    (IsHere (epoch_of after) after.last) (record { tx = tx; out = []; state = l }) (announced me now v (value ∷ [])) cs fit [] spells refl
-    (λ y b r. committed-here v value fit m tx spells l y b)
+    (IsHere (epoch_of after) after.last) (record { tx = tx; out = []; state = l }) (announced me now v (value ∷ [])) cs fit [] encodes refl
+    (λ y b r. committed-here v value fit m tx encodes l y b)
     (λ y b r. commit-announces me now value v y (is ∙ sym (ap (λ (r : Readings). suc r.last) b.readings)) l r b.phase (learns y))
     (Ok c.in_ok-announce_after.field-0)
     (subst (λ (vs : List (List Op)). GoesOn me now (IsHere (epoch_of after) after.last) (record { tx = tx; out = []; state = l }) (announced me now v vs) (Ok c.in_ok-announce_after.field-0)) c.in_ok-values.ensures c.in_ok-announce_after.ensures.goes)

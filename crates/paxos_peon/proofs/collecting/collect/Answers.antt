@@ -1,7 +1,7 @@
 use Rattle.std.proofs.Common.{◌≡◌, ℕ, suc, ◌^◌, ◌++◌, cond, ltb, List, [], ◌∷◌, None, refl, ap, subst, ◌∙◌, arith}
 use Rattle.std.specs.List.{AllByRecursion}
 use Rattle.mon_msg.specs.Protocol.Answers.{answer_of}
-use Rattle.mon_msg.specs.Protocol.Changes.{spelled}
+use Rattle.mon_msg.specs.Protocol.Changes.{encoded}
 use Rattle.mon_msg.specs.Protocol.Course.{peon_is}
 use Rattle.mon_msg.specs.Protocol.Peon.{hear_collect}
 use Rattle.mon_msg.specs.Protocol.Played.{Fits}
@@ -60,7 +60,7 @@ returns-clause-plans c =
     (omega (arith, c.if-get.false, c.get.ensures.value, c.get-2.ensures.value, c.last.ensures.value))
     (let short = c.in-Some.ensures.valid.0 refl in omega (arith, short)))
     (record { tx = c.promised.new.tx; out = c.in_ok-out.out; timers = c.new.result; state = c.without_lease.result; next = next.Stay })
-    (c.in_ok-promise.ensures.changes ∙ ap (λ (t : List Op). t ++ spelled (promised c.promise.result c.args.pn)) c.new-tx.ensures ∙ ap (λ (k : ℕ). spelled (promised k c.args.pn)) c.promise.ensures)
+    (c.in_ok-promise.ensures.changes ∙ ap (λ (t : List Op). t ++ encoded (promised c.promise.result c.args.pn)) c.new-tx.ensures ∙ ap (λ (k : ℕ). encoded (promised k c.args.pn)) c.promise.ensures)
     (c.in_ok-out.ensures
     ∙ ap (λ (m : Sent). m ∷ [])
     (c.message-sent.ensures ∙ ap (λ (k : ℕ). message_to me k c.in_ok-answer.answer s.leader) c.epoch.ensures

@@ -2,7 +2,7 @@ use Rattle.std.proofs.Common.{ℕ, suc, ◌+◌, ◌-◌, ◌≤◌, ◌++◌, L
 use Rattle.std.specs.List.{AllByRecursion}
 use Rattle.std.proofs.lemmas.Bool.{ltb-false}
 use Rattle.std.proofs.lemmas.Result.{err_from_is_err_and}
-use Rattle.mon_msg.specs.Protocol.Changes.{spelled}
+use Rattle.mon_msg.specs.Protocol.Changes.{encoded}
 use Rattle.mon_msg.specs.Protocol.Course.{peon_is}
 use Rattle.mon_msg.specs.Protocol.Peon.{hear_commit}
 use Rattle.mon_msg.specs.Protocol.Readings.{readings_of}
@@ -77,10 +77,10 @@ returns-clause-plans c =
     let low : c.args.from ≤ v = (let le = ltb-false (suc w.last) c.args.from (sym c.is_ahead.ensures ∙ c.if-is_ahead.false) in omega (arith, le, c.get-next.ensures.value, c.last.ensures.value)) in
     let news = take (length c.args.values.now - k) (drop k c.args.values.now) in
     does_as me here.time peon_is (IsOurs w s s.leader e) (λ x. x) (hear_commit s.leader e c.args.from c.args.values.now)
-    (learned v news) c.in_ok-learn.ensures.fit (writes (spelled (learned v news)) s) refl
+    (learned v news) c.in_ok-learn.ensures.fit (writes (encoded (learned v news)) s) refl
     (λ x b.
     commit-learns w s s.leader e x b c.args.from c.args.values.now v k (omega (arith, c.get-next.ensures.value, c.last.ensures.value))
     low (c.min-known.ensures ∙ ap (λ (n : ℕ). min (v - n) (length c.args.values.now)) c.get.ensures.value)
     ∙ c.in_ok-learn.ensures.act x ∙ sym (ap Ok (kept-peon s (changed (learned v news) x) (ap (λ (st : State). st.peon) (changed-state (learned v news) x) ∙ b.role))))
     c.writing.result
-    (c.writing.ensures ∙ ap (λ (t : List Op). writes t s) (c.in_ok-learn.ensures.changes ∙ ap (λ (t : List Op). t ++ spelled (learned v news)) c.new-tx.ensures))
+    (c.writing.ensures ∙ ap (λ (t : List Op). writes t s) (c.in_ok-learn.ensures.changes ∙ ap (λ (t : List Op). t ++ encoded (learned v news)) c.new-tx.ensures))

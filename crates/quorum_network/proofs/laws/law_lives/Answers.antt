@@ -11,13 +11,13 @@ returns c = record {
   process = process_alone;
   lives = lives_alone;
   sends = sends_alone;
-  begins = λ ms i me is steps number stood clock link first kv small new.
+  begins = λ ms i me is steps number store_view clock link first kv small new.
       (kv ∙ sym (ap map_of (process_alone ms i me is steps)), (small, subst (λ (lives : List ℕ). ¬ Contains lives number) (sym (lives_alone ms i me is steps)) new));
-  last = λ i me number stood clock link first earlier given u t e. (last_is i me number stood clock link first earlier given u t e).process;
+  last = λ i me number store_view clock link first earlier given u t e. (last_is i me number store_view clock link first earlier given u t e).process;
   cut = cut_sends;
-  ends = λ i me number stood clock link first given earlier turns begun e left_clock left_link x y S left member s opens.
-      ends_so i me number stood clock link first given earlier left_link x y member s opens turns begun e left_clock S left;
-  killed = λ i me number stood clock link first given earlier t left_link x y is on member s opens.
-      killed i me number stood clock link first given earlier left_link x y member s opens t is on;
+  ends = λ i me number store_view clock link first given earlier turns begun e left_clock left_link x y S left member s opens.
+      ends_so i me number store_view clock link first given earlier left_link x y member s opens turns begun e left_clock S left;
+  killed = λ i me number store_view clock link first given earlier t left_link x y is on member s opens.
+      killed i me number store_view clock link first given earlier left_link x y member s opens t is on;
   within = within_opens;
 }

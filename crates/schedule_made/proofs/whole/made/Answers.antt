@@ -1,7 +1,7 @@
 use Rattle.std.proofs.Common.{length, List, ap, sym, subst, ◌∙◌}
 use Rattle.election_rules.specs.declared.rule.Rule.TheVariants.{Classic}
 use Rattle.schedule_text.specs.declared.event.Event.{Event}
-use Rattle.schedule_text.specs.Spelling.{HasText}
+use Rattle.schedule_text.specs.Encoding.{HasText}
 use Rattle.schedule_made.specs.Made.{made_schedule}
 use Rattle.schedule_made.proofs.MadeLaws.{length-made, made_has_text}
 use Rattle.schedule_made.proofs.whole.made.Goals as goal

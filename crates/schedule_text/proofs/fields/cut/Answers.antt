@@ -10,8 +10,8 @@ returns-in-Some-clause-first c =
 pub returns-in-Some-clause-rest : goal.returns-in-Some-clause-rest
 returns-in-Some-clause-rest c =
     let bytes = c.args.bytes.now in
-    let behind = drop (c.in-Some.end + 1) bytes in
-    let all : take (length bytes - (c.in-Some.end + 1)) behind ≡ behind = take_all _ behind (omega (arith, length-drop (c.in-Some.end + 1) bytes)) in
+    let separated = drop (c.in-Some.end + 1) bytes in
+    let all : take (length bytes - (c.in-Some.end + 1)) separated ≡ separated = take_all _ separated (omega (arith, length-drop (c.in-Some.end + 1) bytes)) in
     rw (all, cut_first c.args.separator bytes c.in-Some.end c.in-Some.ensures.0 c.in-Some.ensures.1, add-one) refl
 
 pub returns-in-None-clause-first : goal.returns-in-None-clause-first

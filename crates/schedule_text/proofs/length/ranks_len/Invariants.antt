@@ -1,7 +1,7 @@
 use Rattle.std.proofs.Common.{◌≡◌, ◌+◌, length}
-use Rattle.schedule_text.specs.Ranks.{behind, ranks_text}
+use Rattle.schedule_text.specs.Ranks.{separated, ranks_text}
 use Rattle.schedule_text.proofs.RankLaws.{named}
 use Rattle.schedule_text.proofs.length.ranks_len.Given as goal
 
 abbrev pub invariant-loop-rank : goal.invariant-loop-rank
-invariant-loop-rank l = l.len + length (behind 44 (named l.rank-iterator)) ≡ length (behind 61 (ranks_text l.fn.set))
+invariant-loop-rank l = l.len + length (separated 44 (named l.rank-iterator)) ≡ length (separated 61 (ranks_text l.fn.set))

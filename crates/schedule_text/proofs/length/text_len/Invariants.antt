@@ -1,6 +1,6 @@
 use Rattle.std.proofs.Common.{◌≡◌, ◌+◌, ◌-◌, ◌^◌, min, length, take}
 use Rattle.std.specs.List.{flat_map}
-use Rattle.schedule_text.specs.Spelling.{header, ended_line, event_line}
+use Rattle.schedule_text.specs.Encoding.{header, ended_line, event_line}
 use Rattle.schedule_text.proofs.length.text_len.Given as goal
 
 abbrev pub invariant-loop-event : goal.invariant-loop-event

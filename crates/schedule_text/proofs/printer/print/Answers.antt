@@ -6,4 +6,4 @@ use Rattle.schedule_text.proofs.printer.print.Goals as goal
 
 pub returns-clause-again : goal.returns-clause-again
 returns-clause-again c =
-    IfOk-weaker c.spelled.result _ _ (λ bytes e. ap schedule_at e ∙ schedule_again c.args.schedule.now c.requires) c.spelled.ensures
+    IfOk-weaker c.encoded.result _ _ (λ bytes e. ap schedule_at e ∙ schedule_again c.args.schedule.now c.requires) c.encoded.ensures

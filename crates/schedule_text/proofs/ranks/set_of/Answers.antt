@@ -1,7 +1,7 @@
 use Rattle.std.proofs.Common.{◌≡◌, ◌+◌, ◌-◌, ◌&&◌, ltb, sym, ap, subst, ◌∙◌}
 use Rattle.std.specs.Option.{option_copied}
 use Rattle.mon_types.specs.Ranks.{with_rank}
-use Rattle.schedule_text.specs.Ranks.{comes_next}
+use Rattle.schedule_text.specs.Ranks.{is_next}
 use Rattle.schedule_text.specs.Fields.{ended}
 use Rattle.schedule_text.proofs.RankLaws.{at_end, Reading, reading_begins, reading_taken, reading_left, reading_ends}
 use Rattle.schedule_text.proofs.ranks.set_of.Goals.{then-is_taken, else-is_taken}
@@ -16,11 +16,11 @@ loop-n-preserved c =
     let r = c.loop-n.n in
     let text = option_copied c.args.text in
     let before = option_copied c.loop-n.rest in
-    let test : c.is_taken.result ≡ (ltb r n && comes_next r before) = c.is_taken.ensures ∙ ap (λ k. ltb k n && comes_next k before) c.known-rank.ensures in
+    let test : c.is_taken.result ≡ (ltb r n && is_next r before) = c.is_taken.ensures ∙ ap (λ k. ltb k n && is_next k before) c.known-rank.ensures in
     elim c.if-is_taken.branch [
       | then-is_taken w ↦
           let set = w.set-is ∙ w.with-set.ensures ∙ ap (with_rank c.loop-n.set) c.known-rank.ensures in
-          let rest = ap option_copied w.rest-is ∙ w.behind_next-rest.ensures in
+          let rest = ap option_copied w.rest-is ∙ w.after_next-rest.ensures in
           subst (λ s. Reading n (r + 1) (15 - (r + 1)) s (option_copied c.if-is_taken.rest) text) (sym set)
           (subst (λ a. Reading n (r + 1) (15 - (r + 1)) (with_rank c.loop-n.set r) a text) (sym rest)
           (reading_taken n r c.loop-n.set before text c.loop-n-test.true (sym test ∙ w.if-is_taken.true) c.loop-n.invariant))

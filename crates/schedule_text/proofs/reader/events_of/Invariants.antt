@@ -1,5 +1,5 @@
 use Rattle.std.proofs.Common.{◌≡◌, ◌≤◌, length}
-use Rattle.schedule_text.specs.Spelling.{most_events}
+use Rattle.schedule_text.specs.Encoding.{most_events}
 use Rattle.schedule_text.specs.Schedule.{lines_of, events_at}
 use Rattle.schedule_text.proofs.ScheduleLoop.{with_front}
 use Rattle.schedule_text.proofs.reader.events_of.Given as goal

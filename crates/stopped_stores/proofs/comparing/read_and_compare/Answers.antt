@@ -1,6 +1,6 @@
 use Rattle.std.proofs.Common.{Err, ap, sym, subst, ◌∙◌}
 use Rattle.std.specs.Io.KnownBytes.{Appends}
-use Rattle.mon_link.specs.Whole.{AppendsFront}
+use Rattle.mon_link.specs.Whole.{AppendsPrefix}
 use Rattle.mon_scrub.specs.Reading.{reports_at}
 use Rattle.mon_scrub.specs.Text.{compared, fields_of}
 use Rattle.stopped_stores.specs.Ends.{end_of_writing}
@@ -24,7 +24,7 @@ returns-in-Ok-write_all g c =
     let exact = ap reports_at (sym same) ∙ c.in-Ok-parse.ensures.exact in
     let text = c.as_slice-2.ensures.value ∙ c.in-Ok-compare.ensures in
     ends_compared before after old new end.Done
-    (read_all 4097 before after c.in-Ok.bytes.items (HaveReports (λ a b. WritesAll (compared a b) old new end.Done)) (record { tells = r.tells; most_is = r.most; whole = r.whole })
+    (read_all 4097 before after c.in-Ok.bytes.items (HaveReports (λ a b. WritesAll (compared a b) old new end.Done)) (record { visible = r.visible; most_is = r.most; whole = r.whole })
     (short_reports c.in-Ok.bytes.items (fields_of a, fields_of b) exact)
     (record { a = a; b = b; are = record { text = sym same ∙ c.in-Ok-parse.ensures.found; read = exact }; holds = subst (Appends old.bytes new.bytes) text c.in-Ok-write_all.ensures.whole }))
 
@@ -41,10 +41,10 @@ returns g c =
     let exact = ap reports_at (sym same) ∙ c.in-Ok-parse.ensures.exact in
     let text = c.as_slice-2.ensures.value ∙ c.in-Ok-compare.ensures in
     let stop = c.in-Err-write_all.stop in
-    let part = subst (AppendsFront old.bytes new.bytes) text c.in-Err-write_all.ensures.part in
+    let part = subst (AppendsPrefix old.bytes new.bytes) text c.in-Err-write_all.ensures.part in
     subst (Compares before after old new) (sym c.of_writing.ensures)
     (ends_compared before after old new (end_of_writing stop)
-    (read_all 4097 before after c.in-Ok.bytes.items (HaveReports (λ a b. WritesAll (compared a b) old new (end_of_writing stop))) (record { tells = r.tells; most_is = r.most; whole = r.whole })
+    (read_all 4097 before after c.in-Ok.bytes.items (HaveReports (λ a b. WritesAll (compared a b) old new (end_of_writing stop))) (record { visible = r.visible; most_is = r.most; whole = r.whole })
     (short_reports c.in-Ok.bytes.items (fields_of a, fields_of b) exact)
     (record {
       a = a;

@@ -18,7 +18,7 @@ returns-then-is_same g c =
     let exact = ap export_of (sym same) ∙ c.in-Ok-read_export.ensures.exact in
     let owner = c.is_same.ensures.same c.if-is_same.true in
     let it : IsExport kept kv c.in-Ok.bytes.items = record { form = found.0; text = sym same ∙ found.1 } in
-    read_all 268435472 before after c.in-Ok.bytes.items (IsExport c.args.member.now kv) (record { tells = r.tells; most_is = r.most; whole = r.whole })
+    read_all 268435472 before after c.in-Ok.bytes.items (IsExport c.args.member.now kv) (record { visible = r.visible; most_is = r.most; whole = r.whole })
     (short_export c.in-Ok.bytes.items (owner_of kept, kv) exact)
     (record { form = subst (λ o. HasExport o kv) owner it.form; text = it.text ∙ ap (λ o. export_text o kv) owner })
 
@@ -34,7 +34,7 @@ returns-in-Ok-read_export g c =
     let exact = ap export_of (sym same) ∙ c.in-Ok-read_export.ensures.exact in (
       refl,
       c.is_same.ensures.other c.if-is_same.false,
-      read_all 268435472 before after c.in-Ok.bytes.items (IsExportOf kept) (record { tells = r.tells; most_is = r.most; whole = r.whole })
+      read_all 268435472 before after c.in-Ok.bytes.items (IsExportOf kept) (record { visible = r.visible; most_is = r.most; whole = r.whole })
           (short_export c.in-Ok.bytes.items (owner_of kept, kv) exact)
           (record { map = kv; export = record { form = found.0; text = sym same ∙ found.1 } }),
     )

@@ -9,7 +9,7 @@ returns-in-Err g c =
     let it = c.in-Err.ensures in
     let same : Stream = record { bytes = g.K.Sink.held c.args.sink.now; faults = g.K.Sink.faults c.args.sink.now } in
     ends_refused g.D.Disk.state c.args.member.now c.args.disks c.in-Err.refused.disks same same c.args.what c.in-Err.refused.why c.of_opening.result c.of_opening.ensures
-    (record { answer = it.answer; alike = it.any_moment; safe = tt; calls = it.calls; counts = it.counts }, refl)
+    (record { answer = it.answer; alike = it.any_time; safe = tt; calls = it.calls; counts = it.counts }, refl)
 
 pub returns-in-Ok : goal.returns-in-Ok
 returns-in-Ok g c =
@@ -22,7 +22,7 @@ returns-in-Ok g c =
     subst (λ a. WritesText g.D.Disk.state c.args.member.now c.args.disks (record { a = a; b = c.close.result.b }) before after c.args.what w.result) (sym c.close.ensures.a)
     (subst (λ b. WritesText g.D.Disk.state c.args.member.now c.args.disks (record { a = disk_a store; b = b }) before after c.args.what w.result) (sym c.close.ensures.b)
     (ends_written g.D.Disk.state c.args.member.now c.args.disks (record { a = disk_a store; b = disk_b store }) before after c.args.what w.result (record {
-      stood = record { side = store.side; journal = store.journal; kv = store.kv };
-      opens = record { answer = it.answer; alike = it.any_moment; safe = it.safe; calls = it.calls; counts = it.counts };
+      store_view = record { side = store.side; journal = store.journal; kv = store.kv };
+      opens = record { answer = it.answer; alike = it.any_time; safe = it.safe; calls = it.calls; counts = it.counts };
       holds = written;
     })))

@@ -5,7 +5,7 @@ use Rattle.mon_msg.specs.Protocol.Providing.{reach}
 use Rattle.mon_msg.specs.Protocol.Readings.{readings_of}
 use Rattle.mon_tx.specs.Map.{Store}
 use Rattle.mon_wire.specs.declared.body.Body.TheVariants as body
-use Rattle.sync_provider.specs.Rows.{left_after}
+use Rattle.sync_provider.specs.Rows.{remaining_after}
 use Rattle.sync_provider.proofs.ChunkLaws.{chunk-last, chunk-more, given-short}
 use Rattle.sync_provider.proofs.chunk.chunk.Goals as goal
 
@@ -14,7 +14,7 @@ returns-then-is_last c =
     λ n.
     let w = readings_of c.args.kv.now in
     let p = c.args.place.now in
-    let left = left_after c.args.kv.now p.key in
+    let left = remaining_after c.args.kv.now p.key in
     let run = c.in_ok-values.field-0 in
     let told = c.in_ok-values.ensures in
     let keys = c.in_ok-entries.field-0 in
@@ -32,7 +32,7 @@ returns c =
     λ n.
     let w = readings_of c.args.kv.now in
     let p = c.args.place.now in
-    let left = left_after c.args.kv.now p.key in
+    let left = remaining_after c.args.kv.now p.key in
     let run = c.in_ok-values.field-0 in
     let told = c.in_ok-values.ensures in
     let keys = c.in_ok-entries.field-0 in

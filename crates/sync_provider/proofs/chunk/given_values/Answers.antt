@@ -6,7 +6,7 @@ use Rattle.mon_stored.specs.Runs.{run_within}
 use Rattle.mon_stored.proofs.Fitting.{given_values-run}
 use Rattle.mon_stored.specs.declared.records.Run.{Run}
 use Rattle.mon_wire.specs.declared.parts.Cookie.{Cookie}
-use Rattle.sync_provider.specs.Rows.{left_after}
+use Rattle.sync_provider.specs.Rows.{remaining_after}
 use Rattle.sync_provider.proofs.Fallible.{if_ok}
 use Rattle.sync_provider.proofs.chunk.given_values.Goals as goal
 
@@ -14,7 +14,7 @@ pub returns-clause-values : goal.returns-clause-values
 returns-clause-values c =
     let w = readings_of c.args.kv.now in
     let p = c.args.place.now in
-    let left = left_after c.args.kv.now p.key in
+    let left = remaining_after c.args.kv.now p.key in
     let v = readings_of c.args.stored.now in
     let told : v ≡ w = ap readings_of c.requires in
     let next : c.get-next.result + 1 ≡ suc p.version = omega (arith, c.get-next.ensures.value) in

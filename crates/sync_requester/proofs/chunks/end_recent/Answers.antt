@@ -1,6 +1,6 @@
 use Rattle.std.proofs.Common.{ℕ, suc, true, Result, refl, ap, Err, sym, subst, ◌∙◌}
 use Rattle.std.proofs.lemmas.Result.{err_from_is_err_and}
-use Rattle.mon_msg.specs.Protocol.Changes.{spelled}
+use Rattle.mon_msg.specs.Protocol.Changes.{encoded}
 use Rattle.mon_msg.specs.Protocol.Chunks.{replay_or_end, take_last}
 use Rattle.mon_msg.specs.Protocol.Course.{Course, ◌>>=◌, requester_is}
 use Rattle.mon_msg.specs.Protocol.Readings.{readings_of}
@@ -31,9 +31,9 @@ returns-clause-plans c =
     let h = c.in_ok-tx.ensures in
     let cs = copied s.full (suc p.version) values entries in
     does_as me now requester_is (IsHeard w s f) (λ x. x) (take_last me now p values entries last)
-    cs h.fit (then_acts (spelled cs) (record s { place = taken.place }) next.Bootstrap) refl
+    cs h.fit (then_acts (encoded cs) (record s { place = taken.place }) next.Bootstrap) refl
     (λ x b. recent-ends w s f x b me now p values entries taken h last c.requires.recent)
-    c.writing.result (c.writing.ensures ∙ (λ i. then_acts (h.spelled i) (c.at_place.ensures i) next.Bootstrap))
+    c.writing.result (c.writing.ensures ∙ (λ i. then_acts (h.encoded i) (c.at_place.ensures i) next.Bootstrap))
 
 pub returns-in_err-tx-clause-plans : goal.returns-in_err-tx-clause-plans
 returns-in_err-tx-clause-plans c =

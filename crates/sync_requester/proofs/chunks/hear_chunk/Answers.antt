@@ -1,6 +1,6 @@
 use Rattle.std.proofs.Common.{◌≡◌, suc, true, false, List, Result, Ok, refl, sym, ap, ◌∙◌, Err, subst}
 use Rattle.std.proofs.lemmas.Result.{err_from_is_err_and}
-use Rattle.mon_msg.specs.Protocol.Changes.{spelled}
+use Rattle.mon_msg.specs.Protocol.Changes.{encoded}
 use Rattle.mon_msg.specs.Protocol.Chunks.{hear_chunk}
 use Rattle.mon_msg.specs.Protocol.Copying.{ask_chunk}
 use Rattle.mon_msg.specs.Protocol.Course.{Course, ◌>>=◌, requester_is}
@@ -49,14 +49,14 @@ returns-clause-plans c =
     let h = c.in_ok-tx.ensures in
     let cs = copied s.full (suc p.version) values entries in
     let epoch : c.in_ok-epoch.epoch ≡ epoch_of (played cs w) =
-    c.in_ok-epoch.ensures ∙ ap (λ (ops : List Op). epoch_of (readings_of (apply ops m))) h.spelled ∙ ap epoch_of (readings-after cs h.fit m) in
+    c.in_ok-epoch.ensures ∙ ap (λ (ops : List Op). epoch_of (readings_of (apply ops m))) h.encoded ∙ ap epoch_of (readings-after cs h.fit m) in
     does_as me c.args.here.now.time requester_is (IsHeard w s f) (λ x. x) (hear_chunk me c.args.here.now.time f c.args.cookie p values entries c.args.done)
-    cs h.fit (asks_chunk me c.args.here.now.time (spelled cs) c.args.cookie (record s { place = taken.place }) (epoch_of (played cs w))) refl
+    cs h.fit (asks_chunk me c.args.here.now.time (encoded cs) c.args.cookie (record s { place = taken.place }) (epoch_of (played cs w))) refl
     (λ x b.
     chunk-is w s f x b me c.args.here.now.time p values entries c.args.cookie c.args.done true (sym c.is_awaited.ensures ∙ c.if-not-is_awaited.false)
     ∙ chunk-asks w s f x b me c.args.here.now.time p values entries c.args.done taken h c.args.cookie)
     c.in_ok-ask_chunk.field-0
-    (c.in_ok-ask_chunk.ensures ∙ (λ i. asks_chunk me c.args.here.now.time (h.spelled i) c.args.cookie (c.at_place.ensures i) (epoch i)))
+    (c.in_ok-ask_chunk.ensures ∙ (λ i. asks_chunk me c.args.here.now.time (h.encoded i) c.args.cookie (c.at_place.ensures i) (epoch i)))
 
 pub returns-in_err-tx-clause-plans : goal.returns-in_err-tx-clause-plans
 returns-in_err-tx-clause-plans c =

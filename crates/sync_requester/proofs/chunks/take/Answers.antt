@@ -1,6 +1,6 @@
 use Rattle.std.proofs.Common.{◌≡◌, ◌+◌, ◌≤◌, ◌^◌, ◌++◌, suc, length, List, Result, Err, refl, sym, ap, subst, ◌∙◌, arith}
 use Rattle.std.proofs.lemmas.Result.{err_from_is_err_and}
-use Rattle.mon_msg.specs.Protocol.Changes.{spelled}
+use Rattle.mon_msg.specs.Protocol.Changes.{encoded}
 use Rattle.mon_msg.specs.declared.plan.RoleStop.{RoleStop}
 use Rattle.mon_plan.proofs.Learning.{above}
 use Rattle.mon_tx.specs.declared.op.Op.{Op}
@@ -40,5 +40,5 @@ returns c =
     let behind : c.get-from.result + 1 ≡ suc p.version = omega (arith, c.get-from.ensures.value) in
     let place : Place = record { version = c.in-Some.version; key = c.in_ok-key.key } in
     taken-is s p values c.args.chunk.now.entries.now c.args.done from behind short c.in_ok-write.ensures.copy c.in_ok-write.ensures.fit c.write.new.tx
-    (c.in_ok-write.ensures.changes ∙ ap (λ (tx : List Op). tx ++ spelled (copied s.full from values c.args.chunk.now.entries.now)) c.new-tx.ensures)
+    (c.in_ok-write.ensures.changes ∙ ap (λ (tx : List Op). tx ++ encoded (copied s.full from values c.args.chunk.now.entries.now)) c.new-tx.ensures)
     place (λ i. record { version = version i; key = c.in_ok-key.ensures i })

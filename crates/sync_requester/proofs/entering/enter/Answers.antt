@@ -1,5 +1,5 @@
 use Rattle.std.proofs.Common.{◌≡◌, Bool, true, false, cond, [], ◌∷◌, ◌++◌, Ok, refl, sym, ap, subst, ◌∙◌, append-nil}
-use Rattle.mon_msg.specs.Protocol.Changes.{Mark, ops_of, spelled}
+use Rattle.mon_msg.specs.Protocol.Changes.{Mark, ops_of, encoded}
 use Rattle.mon_msg.specs.Protocol.Course.{requester_is}
 use Rattle.mon_msg.specs.Protocol.Played.{Fits}
 use Rattle.mon_msg.specs.Protocol.Readings.{readings_of}
@@ -32,11 +32,11 @@ returns-clause-plans c =
     let w = readings_of c.args.kv.now in
     let marked : Mark c.floor_of-floor.result c.last_pn-last_pn.result c.promised-promised.result ≡ mark w =
     (λ i. Mark (c.floor_of-floor.ensures i) (c.last_pn-last_pn.ensures i) (c.promised-promised.ensures i)) ∙ ap (λ (m : Store). mark (readings_of m)) c.of-stored.ensures in
-    let tx : c.put_mark.new.tx ≡ spelled (mark w ∷ []) =
+    let tx : c.put_mark.new.tx ≡ encoded (mark w ∷ []) =
     c.in_ok-put_mark.ensures.changes ∙ (λ i. c.new-tx.ensures i ++ ops_of (marked i)) ∙ sym (append-nil (ops_of (mark w))) in
     subst (λ (t : Bool). PlansAct me c.args.now requester_is (IsEntering c.args.epoch w) (cond t (next.FullSync c.args.from) (next.RecentSync c.args.from)) (Ok c.in_ok-ask-2.field-0)) (sym c.if-not-full.false)
     (does_as me c.args.now requester_is (IsEntering c.args.epoch w) (entered (next.FullSync c.args.from)) (act me c.args.now (next.FullSync c.args.from))
-    (mark w ∷ []) (subst Fits marked c.in_ok-put_mark.ensures.fit, tt) (asks me c.args.now (spelled (mark w ∷ [])) body.GetCookieFull (start_requester c.args.from true) c.args.epoch) refl
+    (mark w ∷ []) (subst Fits marked c.in_ok-put_mark.ensures.fit, tt) (asks me c.args.now (encoded (mark w ∷ [])) body.GetCookieFull (start_requester c.args.from true) c.args.epoch) refl
     (λ x b. full-begins me c.args.now c.args.epoch w x b c.args.from)
     c.in_ok-ask-2.field-0
     (c.in_ok-ask-2.ensures ∙ (λ i. asks me c.args.now (tx i) body.GetCookieFull (c.awaiting-2.ensures i) c.args.epoch)))

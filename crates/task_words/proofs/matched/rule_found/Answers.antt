@@ -1,5 +1,5 @@
 use Rattle.std.proofs.Common.{◌∙◌}
-use Rattle.schedule_text.specs.Spelling.{rule_text}
+use Rattle.schedule_text.specs.Encoding.{rule_text}
 use Rattle.task_words.proofs.Given.{rule_given}
 use Rattle.task_words.proofs.matched.rule_found.Goals as goal
 

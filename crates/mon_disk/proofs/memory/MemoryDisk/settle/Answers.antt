@@ -18,8 +18,8 @@ invariant_of-self c =
     subst (λ (h : HoldingState). Holds h (begins_with (settled life)) × (0 ≤ length h.bytes)) (sym new) (holds_begun (settled life), omega arith) in
     subst (λ (l : Lived). Holds c.of.result l × (0 ≤ length c.of.result.bytes)) (sym next) whole
 
-pub returns-clause-any_moment : goal.returns-clause-any_moment
-returns-clause-any_moment c =
+pub returns-clause-any_time : goal.returns-clause-any_time
+returns-clause-any_time c =
     let past = c.args.self.now.past in
     let life = c.args.self.now.life in
     let lives = c.then-self-inside.result.lives in

@@ -87,22 +87,22 @@ pub returns-in_err-body-clause-settles : goal.returns-in_err-body-clause-settles
 returns-in_err-body-clause-settles g c =
     let old = g.D.Disk.state c.args.disk.now in
     let new = g.D.Disk.state c.args.disk.now in
-    settles_by old.content new.content new.told (WithOrWithout c.args.self.now (payloads_seen old.content) c.args.payload.now) (returns-in_err-body-clause-call g c).any_moment (g.met.D.Disk.settled c.args.disk.now)
+    settles_by old.content new.content new.observed (WithOrWithout c.args.self.now (payloads_seen old.content) c.args.payload.now) (returns-in_err-body-clause-call g c).any_time (g.met.D.Disk.settled c.args.disk.now)
 
 pub returns-in_err-write_synced-clause-settles : goal.returns-in_err-write_synced-clause-settles
 returns-in_err-write_synced-clause-settles g c =
     let old = g.D.Disk.state c.args.disk.now in
     let new = g.D.Disk.state c.write_synced.new.disk in
-    settles_by old.content new.content new.told (WithOrWithout c.args.self.now (payloads_seen old.content) c.args.payload.now) (returns-in_err-write_synced-clause-call g c).any_moment (g.met.D.Disk.settled c.write_synced.new.disk)
+    settles_by old.content new.content new.observed (WithOrWithout c.args.self.now (payloads_seen old.content) c.args.payload.now) (returns-in_err-write_synced-clause-call g c).any_time (g.met.D.Disk.settled c.write_synced.new.disk)
 
 pub returns-in_err-write_synced-2-clause-settles : goal.returns-in_err-write_synced-2-clause-settles
 returns-in_err-write_synced-2-clause-settles g c =
     let old = g.D.Disk.state c.args.disk.now in
     let new = g.D.Disk.state c.write_synced-2.new.disk in
-    settles_by old.content new.content new.told (WithOrWithout c.args.self.now (payloads_seen old.content) c.args.payload.now) (returns-in_err-write_synced-2-clause-call g c).any_moment (g.met.D.Disk.settled c.write_synced-2.new.disk)
+    settles_by old.content new.content new.observed (WithOrWithout c.args.self.now (payloads_seen old.content) c.args.payload.now) (returns-in_err-write_synced-2-clause-call g c).any_time (g.met.D.Disk.settled c.write_synced-2.new.disk)
 
 pub returns-clause-settles : goal.returns-clause-settles
 returns-clause-settles g c =
     let old = g.D.Disk.state c.args.disk.now in
     let new = g.D.Disk.state c.write_synced-2.new.disk in
-    settles_by old.content new.content new.told (WithOrWithout c.args.self.now (payloads_seen old.content) c.args.payload.now) (returns-clause-call g c).any_moment (g.met.D.Disk.settled c.write_synced-2.new.disk)
+    settles_by old.content new.content new.observed (WithOrWithout c.args.self.now (payloads_seen old.content) c.args.payload.now) (returns-clause-call g c).any_time (g.met.D.Disk.settled c.write_synced-2.new.disk)

@@ -1,5 +1,5 @@
 use Rattle.std.proofs.Common.{◌≡◌}
-use Rattle.mon_tx.specs.Spelled.{rest_of}
+use Rattle.mon_tx.specs.EncodedOp.{rest_of}
 use Rattle.mon_kv.specs.Applied.{applied}
 use Rattle.mon_kv.proofs.kv.Kv.apply_each.Given as goal
 

@@ -1,20 +1,20 @@
 use Rattle.std.proofs.Common.{◌∙◌, sym, subst, take}
 use Rattle.std.specs.List.{flat_map}
 use Rattle.mon_resend.specs.Sending.{SendsEach}
-use Rattle.mon_resend.specs.Shelves.{going}
+use Rattle.mon_resend.specs.Shelves.{due_copies}
 use Rattle.mon_resend.specs.World.{box_of}
 use Rattle.mon_resend.proofs.Parts.{sends_then}
-use Rattle.mon_resend.proofs.Turns.{all_next}
+use Rattle.mon_resend.proofs.Releases.{all_next}
 use Rattle.mon_resend.proofs.resending.Resending.repeat.Goals as goal
 
 pub loop-place-preserved : goal.loop-place-preserved
 loop-place-preserved g c =
     let boxes = c.args.self.now.copies.boxes in
     let place = c.loop-place.place in
-    let one = subst (λ cs. SendsEach (going c.args.again c.args.now (box_of place cs).shelf) (g.L.Link.state c.loop-place.self.inner) (g.L.Link.state c.repeat_at.new.self.inner)) c.loop-place.invariant.copies c.repeat_at.ensures.sends in
+    let one = subst (λ cs. SendsEach (due_copies c.args.again c.args.now (box_of place cs).shelf) (g.L.Link.state c.loop-place.self.inner) (g.L.Link.state c.repeat_at.new.self.inner)) c.loop-place.invariant.copies c.repeat_at.ensures.sends in
     record {
       sends = subst (λ l. SendsEach l (g.L.Link.state c.args.self.now.inner) (g.L.Link.state c.repeat_at.new.self.inner)) (sym (all_next c.args.again c.args.now boxes place))
-          (sends_then (flat_map (λ b. going c.args.again c.args.now b.shelf) (take place boxes)) (going c.args.again c.args.now (box_of place c.args.self.now.copies).shelf) _ _ _ c.loop-place.invariant.sends one);
+          (sends_then (flat_map (λ b. due_copies c.args.again c.args.now b.shelf) (take place boxes)) (due_copies c.args.again c.args.now (box_of place c.args.self.now.copies).shelf) _ _ _ c.loop-place.invariant.sends one);
       copies = c.repeat_at.ensures.others.0 ∙ c.loop-place.invariant.copies;
       losses = c.repeat_at.ensures.others.1 ∙ c.loop-place.invariant.losses;
       run = c.repeat_at.ensures.others.2 ∙ c.loop-place.invariant.run;

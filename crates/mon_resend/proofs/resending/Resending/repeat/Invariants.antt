@@ -1,12 +1,12 @@
 use Rattle.std.proofs.Common.{◌≡◌, take}
 use Rattle.std.specs.List.{flat_map}
 use Rattle.mon_resend.specs.Sending.{SendsEach}
-use Rattle.mon_resend.specs.Shelves.{going}
+use Rattle.mon_resend.specs.Shelves.{due_copies}
 use Rattle.mon_resend.proofs.resending.Resending.repeat.Given as goal
 
 abbrev pub invariant-loop-place : goal.invariant-loop-place
 invariant-loop-place g l = record {
-  sends : SendsEach (flat_map (λ b. going l.again l.now b.shelf) (take l.place l.fn.self.copies.boxes)) (g.L.Link.state l.fn.self.inner) (g.L.Link.state l.self.inner);
+  sends : SendsEach (flat_map (λ b. due_copies l.again l.now b.shelf) (take l.place l.fn.self.copies.boxes)) (g.L.Link.state l.fn.self.inner) (g.L.Link.state l.self.inner);
   copies : l.self.copies ≡ l.fn.self.copies;
   losses : l.self.losses ≡ l.fn.self.losses;
   run : l.self.run ≡ l.fn.self.run;

@@ -1,12 +1,12 @@
 use Rattle.std.proofs.Common.{◌≡◌, take}
 use Rattle.mon_resend.specs.Sending.{SendsEach}
-use Rattle.mon_resend.specs.Shelves.{going}
+use Rattle.mon_resend.specs.Shelves.{due_copies}
 use Rattle.mon_resend.specs.World.{box_of}
 use Rattle.mon_resend.proofs.resending.Resending.repeat_at.Given as goal
 
 abbrev pub invariant-loop-at : goal.invariant-loop-at
 invariant-loop-at g l = record {
-  sends : SendsEach (going l.again l.now (take l.at (box_of l.place l.fn.self.copies).shelf)) (g.L.Link.state l.fn.self.inner) (g.L.Link.state l.self.inner);
+  sends : SendsEach (due_copies l.again l.now (take l.at (box_of l.place l.fn.self.copies).shelf)) (g.L.Link.state l.fn.self.inner) (g.L.Link.state l.self.inner);
   copies : l.self.copies ≡ l.fn.self.copies;
   losses : l.self.losses ≡ l.fn.self.losses;
   run : l.self.run ≡ l.fn.self.run;

@@ -1,7 +1,7 @@
 use Rattle.std.proofs.Common.{rules, ◌≡◌, Ok, Err, cond, ap, sym, subst, ◌∙◌}
 use Rattle.mon_link.specs.declared.link.Got.TheVariants.{Idle}
 use Rattle.mon_resend.specs.Sending.{Receives, SendsEach, may_go, with_got, isnt_handed_up}
-use Rattle.mon_resend.specs.World.{all_going, all_passed}
+use Rattle.mon_resend.specs.World.{all_due_copies, all_passed}
 use Rattle.mon_resend.proofs.Nexts.{fails, gives, shows_read, shows_then, asks_once, keeps_some}
 use Rattle.mon_resend.proofs.resending.ResendingLink.next.Goals as goal
 
@@ -11,29 +11,29 @@ returns-in_err-got-clause-exactly g c =
     let is : c.next.result ≡ Err c.in_err-got.field-0.0 = search rules in
     subst (λ r. Receives c.args.wait (g.C.Clock.left c.args.self.now.clock) c.args.self.now.run c.args.self.now.copies (g.L.Link.state c.args.self.now.inner) r c.args.self.now.run c.args.self.now.copies (g.L.Link.state c.next.new.self)) (sym e)
     (fails
-    c.args.wait (g.C.Clock.left c.args.self.now.clock) c.args.self.now.run c.args.self.now.copies (g.L.Link.state c.args.self.now.inner) c.in_err-got.field-0.0 c.next.result (g.L.Link.state c.next.new.self) c.get-before.result c.rests-rest.result
-    (shows_read _ c.get-before.result c.now.result c.get-before.ensures.value c.now.ensures.shows) c.rests-rest.ensures c.next.ensures is)
+    c.args.wait (g.C.Clock.left c.args.self.now.clock) c.args.self.now.run c.args.self.now.copies (g.L.Link.state c.args.self.now.inner) c.in_err-got.field-0.0 c.next.result (g.L.Link.state c.next.new.self) c.get-before.result c.next_wait-rest.result
+    (shows_read _ c.get-before.result c.now.result c.get-before.ensures.value c.now.ensures.shows) c.next_wait-rest.ensures c.next.ensures is)
 
 pub returns-then-known-clause-exactly : goal.returns-then-known-clause-exactly
 returns-then-known-clause-exactly g c =
-    let same = ap (λ s. s.copies) c.counts-again.ensures.run in
+    let same = ap (λ s. s.copies) c.note_arrival-again.ensures.run in
     let now = c.get-now.result in
     let came = c.in_ok-got.got in
     let after = ap (λ s. s.copies) c.note-known.ensures.kept ∙ ap (λ cs. with_got c.note-known.result.has_memory came now cs) same in
-    let link = ap (λ s. g.L.Link.state s.inner) c.note-known.ensures.kept ∙ ap (λ s. g.L.Link.state s.inner) c.counts-again.ensures.run in
-    let goes = subst (λ cs. SendsEach (all_going c.counts-again.result now cs) (g.L.Link.state c.note-known.new.self.inner) (g.L.Link.state c.repeat.new.self.inner)) after c.repeat.ensures.sends in
+    let link = ap (λ s. g.L.Link.state s.inner) c.note-known.ensures.kept ∙ ap (λ s. g.L.Link.state s.inner) c.note_arrival-again.ensures.run in
+    let goes = subst (λ cs. SendsEach (all_due_copies c.note_arrival-again.result now cs) (g.L.Link.state c.note-known.new.self.inner) (g.L.Link.state c.repeat.new.self.inner)) after c.repeat.ensures.sends in
     gives
     c.args.wait (g.C.Clock.left c.args.self.now.clock) c.args.self.now.run c.args.self.now.copies (g.L.Link.state c.args.self.now.inner)
     (g.L.Link.state c.next.new.self) came c.next.result (Ok Idle) c.repeat.new.self.run c.repeat.new.self.copies (g.L.Link.state c.repeat.new.self.inner)
-    c.get-before.result now c.rests-rest.result c.note-known.result.has_memory
+    c.get-before.result now c.next_wait-rest.result c.note-known.result.has_memory
     (shows_read _ c.get-before.result c.now.result c.get-before.ensures.value c.now.ensures.shows)
     (shows_then _ _ now c.now.ensures.left (shows_read _ now c.now-2.result c.get-now.ensures.value c.now-2.ensures.shows))
-    c.rests-rest.ensures c.next.ensures (search rules)
+    c.next_wait-rest.ensures c.next.ensures (search rules)
     (ap (λ b. Ok (cond b Idle came)) (sym c.if-known.true ∙ c.note-known.ensures.known ∙ ap (λ cs. isnt_handed_up came now cs) same))
-    (c.repeat.ensures.kept ∙ ap (λ cs. all_passed c.counts-again.result now cs) after ∙ ap (λ b. all_passed b now (with_got c.note-known.result.has_memory came now c.args.self.now.copies)) c.counts-again.ensures.may)
-    (subst (λ s. SendsEach (all_going (may_go came c.args.self.now.run) now (with_got c.note-known.result.has_memory came now c.args.self.now.copies)) s (g.L.Link.state c.repeat.new.self.inner)) link
-    (subst (λ b. SendsEach (all_going b now (with_got c.note-known.result.has_memory came now c.args.self.now.copies)) (g.L.Link.state c.note-known.new.self.inner) (g.L.Link.state c.repeat.new.self.inner)) c.counts-again.ensures.may goes))
-    (c.repeat.ensures.others.1 ∙ ap (λ s. s.run) c.note-known.ensures.kept ∙ ap (λ s. s.run) c.counts-again.ensures.run)
+    (c.repeat.ensures.kept ∙ ap (λ cs. all_passed c.note_arrival-again.result now cs) after ∙ ap (λ b. all_passed b now (with_got c.note-known.result.has_memory came now c.args.self.now.copies)) c.note_arrival-again.ensures.may)
+    (subst (λ s. SendsEach (all_due_copies (may_go came c.args.self.now.run) now (with_got c.note-known.result.has_memory came now c.args.self.now.copies)) s (g.L.Link.state c.repeat.new.self.inner)) link
+    (subst (λ b. SendsEach (all_due_copies b now (with_got c.note-known.result.has_memory came now c.args.self.now.copies)) (g.L.Link.state c.note-known.new.self.inner) (g.L.Link.state c.repeat.new.self.inner)) c.note_arrival-again.ensures.may goes))
+    (c.repeat.ensures.others.1 ∙ ap (λ s. s.run) c.note-known.ensures.kept ∙ ap (λ s. s.run) c.note_arrival-again.ensures.run)
 
 pub returns-then-known-clause-asks : goal.returns-then-known-clause-asks
 returns-then-known-clause-asks g c = asks_once _ _ _ _ _ _ _ _ _ (returns-then-known-clause-exactly g c)
@@ -43,24 +43,24 @@ returns-then-known-clause-kept g c = keeps_some _ _ _ _ _ _ _ _ _ (returns-then-
 
 pub returns-clause-exactly : goal.returns-clause-exactly
 returns-clause-exactly g c =
-    let same = ap (λ s. s.copies) c.counts-again.ensures.run in
+    let same = ap (λ s. s.copies) c.note_arrival-again.ensures.run in
     let now = c.get-now.result in
     let came = c.in_ok-got.got in
     let after = ap (λ s. s.copies) c.note-known.ensures.kept ∙ ap (λ cs. with_got c.note-known.result.has_memory came now cs) same in
-    let link = ap (λ s. g.L.Link.state s.inner) c.note-known.ensures.kept ∙ ap (λ s. g.L.Link.state s.inner) c.counts-again.ensures.run in
-    let goes = subst (λ cs. SendsEach (all_going c.counts-again.result now cs) (g.L.Link.state c.note-known.new.self.inner) (g.L.Link.state c.repeat.new.self.inner)) after c.repeat.ensures.sends in
+    let link = ap (λ s. g.L.Link.state s.inner) c.note-known.ensures.kept ∙ ap (λ s. g.L.Link.state s.inner) c.note_arrival-again.ensures.run in
+    let goes = subst (λ cs. SendsEach (all_due_copies c.note_arrival-again.result now cs) (g.L.Link.state c.note-known.new.self.inner) (g.L.Link.state c.repeat.new.self.inner)) after c.repeat.ensures.sends in
     gives
     c.args.wait (g.C.Clock.left c.args.self.now.clock) c.args.self.now.run c.args.self.now.copies (g.L.Link.state c.args.self.now.inner)
     (g.L.Link.state c.next.new.self) came c.next.result (Ok c.in_ok-got.got) c.repeat.new.self.run c.repeat.new.self.copies (g.L.Link.state c.repeat.new.self.inner)
-    c.get-before.result now c.rests-rest.result c.note-known.result.has_memory
+    c.get-before.result now c.next_wait-rest.result c.note-known.result.has_memory
     (shows_read _ c.get-before.result c.now.result c.get-before.ensures.value c.now.ensures.shows)
     (shows_then _ _ now c.now.ensures.left (shows_read _ now c.now-2.result c.get-now.ensures.value c.now-2.ensures.shows))
-    c.rests-rest.ensures c.next.ensures (search rules)
+    c.next_wait-rest.ensures c.next.ensures (search rules)
     (ap (λ b. Ok (cond b Idle came)) (sym c.if-known.false ∙ c.note-known.ensures.known ∙ ap (λ cs. isnt_handed_up came now cs) same))
-    (c.repeat.ensures.kept ∙ ap (λ cs. all_passed c.counts-again.result now cs) after ∙ ap (λ b. all_passed b now (with_got c.note-known.result.has_memory came now c.args.self.now.copies)) c.counts-again.ensures.may)
-    (subst (λ s. SendsEach (all_going (may_go came c.args.self.now.run) now (with_got c.note-known.result.has_memory came now c.args.self.now.copies)) s (g.L.Link.state c.repeat.new.self.inner)) link
-    (subst (λ b. SendsEach (all_going b now (with_got c.note-known.result.has_memory came now c.args.self.now.copies)) (g.L.Link.state c.note-known.new.self.inner) (g.L.Link.state c.repeat.new.self.inner)) c.counts-again.ensures.may goes))
-    (c.repeat.ensures.others.1 ∙ ap (λ s. s.run) c.note-known.ensures.kept ∙ ap (λ s. s.run) c.counts-again.ensures.run)
+    (c.repeat.ensures.kept ∙ ap (λ cs. all_passed c.note_arrival-again.result now cs) after ∙ ap (λ b. all_passed b now (with_got c.note-known.result.has_memory came now c.args.self.now.copies)) c.note_arrival-again.ensures.may)
+    (subst (λ s. SendsEach (all_due_copies (may_go came c.args.self.now.run) now (with_got c.note-known.result.has_memory came now c.args.self.now.copies)) s (g.L.Link.state c.repeat.new.self.inner)) link
+    (subst (λ b. SendsEach (all_due_copies b now (with_got c.note-known.result.has_memory came now c.args.self.now.copies)) (g.L.Link.state c.note-known.new.self.inner) (g.L.Link.state c.repeat.new.self.inner)) c.note_arrival-again.ensures.may goes))
+    (c.repeat.ensures.others.1 ∙ ap (λ s. s.run) c.note-known.ensures.kept ∙ ap (λ s. s.run) c.note_arrival-again.ensures.run)
 
 pub returns-clause-asks : goal.returns-clause-asks
 returns-clause-asks g c = asks_once _ _ _ _ _ _ _ _ _ (returns-clause-exactly g c)

@@ -3,11 +3,11 @@ use Rattle.std.proofs.lemmas.Result.{err_from_is_err_and}
 use Rattle.quorum_model.specs.Growth.{last_of}
 use Rattle.mon_world.specs.Monitor.{Holds}
 use Rattle.mon_world.proofs.Holding.{as_known, stands_after}
-use Rattle.mon_site.specs.Moments.{OpensEither}
+use Rattle.mon_site.specs.Times.{OpensEither}
 use Rattle.mon_store.specs.Whole.{disk_a, disk_b}
 use Rattle.mon_tx.specs.Map.{apply}
 use Rattle.mon_world.specs.declared.monitor.Kept.{Kept}
-use Rattle.mon_world.specs.Moments.{Passes, a_of, b_of}
+use Rattle.mon_world.specs.Times.{Passes, a_of, b_of}
 use Rattle.mon_world.proofs.monitor.Monitor.react.Goals as goal
 
 pub react-requires-clause-up : goal.react-requires-clause-up

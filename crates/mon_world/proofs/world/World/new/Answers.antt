@@ -1,5 +1,5 @@
 use Rattle.std.proofs.Common.{◌≡◌, map, refl, ap, ◌∙◌, arith}
-use Rattle.mon_world.specs.Stands.{envelope_of}
+use Rattle.mon_world.specs.Represented.{envelope_of}
 use Rattle.mon_world.proofs.Making.{one_made, all_made}
 use Rattle.mon_world.proofs.Safety.{begins}
 use Rattle.mon_world.proofs.world.World.new.Goals as goal

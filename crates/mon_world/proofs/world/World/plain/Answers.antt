@@ -2,7 +2,7 @@ use Rattle.std.proofs.Common.{Ok, map, refl, sym, ap, subst, ◌∙◌}
 use Rattle.std.specs.Option.{option_map}
 use Rattle.schedule_text.specs.declared.event.Event.TheVariants as events
 use Rattle.trace_text.specs.declared.step.StepLine.{StepLine}
-use Rattle.mon_world.specs.Stands.{Does, arrival_of, envelope_of}
+use Rattle.mon_world.specs.Represented.{Does, arrival_of, envelope_of}
 use Rattle.mon_world.specs.Step.{step}
 use Rattle.mon_world.proofs.Arriving.{arrives}
 use Rattle.mon_world.proofs.Stepping.{none_met}
@@ -31,8 +31,8 @@ returns-in-Some-clause-does c = λ ms d s.
     let is = sym (c.in_ok-arriving.ensures d.world (ap (map envelope_of) c.as_slice.ensures.value ∙ s.messages)) ∙ ap (option_map arrival_of) c.in-Some.is in
     c.deliver-line.ensures.does ms d c.args.event.now s is
 
-pub returns-in-None-clause-any_moment : goal.returns-in-None-clause-any_moment
-returns-in-None-clause-any_moment c = λ ms d next s t. none_passes ms c.args.self.now c.args.self.now d next s t refl
+pub returns-in-None-clause-any_time : goal.returns-in-None-clause-any_time
+returns-in-None-clause-any_time c = λ ms d next s t. none_passes ms c.args.self.now c.args.self.now d next s t refl
 
-pub returns-in-Some-clause-any_moment : goal.returns-in-Some-clause-any_moment
-returns-in-Some-clause-any_moment c = λ ms d next s t. c.deliver-line.ensures.any_moment ms d next s t
+pub returns-in-Some-clause-any_time : goal.returns-in-Some-clause-any_time
+returns-in-Some-clause-any_time c = λ ms d next s t. c.deliver-line.ensures.any_time ms d next s t

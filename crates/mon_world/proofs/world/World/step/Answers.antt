@@ -11,5 +11,5 @@ returns-clause-goes_on c = λ ms d events s.
 pub returns-clause-safe : goal.returns-clause-safe
 returns-clause-safe c = λ ms d events s. safe_after ms c.args.self.now d events c.args.event.now c.requires.fits s
 
-pub returns-clause-any_moment : goal.returns-clause-any_moment
-returns-clause-any_moment c = c.happen.ensures.any_moment
+pub returns-clause-any_time : goal.returns-clause-any_time
+returns-clause-any_time c = c.happen.ensures.any_time

@@ -1,4 +1,0 @@
-use Rattle.paxos_leader.proofs.answers.behind.Goals as goal
-
-pub returns : goal.returns
-returns c = λ i. record c.args.plan { tx = c.in_ok-append.ensures.ok i }

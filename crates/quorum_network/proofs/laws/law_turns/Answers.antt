@@ -1,6 +1,0 @@
-use Rattle.mon_node.proofs.Passing.{stood_then}
-use Rattle.quorum_network.proofs.EachTurn.{asked_in_time, kept_first, sends_messages, takes_timer}
-use Rattle.quorum_network.proofs.laws.law_turns.Goals as goal
-
-pub returns : goal.returns
-returns c = record { timers = takes_timer; waits = asked_in_time; keeps = stood_then; ends = kept_first; messages = sends_messages }
