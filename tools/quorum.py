@@ -61,12 +61,12 @@ class Quorum:
     def files(self, rank: int) -> list[str]:
         return [os.path.join(self.folder, f'store{rank}.{side}') for side in 'ab']
 
-    def words(self, rank: int, turns: str = MOST_TURNS) -> list[str]:
+    def arguments(self, rank: int, turns: str = MOST_TURNS) -> list[str]:
         addresses = ','.join(f'{host}:{port}' for host, port in self.addresses)
         return [self.program, 'node', str(rank), str(len(self.addresses)), self.rule, addresses, *self.files(rank), turns]
 
     def start(self, rank: int):
-        self.running[rank] = subprocess.Popen(self.words(rank), stdin=subprocess.DEVNULL, env={'CEPHMON_LOG': 'off', **os.environ})
+        self.running[rank] = subprocess.Popen(self.arguments(rank), stdin=subprocess.DEVNULL, env={'CEPHMON_LOG': 'off', **os.environ})
 
     def start_all(self):
         for rank in self.ranks():

@@ -127,10 +127,10 @@ def outcomes(seed: int, events: int, every: int, program: str | None, longest: c
     return found + ['stopped' if play.stop else outcome(seed, schedule, play, program, longest)]
 
 
-def main(words: list[str]) -> int:
-    first, count, events = map(int, words[:3])
-    every = int(words[3]) if len(words) > 3 else events
-    program = words[4] if len(words) > 4 else None
+def main(arguments: list[str]) -> int:
+    first, count, events = map(int, arguments[:3])
+    every = int(arguments[3]) if len(arguments) > 3 else events
+    program = arguments[4] if len(arguments) > 4 else None
     found, longest = collections.Counter(), collections.Counter()
     for seed in range(first, first + count):
         for result in outcomes(seed, events, every, program, longest):

@@ -478,13 +478,13 @@ class Play:
             happened = apps(fn(SCENES, 'event_in'), self.ms, before, scheduled)
             rank = met.a[0]
             self.writes[rank] += apps(fn('quorum_model.specs.Runs', 'writes_of'), self.ms, before.d['world'], happened, rank)
-        self.scene, told = done.a[0].a
+        self.scene, outcome_line = done.a[0].a
         self.scene.d['world'] = flat(self.scene.d['world'], self.n)
         self.scene.d['files'] = tabled(self.scene.d['files'], self.n)
         self.events += 1
         self.trace.append('%d %s' % (self.events, line))
-        self.trace += lines_of(told)
-        outcome = told.d['outcome']
+        self.trace += lines_of(outcome_line)
+        outcome = outcome_line.d['outcome']
         if outcome.n in ('Crashed', 'Failed'):
             self.count(event, met, before, outcome)
         return True
@@ -561,7 +561,7 @@ def entry(log, v):
 VALUES = {}
 
 
-def spelled_value(log, c, r):
+def encoded_value(log, c, r):
     """The encoded value of a command that monitor r is asked when it has this log, or None if the command is refused."""
     key = log, c, r
     if key not in VALUES:
@@ -596,10 +596,10 @@ def unsafe(w, n, writes):
         if c.n == 'Some':
             asked[(c.a[0], a.d['rank'] if c.a[0].n == 'Log' else 0)] = (c.a[0], a.d['rank'], B(apps(incremental, a.d['rank'], c.a[0])))
     for v in range(len(log)):
-        spelled = B(entry(log, v + 1))
+        encoded = B(entry(log, v + 1))
         # Commands whose change is in the entry come first.
-        tried = sorted(asked.values(), key=lambda c: c[2] not in spelled)
-        if not any(spelled_value(log[:v], c, r) == spelled for c, r, _ in tried):
+        tried = sorted(asked.values(), key=lambda c: c[2] not in encoded)
+        if not any(encoded_value(log[:v], c, r) == encoded for c, r, _ in tried):
             bad.append(('asked', v))
     put_in = lambda s, v: apps(fn('mon_msg.specs.Fold', 'put_in'), s, app(fn('mon_tx.specs.Decode', 'ops_in'), entry(log, v)))
     active = fn(QM + 'Happens', 'is_active')

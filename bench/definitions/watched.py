@@ -89,8 +89,8 @@ def tried(seed: int, events: int, phases: collections.Counter) -> str | None:
     return None
 
 
-def main(words: list[str]) -> int:
-    first, count, events = map(int, words)
+def main(arguments: list[str]) -> int:
+    first, count, events = map(int, arguments)
     phases, faults = collections.Counter(), 0
     for seed in range(first, first + count):
         if found := tried(seed, events, phases):

@@ -120,15 +120,15 @@ class Apart(Quorum):
         self.process.kill()
         self.process.join()
 
-    def words(self, rank, turns=MOST_TURNS):
-        words = super().words(rank, turns)
+    def arguments(self, rank, turns=MOST_TURNS):
+        arguments = super().arguments(rank, turns)
         own = self.addresses[rank][1]
         ports = [own if rank == other else self.network.ports[rank][other] for other in self.ranks()]
-        words[5] = ','.join(f'127.0.0.1:{port}' for port in ports)
-        return words
+        arguments[5] = ','.join(f'127.0.0.1:{port}' for port in ports)
+        return arguments
 
 
-def words(about: str, seconds: float, **more):
+def arguments(about: str, seconds: float, **more):
     """Parses the arguments that each script takes: --program, --seconds, --monitors, --seed and --only. `more` has others: the default and the help of each."""
     parser = argparse.ArgumentParser(description=about, formatter_class=argparse.RawDescriptionHelpFormatter)
     parser.add_argument('--program', help='the built program (that of this repository, which is proved and built first)')
@@ -150,7 +150,7 @@ def judged(quorum, load, seconds=60):
     return wrong + [f'monitor {rank} has ended' for rank in quorum.ended()]
 
 
-def told(name, figures, wrong):
+def printed(name, figures, wrong):
     """Prints a line of figures, and one line per fault, eight at most. Returns whether there is a fault."""
     shown = ', '.join(f'{what} {value:.2f}' if isinstance(value, float) else f'{what} {value}' for what, value in figures.items())
     print(f'{name}: {shown}', flush=True)
