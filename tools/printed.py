@@ -4,7 +4,7 @@ from __future__ import annotations
 # By schedule: how many of its trace's last lines are kept (None: all), and how many columns of each line.
 PRINTED = {
     'limits': (None, 100),
-    'full_synchronisation': (123, 100),
+    'full_synchronization': (123, 100),
     'cases/bounds_of_trims': (15, 100),
     'cases/sets_beside_a_full_map': (113, 100),
     'cases/five_hundred_texts': (3, 5000),
