@@ -8,7 +8,8 @@ mod words;
 
 use crate::devices::{Channel, CountedDisk, Devices, FileDisks, devices_of};
 use crate::naming::{
-    FIRST_STANDSTILL, MonitorLink, lives, new_life, report_room, report_standstill, socket_of,
+    FIRST_STANDSTILL, MonitorLink, lives, new_life, report_room, report_standstill, room_line,
+    socket_of,
 };
 use crate::words::words_of;
 use cephmon_run::{Ended, Status, run};
@@ -139,9 +140,9 @@ fn run_over<L: Link>(rt: &HostRuntime, words: &[String], disks: FileDisks, link:
 /// Prints on standard error, before a client follows, if its socket has too little room for a long message.
 fn print_short_room(rt: &HostRuntime, link: &mut UdpLink<HostRuntime>) {
     if let Some(room) = link.short_room() {
-        let _ = eprintln!(rt;
-            "link: room for {room} bytes, less than a long message takes: raise net.core.rmem_max"
-        );
+        if let Ok(line) = room_line(rt.alloc(), room) {
+            let _ = eprintln!(rt; "{line}");
+        }
     }
 }
 

@@ -164,7 +164,9 @@ pub fn report_standstill(lines: &mut Lines, alloc: Global, most: u64, lived: u64
     next
 }
 
-fn room_line(alloc: Global, room: u32) -> Result<String, AllocError> {
+/// The line that a socket has room for this many bytes, which is too little for a long message. Returns an error if memory
+/// runs out.
+pub fn room_line(alloc: Global, room: u32) -> Result<String, AllocError> {
     let mut line = String::new(alloc);
     write!(
         line,

@@ -49,7 +49,8 @@ next_fits ms world k es n e rest so_far =
 pub is_world : (ms : Monitors) (world : World) (k : Counts) (es : List Event) (n : ℕ) → Counted ms world k es n → IsWorld world
 is_world ms world k es n so_far = (ms, so_far.next, so_far.stands)
 
-others_fit : (n : ℕ) (e : Event) (rest es : List Event) → rest ≡ e ∷ es → AllByRecursion (Fits n) rest → AllByRecursion (Fits n) es
+-- the events after the next one fit too
+pub others_fit : (n : ℕ) (e : Event) (rest es : List Event) → rest ≡ e ∷ es → AllByRecursion (Fits n) rest → AllByRecursion (Fits n) es
 others_fit n e rest es is fits = (subst (λ (es : List Event). AllByRecursion (Fits n) es) is fits).1
 
 -- one more event was

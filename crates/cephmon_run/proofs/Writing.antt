@@ -23,6 +23,7 @@ use Rattle.cephmon_run.specs.Trace.{Trace, after_lines, goes_on, trace_from}
 use Rattle.mon_world.specs.Represented.{Does, Fits, IsWorld, RepresentsScene}
 use Rattle.mon_world.specs.Stops.{Stops}
 use Rattle.cephmon_run.specs.Replay.{Did, Writes, fault_of}
+use Rattle.cephmon_run.proofs.Counting.{others_fit}
 
 -- ---- prefixes
 
@@ -129,10 +130,6 @@ next_fits ms world a b es n e rest so_far =
 
 pub is_world : (ms : Monitors) (world : World) (a b : Option (List ℕ)) (es : List Event) (n : ℕ) → ComesTo ms world a b es n → IsWorld world
 is_world ms world a b es n so_far = (ms, so_far.next, so_far.stands)
-
--- the events after the next one are run too
-others_fit : (n : ℕ) (e : Event) (rest es : List Event) → rest ≡ e ∷ es → AllByRecursion (Fits n) rest → AllByRecursion (Fits n) es
-others_fit n e rest es is fits = (subst (λ (es : List Event). AllByRecursion (Fits n) es) is fits).1
 
 -- one more event was done
 pub comes_on : (ms : Monitors) (world new : World) (a b c : Option (List ℕ)) (es : List Event) (n number : ℕ) (e : Event) → number ≡ suc n → drop n es ≡ e ∷ drop (n + 1) es

@@ -12,6 +12,7 @@ use Rattle.quorum_model.specs.Monitors.{Monitors}
 use Rattle.quorum_model.specs.Scenes.{Scheduled, events_of, first_scene}
 use Rattle.quorum_model.specs.World.{Envelope, World}
 use Rattle.quorum_model.proofs.Fitting.{all_fit}
+use Rattle.quorum_walk.proofs.Lists.{all_get}
 use Rattle.schedule_text.specs.declared.event.Event as schedule
 use Rattle.schedule_text.specs.declared.event.Event.TheVariants as events
 use Rattle.schedule_text.specs.declared.event.Plain.{Plain}
@@ -51,11 +52,6 @@ all_spoken ms es h = all_fit ms ms.count first_scene (map scheduled_of es) (each
 
 -- ---- arrivals
 
-slice_all : {A : Type 0} (P : A → Type 0) (xs : List A) (k : ℕ) → AllByRecursion P xs → IfSome (slice_get xs k) P
-slice_all P [] k h = tt
-slice_all P (x ∷ xs) zero h = h.0
-slice_all P (x ∷ xs) (suc k) h = slice_all P xs k h.1
-
 -- the arrival is at one of n monitors, and its input may come
 pub record MayMeet (n : ℕ) (a : Arrival) : Type 0 where
   pub rank : a.rank < n
@@ -64,7 +60,7 @@ pub record MayMeet (n : ℕ) (a : Arrival) : Type 0 where
 delivers : (n at : ℕ) (es : List Envelope) (k : ℕ) → AllByRecursion (MayArrive n) es
     → IfSome (Rattle.std.specs.Option.option_map (λ (e : Envelope). record { rank = e.to; at = at; input = input.Deliver e.message }) (message_at es k)) (MayMeet n)
 delivers n at es zero h = tt
-delivers n at es (suc k) h = by (slice_get es k) (slice_all (MayArrive n) es k h)
+delivers n at es (suc k) h = by (slice_get es k) (all_get (MayArrive n) es k h)
   where
     by : (found : Option Envelope) → IfSome found (MayArrive n)
         → IfSome (Rattle.std.specs.Option.option_map (λ (e : Envelope). record { rank = e.to; at = at; input = input.Deliver e.message }) found) (MayMeet n)

@@ -24,7 +24,7 @@ pub record Chosen (n : ℕ) (g : Ghost) (v : ℕ) (x : List Op) : Type 0 where
   pub below : Below n by
   pub all : (m : ℕ) → has by m ≡ true → Accepted g m v pn x
 
-same_text : (x y : List Op) → (text x ≡ text y) ⊎ (text x ≡ text y → ⊥)
+pub same_text : (x y : List Op) → (text x ≡ text y) ⊎ (text x ≡ text y → ⊥)
 same_text x y = by (bytes_eq (text x) (text y)) refl
   where
     by : (b : Bool) → bytes_eq (text x) (text y) ≡ b → (text x ≡ text y) ⊎ (text x ≡ text y → ⊥)

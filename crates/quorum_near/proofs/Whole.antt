@@ -9,7 +9,7 @@ use Rattle.mon_tx.specs.Text.{text}
 use Rattle.mon_tx.specs.declared.op.Op.{Op}
 use Rattle.mon_types.specs.Ranks.{count_of, has}
 use Rattle.quorum_agreement.proofs.Beginning.{at_first}
-use Rattle.quorum_agreement.proofs.Chosen.{Chosen, IsEntry}
+use Rattle.quorum_agreement.proofs.Chosen.{Chosen, IsEntry, same_text}
 use Rattle.quorum_agreement.proofs.Grown.{GrowsByOne}
 use Rattle.quorum_agreement.proofs.Invariant.{EnvelopeMatches, LogHolds, OfLog, remembers}
 use Rattle.quorum_agreement.proofs.LoneWorlds.{LoneHolds}
@@ -37,9 +37,7 @@ use Rattle.quorum_walk.proofs.Sparing.{own_of}
 use Rattle.std.proofs.Common.{Bool, Err, List, Ok, Result, ap, arith, cond, false, inl, inr, length, refl, subst, suc, sym, true, zero, ℕ, ◌*◌, ◌+◌, ◌<◌, ◌∙◌, ◌≡◌, ◌≤◌, ◌⊎◌}
 use Rattle.std.proofs.lemmas.Bool.{cases_lt, cases_order, false≢true, lt-ltb}
 use Rattle.std.proofs.lemmas.List.Sums.{sum_by-cons}
-use Rattle.std.proofs.lemmas.Slice.Eq.{bytes_eq-Decides}
 use Rattle.std.specs.Prelude.{IfOk, replicate}
-use Rattle.std.specs.Str.{bytes_eq}
 
 -- ---- every run
 
@@ -93,13 +91,6 @@ last_read m = refl
 pub mark_read : (m : Store) → (readings_of m).marked ≡ is_marked m
 unfolding readings_of
 mark_read m = refl
-
-same_text : (x y : List Op) → (text x ≡ text y) ⊎ (text x ≡ text y → ⊥)
-same_text x y = by (bytes_eq (text x) (text y)) refl
-  where
-    by : (b : Bool) → bytes_eq (text x) (text y) ≡ b → (text x ≡ text y) ⊎ (text x ≡ text y → ⊥)
-    by true e = inl ((bytes_eq-Decides (text x) (text y)).0 e)
-    by false e = inr (λ q. false≢true (sym e ∙ (bytes_eq-Decides (text x) (text y)).1 q))
 
 -- what is accepted under no lower number is what was chosen
 accepted_same : (n : ℕ) (g : Ghost) → TriplesHold n g.signs g.accepts → (v : ℕ) (x : List Op) (C : Chosen n g v x) (i p : ℕ) (y : List Op) → Accepted g i v p y → C.pn ≤ p → has C.by i ≡ true → text y ≡ text x

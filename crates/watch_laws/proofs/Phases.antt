@@ -3,7 +3,7 @@ use Rattle.mon_bytes.specs.declared.entry.Entry.{Entry}
 use Rattle.mon_decode.specs.Headers.{kind_in}
 use Rattle.mon_msg.specs.Protocol.Answers.{answer_of, last_answer, is_complete, told_of, sent_values}
 use Rattle.mon_msg.specs.Protocol.Entering.{is_even}
-use Rattle.mon_msg.specs.Protocol.Phases.{is_member, is_peon, same_phase, votes}
+use Rattle.mon_msg.specs.Protocol.Phases.{is_member, same_phase, votes}
 use Rattle.mon_msg.specs.Protocol.Providing.{chunk, given_entries, given_values, is_finished, reach}
 use Rattle.mon_msg.specs.Protocol.Readings.{Readings, promise_of}
 use Rattle.mon_msg.specs.Protocol.Records.{pending}
@@ -20,39 +20,6 @@ use Rattle.std.proofs.Common.{List, None, Some, ap, arith, false, inl, inr, ltb,
 use Rattle.std.proofs.lemmas.Bool.{cond_both, ltb-false}
 
 -- ---- phases that tests name
-
-pub active_is : (p : Phase) → same_phase p phase.Active ≡ true → p ≡ phase.Active
-active_is phase.Active e = refl
-active_is phase.Booting e = no e
-active_is phase.Probing e = no e
-active_is phase.Synchronizing e = no e
-active_is phase.Electing e = no e
-active_is phase.Collecting e = no e
-active_is phase.Previous e = no e
-active_is phase.Updating e = no e
-active_is phase.Peon e = no e
-
-pub peon_is : (p : Phase) → is_peon p ≡ true → p ≡ phase.Peon
-peon_is phase.Peon e = refl
-peon_is phase.Booting e = no e
-peon_is phase.Probing e = no e
-peon_is phase.Synchronizing e = no e
-peon_is phase.Electing e = no e
-peon_is phase.Collecting e = no e
-peon_is phase.Previous e = no e
-peon_is phase.Active e = no e
-peon_is phase.Updating e = no e
-
-pub collecting_is : (p : Phase) → (same_phase p phase.Collecting || false) ≡ true → p ≡ phase.Collecting
-collecting_is phase.Collecting e = refl
-collecting_is phase.Booting e = no e
-collecting_is phase.Probing e = no e
-collecting_is phase.Synchronizing e = no e
-collecting_is phase.Electing e = no e
-collecting_is phase.Previous e = no e
-collecting_is phase.Active e = no e
-collecting_is phase.Updating e = no e
-collecting_is phase.Peon e = no e
 
 pub accepted_is : (p : Phase) → (same_phase p phase.Previous || (same_phase p phase.Updating || false)) ≡ true → (p ≡ phase.Previous) ⊎ (p ≡ phase.Updating)
 accepted_is phase.Previous e = inl refl

@@ -71,7 +71,7 @@ use Rattle.mon_wire.specs.declared.reply.Reply.{Reply}
 use Rattle.mon_wire.specs.declared.request.Request.TheVariants as request
 use Rattle.mon_wire.specs.declared.request.Request.{Request}
 use Rattle.mon_wire.specs.declared.request.Session.{Session}
-use Rattle.quorum_history.proofs.Phases.{electing_is}
+use Rattle.quorum_history.proofs.Phases.{active_is, collecting_is, electing_is, peon_is_peon}
 use Rattle.quorum_walk.proofs.FineCourses.{BodyFine, EntryFine, Made, RecordsFine, Val}
 use Rattle.quorum_walk.proofs.FineReading.{all_spare, entries_spare, step_of_fine}
 use Rattle.quorum_walk.proofs.FineTable.{ComesFine}
@@ -85,7 +85,7 @@ use Rattle.std.specs.List.{AllByRecursion, filter}
 use Rattle.std.specs.Prelude.{is_some, slice_index_or, slice_set}
 use Rattle.watch_laws.proofs.Acts as acts
 use Rattle.watch_laws.proofs.Acts.{Kept, learns_sparing, then_map}
-use Rattle.watch_laws.proofs.Phases.{accepted_is, active_is, answer_is, chunk_silent, collecting_is, peon_is, same_parity, votes_electing}
+use Rattle.watch_laws.proofs.Phases.{accepted_is, answer_is, chunk_silent, same_parity, votes_electing}
 use Rattle.watch_laws.proofs.Showing.{At, IsIdle, IsSilent, Shown, all, idle_alone, saying, shown_by, shown_one, source_one}
 use Rattle.watch_laws.specs.Watching.{ReadsShort}
 
@@ -202,7 +202,7 @@ module _ (me : Me) (now : ℕ) (is_read : Message → Bool) (R : ReadsShort is_r
       answers now_in same b r = by (is_read (saying me now_in b))
         where
           by : (c : Bool) → Now (cond c (after_header me.member.rank f (Some (heading (saying me now_in b))) seen) seen) now_in s.phase
-          by true = subst (Now (after_header me.member.rank f (Some (heading (saying me now_in b))) seen) now_in) (sym (peon_is s.phase peon))
+          by true = subst (Now (after_header me.member.rank f (Some (heading (saying me now_in b))) seen) now_in) (sym (peon_is_peon s.phase peon))
               (inr (shown_by me is_read phase.Peon now_in (Some s.peon.leader) (saying me now_in b) f refl (ap Some its_leader) true refl (shown_in (kind_in b)) r seen))
           by false = subst (λ (z : ℕ). Now seen z s.phase) (sym same) K
 
