@@ -1,6 +1,6 @@
 //! The header of a message, and the numbers that its body begins with.
 
-ghost use Rattle.std.specs.Prelude.{◌≡◌, ℕ, false, IfErr};
+ghost use Rattle.std.specs.Prelude.{◌≡◌, ◌≤◌, ℕ, false, IfErr};
 ghost use Rattle.mon_decode.specs.Headers.{ReadsHeaders, header_at, header_of, kind_byte, none_at, numbers_at, one_at, range_at, ranks_at, same_kind, two_at};
 ghost use Rattle.mon_wire.specs.Message.Format.{Reads, no_memory};
 
@@ -32,9 +32,10 @@ pub struct Header {
     pub second: u64,
 }
 
-/// The byte of a kind.
-fn kind_byte(kind: Kind) -> u8
-    ensures { result ≡ kind_byte kind }
+/// The byte of a kind in a message, from 1 to 25.
+pub fn kind_byte(kind: Kind) -> u8
+    ensures byte { result ≡ kind_byte kind }
+    ensures most { result ≤ 25 }
 {
     match kind {
         Kind::Probe => 1,

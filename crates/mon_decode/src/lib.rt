@@ -11,6 +11,6 @@ mod read_parts;
 mod read_scores;
 mod reading;
 
-pub use header::{Header, law_header, read_header, same_kind};
+pub use header::{Header, kind_byte, law_header, read_header, same_kind};
 pub use mon_wire::{MsgKind, MsgRefused};
-pub use reading::decode;
+pub use reading::{decode, kind_of};

@@ -44,7 +44,8 @@ const KINDS: [Kind; 25] = [
     Kind::Reply,
 ];
 
-pub(crate) fn kind_of(byte: u8) -> Kind
+/// The kind whose messages have this byte, which is from 1 to 25.
+pub fn kind_of(byte: u8) -> Kind
     requires low { 1 ≤ byte }
     requires high { byte ≤ 25 }
     ensures { result ≡ kind_of byte }

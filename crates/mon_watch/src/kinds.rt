@@ -3,39 +3,11 @@
 ghost use Rattle.std.specs.Prelude.{◌≡◌};
 ghost use Rattle.mon_watch.specs.Kinds.{kind_at, kind_named};
 
+use mon_decode::kind_of;
 use mon_wire::Kind;
 
 /// The byte with which each message begins.
 pub const FORMAT: u8 = 1;
-
-/// The kinds, by their bytes from 1 on.
-const KINDS: [Kind; 25] = [
-    Kind::Probe,
-    Kind::ProbeReply,
-    Kind::Propose,
-    Kind::Ack,
-    Kind::Victory,
-    Kind::Collect,
-    Kind::Last,
-    Kind::Begin,
-    Kind::Accept,
-    Kind::Commit,
-    Kind::Lease,
-    Kind::LeaseAck,
-    Kind::Forward,
-    Kind::Route,
-    Kind::GetCookieFull,
-    Kind::GetCookieRecent,
-    Kind::Cookie,
-    Kind::GetChunk,
-    Kind::Chunk,
-    Kind::LastChunk,
-    Kind::NoCookie,
-    Kind::Ping,
-    Kind::PingReply,
-    Kind::Request,
-    Kind::Reply,
-];
 
 fn kind_at(byte: u8) -> Option<Kind>
     ensures { result ≡ kind_at byte }
@@ -43,7 +15,7 @@ fn kind_at(byte: u8) -> Option<Kind>
     if byte == 0 || byte > 25 {
         return None;
     }
-    Some(KINDS[usize::from(byte) - 1])
+    Some(kind_of(byte))
 }
 
 /// The kind that the first two bytes of a datagram name; `None` if it isn't the beginning of a message.

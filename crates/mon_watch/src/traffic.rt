@@ -1,8 +1,8 @@
 ghost use Rattle.std.specs.Prelude.{◌≡◌, ◌≤◌, IfSome};
-ghost use Rattle.mon_decode.specs.Headers.{kind_byte};
 ghost use Rattle.mon_frag.specs.Headers.{is_piece};
 ghost use Rattle.mon_watch.specs.Traffic.{counted_at, no_traffic, place, with_received, with_sent};
 
+use mon_decode::kind_byte;
 use mon_frag::PIECE;
 use mon_wire::Kind;
 
@@ -13,39 +13,6 @@ pub struct Traffic {
     pub sent: [u64; 26],
     pub received: [u64; 26],
     pub refused: u64,
-}
-
-fn byte_of(kind: Kind) -> usize
-    ensures byte { result ≡ kind_byte kind }
-    ensures most { result ≤ 25 }
-{
-    match kind {
-        Kind::Probe => 1,
-        Kind::ProbeReply => 2,
-        Kind::Propose => 3,
-        Kind::Ack => 4,
-        Kind::Victory => 5,
-        Kind::Collect => 6,
-        Kind::Last => 7,
-        Kind::Begin => 8,
-        Kind::Accept => 9,
-        Kind::Commit => 10,
-        Kind::Lease => 11,
-        Kind::LeaseAck => 12,
-        Kind::Forward => 13,
-        Kind::Route => 14,
-        Kind::GetCookieFull => 15,
-        Kind::GetCookieRecent => 16,
-        Kind::Cookie => 17,
-        Kind::GetChunk => 18,
-        Kind::Chunk => 19,
-        Kind::LastChunk => 20,
-        Kind::NoCookie => 21,
-        Kind::Ping => 22,
-        Kind::PingReply => 23,
-        Kind::Request => 24,
-        Kind::Reply => 25,
-    }
 }
 
 /// Whether a datagram is a piece of a long message.
@@ -63,7 +30,7 @@ fn place(bytes: &[u8], kind: Option<Kind>) -> Option<usize>
     ensures most { IfSome result (λ k. k ≤ 25) }
 {
     match kind {
-        Some(kind) => Some(byte_of(kind)),
+        Some(kind) => Some(usize::from(kind_byte(kind))),
         None => { if is_piece(bytes) { Some(0) } else { None } }
     }
 }
