@@ -23,9 +23,9 @@ use Rattle.log_copies.proofs.Given.{given}
 use Rattle.log_copies.specs.Versions.{HasVersions}
 use Rattle.mon_msg.specs.Protocol.Sending.{message_to, reply_to}
 use Rattle.mon_wire.specs.declared.request.Session.{Session}
-use Rattle.mon_msg.specs.declared.synchronisation.Requester.{Requester}
-use Rattle.mon_msg.specs.declared.synchronisation.SyncStage.{SyncStage}
-use Rattle.mon_msg.specs.declared.synchronisation.SyncStage.TheVariants as sync
+use Rattle.mon_msg.specs.declared.synchronization.Requester.{Requester}
+use Rattle.mon_msg.specs.declared.synchronization.SyncStage.{SyncStage}
+use Rattle.mon_msg.specs.declared.synchronization.SyncStage.TheVariants as sync
 use Rattle.mon_msg.specs.declared.view.Me.{Me}
 use Rattle.mon_msg.specs.Protocol.Chunks.{takes_chunks, is_ours, copy, next_place, take, hear_chunk, replay_or_end, hear_last_chunk}
 use Rattle.mon_msg.specs.Protocol.Commands.{hear_route}

@@ -26,8 +26,8 @@ use Rattle.mon_msg.specs.declared.input.Input.{Input}
 use Rattle.mon_msg.specs.declared.input.Input.TheVariants as input
 use Rattle.mon_msg.specs.declared.plan.Sent.{Sent}
 use Rattle.mon_msg.specs.declared.plan.Sent.TheVariants as sent
-use Rattle.mon_msg.specs.declared.synchronisation.SyncStage.{SyncStage}
-use Rattle.mon_msg.specs.declared.synchronisation.SyncStage.TheVariants as sync
+use Rattle.mon_msg.specs.declared.synchronization.SyncStage.{SyncStage}
+use Rattle.mon_msg.specs.declared.synchronization.SyncStage.TheVariants as sync
 use Rattle.mon_msg.specs.declared.view.Me.{Me}
 use Rattle.mon_msg.specs.Protocol.Chunks.{is_ours, copy, next_place, take, hear_chunk, replay_or_end, hear_last_chunk}
 use Rattle.mon_msg.specs.Protocol.Commands.{ask, hear_forward, hear_route, propose_due}

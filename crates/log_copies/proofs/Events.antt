@@ -17,7 +17,7 @@ use Rattle.mon_wire.specs.declared.phase.Timer.TheVariants as timer
 use Rattle.mon_wire.specs.declared.reply.Reply.TheVariants as reply
 use Rattle.mon_msg.specs.declared.input.Input.{Input}
 use Rattle.mon_msg.specs.declared.input.Input.TheVariants as input
-use Rattle.mon_msg.specs.declared.synchronisation.Requester.{Requester}
+use Rattle.mon_msg.specs.declared.synchronization.Requester.{Requester}
 use Rattle.mon_msg.specs.declared.view.Me.{Me}
 use Rattle.mon_bytes.specs.declared.entry.Entry.{Entry}
 use Rattle.mon_msg.specs.Joined.{joined}

@@ -16,8 +16,8 @@ use Rattle.mon_msg.specs.Joined.{joined}
 use Rattle.mon_msg.specs.Protocol.Changes.{Learn, Last, encoded}
 use Rattle.mon_msg.specs.Protocol.Readings.{Readings}
 use Rattle.mon_msg.specs.Protocol.State.{State}
-use Rattle.mon_msg.specs.declared.synchronisation.SyncStage.{SyncStage}
-use Rattle.mon_msg.specs.declared.synchronisation.SyncStage.TheVariants as sync
+use Rattle.mon_msg.specs.declared.synchronization.SyncStage.{SyncStage}
+use Rattle.mon_msg.specs.declared.synchronization.SyncStage.TheVariants as sync
 use Rattle.log_copies.specs.Copies.{IsFolded, IsRecord, IsFuzzyCopy}
 use Rattle.log_copies.specs.Versions.{HasVersions}
 use Rattle.log_copies.proofs.Chunks.{between, Continues, ChunkOf}

@@ -32,8 +32,8 @@ use Rattle.mon_msg.specs.Protocol.Records.{pending_of, found_as, record_at}
 use Rattle.mon_msg.specs.Protocol.State.{State}
 use Rattle.mon_msg.specs.Protocol.Synchronizing.{pending_version, floor_of}
 use Rattle.mon_msg.specs.Protocol.Table.{at_rest}
-use Rattle.mon_msg.specs.declared.synchronisation.SyncStage.{SyncStage}
-use Rattle.mon_msg.specs.declared.synchronisation.SyncStage.TheVariants as sync
+use Rattle.mon_msg.specs.declared.synchronization.SyncStage.{SyncStage}
+use Rattle.mon_msg.specs.declared.synchronization.SyncStage.TheVariants as sync
 use Rattle.mon_msg.proofs.Joining.{apply-joined}
 use Rattle.log_copies.specs.Copies.{IsFuzzyCopy, shared_with_records}
 use Rattle.log_copies.specs.Synchronizing.{IsShaped, written, SameNumbers, IsSynchronized}

@@ -14,9 +14,9 @@ use Rattle.mon_msg.specs.declared.paxos.Leader.{Leader}
 use Rattle.mon_msg.specs.declared.paxos.Peon.{Peon}
 use Rattle.mon_msg.specs.declared.plan.Origin.TheVariants as origin
 use Rattle.mon_msg.specs.declared.plan.Origin.{Origin}
-use Rattle.mon_msg.specs.declared.synchronisation.Requester.{Requester}
-use Rattle.mon_msg.specs.declared.synchronisation.SyncStage.TheVariants as sync
-use Rattle.mon_msg.specs.declared.synchronisation.SyncStage.{SyncStage}
+use Rattle.mon_msg.specs.declared.synchronization.Requester.{Requester}
+use Rattle.mon_msg.specs.declared.synchronization.SyncStage.TheVariants as sync
+use Rattle.mon_msg.specs.declared.synchronization.SyncStage.{SyncStage}
 use Rattle.mon_msg.specs.declared.view.Me.{Me}
 use Rattle.mon_tx.specs.Decode.{HasText}
 use Rattle.mon_tx.specs.Text.{text}

@@ -9,8 +9,8 @@ use Rattle.mon_msg.specs.declared.election.Elector.{Elector}
 use Rattle.mon_msg.specs.declared.paxos.Leader.{Leader}
 use Rattle.mon_msg.specs.declared.paxos.Peon.{Peon}
 use Rattle.mon_msg.specs.declared.election.Prober.{Prober}
-use Rattle.mon_msg.specs.declared.synchronisation.Provider.{Provider}
-use Rattle.mon_msg.specs.declared.synchronisation.Requester.{Requester}
+use Rattle.mon_msg.specs.declared.synchronization.Provider.{Provider}
+use Rattle.mon_msg.specs.declared.synchronization.Requester.{Requester}
 use Rattle.mon_msg.specs.declared.plan.Next.TheVariants as next
 use Rattle.mon_msg.specs.declared.plan.Next.{Next}
 use Rattle.mon_msg.specs.declared.plan.Plan.{Plan}

@@ -9,7 +9,7 @@ mod laws;
 mod limits;
 mod paxos;
 pub mod plan;
-mod synchronisation;
+mod synchronization;
 mod view;
 
 pub use clients::{Asked, Clients, Waiting};
@@ -25,5 +25,5 @@ pub use mon_wire::{
 };
 pub use paxos::{Found, Leader, LeaderStage, Peon};
 pub use plan::{Arming, Next, Origin, Plan, RoleStop};
-pub use synchronisation::{Provider, Requester, SyncStage};
+pub use synchronization::{Provider, Requester, SyncStage};
 pub use view::{Me, View};

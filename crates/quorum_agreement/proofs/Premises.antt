@@ -6,8 +6,8 @@ use Rattle.mon_msg.specs.Protocol.Phases.{is_leading, same_phase, votes}
 use Rattle.mon_msg.specs.Protocol.Readings.{Readings, epoch_of}
 use Rattle.mon_msg.specs.Protocol.Sets.{are_within}
 use Rattle.mon_msg.specs.Protocol.State.{State}
-use Rattle.mon_msg.specs.declared.synchronisation.SyncStage.TheVariants as sync
-use Rattle.mon_msg.specs.declared.synchronisation.SyncStage.{SyncStage}
+use Rattle.mon_msg.specs.declared.synchronization.SyncStage.TheVariants as sync
+use Rattle.mon_msg.specs.declared.synchronization.SyncStage.{SyncStage}
 use Rattle.mon_msg.specs.declared.view.Me.{Me}
 use Rattle.mon_tx.specs.Decision.{Cell}
 use Rattle.mon_tx.specs.declared.op.Op.{Op}

@@ -34,8 +34,8 @@ use Rattle.mon_msg.specs.declared.input.Input.TheVariants as input
 use Rattle.mon_msg.specs.declared.input.Input.{Input}
 use Rattle.mon_msg.specs.declared.plan.Sent.TheVariants as sent
 use Rattle.mon_msg.specs.declared.plan.Sent.{Sent}
-use Rattle.mon_msg.specs.declared.synchronisation.SyncStage.TheVariants as sync
-use Rattle.mon_msg.specs.declared.synchronisation.SyncStage.{SyncStage}
+use Rattle.mon_msg.specs.declared.synchronization.SyncStage.TheVariants as sync
+use Rattle.mon_msg.specs.declared.synchronization.SyncStage.{SyncStage}
 use Rattle.mon_msg.specs.declared.view.Me.{Me}
 use Rattle.mon_tx.specs.declared.op.Op.{Op}
 use Rattle.mon_types.specs.Ranks.{count_of, has, with_rank, is_majority}

@@ -15,8 +15,8 @@ use Rattle.mon_kv.specs.Readers.{entry_size, most_size, size_of}
 use Rattle.mon_msg.specs.Fold.{fold}
 use Rattle.mon_msg.specs.Protocol.Readings.{Readings, readings_of}
 use Rattle.mon_msg.specs.Protocol.State.{State}
-use Rattle.mon_msg.specs.declared.synchronisation.SyncStage.TheVariants as sync
-use Rattle.mon_msg.specs.declared.synchronisation.SyncStage.{SyncStage}
+use Rattle.mon_msg.specs.declared.synchronization.SyncStage.TheVariants as sync
+use Rattle.mon_msg.specs.declared.synchronization.SyncStage.{SyncStage}
 use Rattle.mon_tx.proofs.Places.{places_total}
 use Rattle.mon_tx.specs.Keys.{is_local, number, shared}
 use Rattle.mon_tx.specs.Map.{Place, Store, place_cmp}

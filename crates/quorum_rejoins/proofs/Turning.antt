@@ -7,8 +7,8 @@ use Rattle.mon_msg.specs.Protocol.Probing.{lag}
 use Rattle.mon_msg.specs.Protocol.Readings.{Readings, epoch_of, epoch_or_first, readings_of, shared_entries}
 use Rattle.mon_msg.specs.Protocol.Records.{record_at}
 use Rattle.mon_msg.specs.Protocol.Synchronizing.{floor_of}
-use Rattle.mon_msg.specs.declared.synchronisation.SyncStage.TheVariants as sync
-use Rattle.mon_msg.specs.declared.synchronisation.SyncStage.{SyncStage}
+use Rattle.mon_msg.specs.declared.synchronization.SyncStage.TheVariants as sync
+use Rattle.mon_msg.specs.declared.synchronization.SyncStage.{SyncStage}
 use Rattle.mon_tx.specs.Keys.{cell}
 use Rattle.mon_tx.specs.Map.{Store}
 use Rattle.mon_tx.specs.Text.{text}

@@ -13,8 +13,8 @@ use Rattle.mon_msg.specs.Protocol.Played.{IsShort, played}
 use Rattle.mon_msg.specs.Protocol.Providing.{chunk, chunk_with, given_entries, given_values, grant, hear_get_chunk, hear_get_cookie_full, hear_get_cookie_recent, is_finished, reach}
 use Rattle.mon_msg.specs.Protocol.Records.{longest, run_from}
 use Rattle.mon_msg.specs.Protocol.Replay.{replay_any, replay_step, step_in, step_of}
-use Rattle.mon_msg.specs.declared.synchronisation.SyncStage.TheVariants as sync
-use Rattle.mon_msg.specs.declared.synchronisation.SyncStage.{SyncStage}
+use Rattle.mon_msg.specs.declared.synchronization.SyncStage.TheVariants as sync
+use Rattle.mon_msg.specs.declared.synchronization.SyncStage.{SyncStage}
 use Rattle.mon_msg.specs.declared.view.Me.{Me}
 use Rattle.mon_tx.specs.Decision.{Cell}
 use Rattle.mon_tx.specs.Keys.{shared}

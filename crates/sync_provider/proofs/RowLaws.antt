@@ -13,7 +13,7 @@ use Rattle.mon_msg.specs.Protocol.Sending.{message_to, send}
 use Rattle.mon_msg.specs.declared.plan.Next.TheVariants as next
 use Rattle.mon_msg.specs.declared.plan.Plan.{Plan}
 use Rattle.mon_msg.specs.declared.plan.Sent.{Sent}
-use Rattle.mon_msg.specs.declared.synchronisation.Provider.{Provider}
+use Rattle.mon_msg.specs.declared.synchronization.Provider.{Provider}
 use Rattle.mon_msg.specs.declared.view.Me.{Me}
 use Rattle.mon_plan.specs.Plans.{done}
 use Rattle.mon_types.specs.declared.names.Which.TheVariants as which

@@ -9,7 +9,7 @@ use Rattle.mon_msg.specs.declared.input.Input.TheVariants as input
 use Rattle.mon_msg.specs.declared.input.Input.{Input}
 use Rattle.mon_msg.specs.declared.plan.Plan.{Plan}
 use Rattle.mon_msg.specs.declared.plan.RoleStop.{RoleStop}
-use Rattle.mon_msg.specs.declared.synchronisation.Provider.{Provider}
+use Rattle.mon_msg.specs.declared.synchronization.Provider.{Provider}
 use Rattle.mon_plan.specs.Plans.{PlansRow}
 use Rattle.mon_tx.specs.Map.{Store}
 use Rattle.mon_types.specs.declared.names.Which.{Which}

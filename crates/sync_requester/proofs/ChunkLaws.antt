@@ -19,8 +19,8 @@ use Rattle.mon_msg.specs.declared.plan.Next.TheVariants as next
 use Rattle.mon_msg.specs.declared.plan.Plan.{Plan}
 use Rattle.mon_msg.specs.declared.plan.RoleStop.TheVariants as stop
 use Rattle.mon_msg.specs.declared.plan.RoleStop.{RoleStop}
-use Rattle.mon_msg.specs.declared.synchronisation.Requester.{Requester}
-use Rattle.mon_msg.specs.declared.synchronisation.SyncStage.TheVariants as sync
+use Rattle.mon_msg.specs.declared.synchronization.Requester.{Requester}
+use Rattle.mon_msg.specs.declared.synchronization.SyncStage.TheVariants as sync
 use Rattle.mon_msg.specs.declared.view.Me.{Me}
 use Rattle.mon_plan.proofs.Planning.{changed-is, changed-readings, changed-state, changes-append, encoded-append}
 use Rattle.mon_plan.specs.Learned.{Learns}

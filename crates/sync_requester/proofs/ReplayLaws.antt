@@ -16,8 +16,8 @@ use Rattle.mon_msg.specs.Protocol.Timers.{length_of}
 use Rattle.mon_msg.specs.declared.plan.Arming.TheVariants as arming
 use Rattle.mon_msg.specs.declared.plan.Next.TheVariants as next
 use Rattle.mon_msg.specs.declared.plan.Plan.{Plan}
-use Rattle.mon_msg.specs.declared.synchronisation.Requester.{Requester}
-use Rattle.mon_msg.specs.declared.synchronisation.SyncStage.TheVariants as sync
+use Rattle.mon_msg.specs.declared.synchronization.Requester.{Requester}
+use Rattle.mon_msg.specs.declared.synchronization.SyncStage.TheVariants as sync
 use Rattle.mon_msg.specs.declared.view.Me.{Me}
 use Rattle.mon_plan.proofs.Kept.{kept-requester}
 use Rattle.mon_plan.proofs.Learning.{learned-fit}

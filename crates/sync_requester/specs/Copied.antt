@@ -8,7 +8,7 @@ use Rattle.mon_msg.specs.Protocol.Course.{Course, requester_is}
 use Rattle.mon_msg.specs.Protocol.Played.{Fits}
 use Rattle.mon_msg.specs.declared.plan.RoleStop.TheVariants as stop
 use Rattle.mon_msg.specs.declared.plan.RoleStop.{RoleStop}
-use Rattle.mon_msg.specs.declared.synchronisation.Requester.{Requester}
+use Rattle.mon_msg.specs.declared.synchronization.Requester.{Requester}
 use Rattle.mon_tx.specs.declared.op.Op.{Op}
 use Rattle.mon_wire.specs.declared.parts.Place.{Place}
 use Rattle.mon_plan.specs.Learned.{learned}

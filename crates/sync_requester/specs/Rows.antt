@@ -5,7 +5,7 @@ use Rattle.mon_msg.specs.Protocol.Course.{Course, requester_is}
 use Rattle.mon_msg.specs.Protocol.Readings.{Readings, epoch_of, readings_of}
 use Rattle.mon_msg.specs.declared.plan.Plan.{Plan}
 use Rattle.mon_msg.specs.declared.plan.RoleStop.{RoleStop}
-use Rattle.mon_msg.specs.declared.synchronisation.Requester.{Requester}
+use Rattle.mon_msg.specs.declared.synchronization.Requester.{Requester}
 use Rattle.mon_msg.specs.declared.view.View.{View}
 use Rattle.mon_plan.specs.Plans.{PlansRow}
 use Rattle.mon_plan.specs.Seen.{IsMet}

@@ -16,8 +16,8 @@ use Rattle.mon_msg.specs.declared.paxos.Peon.{Peon}
 use Rattle.mon_wire.specs.declared.phase.Phase.{Phase}
 use Rattle.mon_wire.specs.declared.phase.Timer.{Timer}
 use Rattle.mon_msg.specs.declared.plan.Sent.{Sent}
-use Rattle.mon_msg.specs.declared.synchronisation.Provider.{Provider}
-use Rattle.mon_msg.specs.declared.synchronisation.Requester.{Requester}
+use Rattle.mon_msg.specs.declared.synchronization.Provider.{Provider}
+use Rattle.mon_msg.specs.declared.synchronization.Requester.{Requester}
 use Rattle.mon_types.specs.declared.names.Which.{Which}
 
 -- What the store's readers return after the changes so far, these changes in order, what the monitor remembers, and what it

@@ -12,9 +12,9 @@ use Rattle.mon_msg.specs.declared.paxos.LeaderStage.TheVariants as stage
 use Rattle.mon_msg.specs.declared.paxos.Peon.{Peon}
 use Rattle.mon_wire.specs.declared.phase.Phase.TheVariants as phase
 use Rattle.mon_wire.specs.declared.phase.Phase.{Phase}
-use Rattle.mon_msg.specs.declared.synchronisation.Provider.{Provider}
-use Rattle.mon_msg.specs.declared.synchronisation.Requester.{Requester}
-use Rattle.mon_msg.specs.declared.synchronisation.SyncStage.TheVariants as sync
+use Rattle.mon_msg.specs.declared.synchronization.Provider.{Provider}
+use Rattle.mon_msg.specs.declared.synchronization.Requester.{Requester}
+use Rattle.mon_msg.specs.declared.synchronization.SyncStage.TheVariants as sync
 use Rattle.mon_types.specs.Ranks.{no_ranks}
 
 -- The phase, what each role remembers, and for each kind of timer, in their order, the time for which it is set. The state of

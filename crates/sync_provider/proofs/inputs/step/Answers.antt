@@ -6,7 +6,7 @@ use Rattle.mon_msg.specs.declared.input.Input.{Input}
 use Rattle.mon_msg.specs.declared.plan.Next.TheVariants as next
 use Rattle.mon_msg.specs.declared.plan.Next.{Next}
 use Rattle.mon_msg.specs.declared.plan.Plan.{Plan}
-use Rattle.mon_msg.specs.declared.synchronisation.Provider.{Provider}
+use Rattle.mon_msg.specs.declared.synchronization.Provider.{Provider}
 use Rattle.mon_plan.specs.Inputs.{row}
 use Rattle.mon_plan.specs.Leaves.{Leaves}
 use Rattle.mon_plan.specs.Plans.{PlansRow}

@@ -3,8 +3,8 @@ use Rattle.mon_msg.specs.Protocol.Course.{requester_is}
 use Rattle.mon_msg.specs.Protocol.Readings.{readings_of}
 use Rattle.mon_msg.specs.Protocol.Replay.{replay_step, step_in}
 use Rattle.mon_msg.specs.declared.plan.Next.TheVariants as next
-use Rattle.mon_msg.specs.declared.synchronisation.SyncStage.TheVariants as sync
-use Rattle.mon_msg.specs.declared.synchronisation.SyncStage.{SyncStage}
+use Rattle.mon_msg.specs.declared.synchronization.SyncStage.TheVariants as sync
+use Rattle.mon_msg.specs.declared.synchronization.SyncStage.{SyncStage}
 use Rattle.mon_plan.proofs.Planning.{instead, weaken}
 use Rattle.mon_plan.specs.Seen.{IsMet}
 use Rattle.sync_requester.specs.Rows.{Holds}

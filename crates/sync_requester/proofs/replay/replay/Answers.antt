@@ -6,7 +6,7 @@ use Rattle.mon_msg.specs.Protocol.Learning.{learn_changes}
 use Rattle.mon_msg.specs.Protocol.Readings.{readings_of}
 use Rattle.mon_msg.specs.Protocol.Replay.{step_in}
 use Rattle.mon_msg.specs.declared.plan.Next.TheVariants as next
-use Rattle.mon_msg.specs.declared.synchronisation.SyncStage.TheVariants as sync
+use Rattle.mon_msg.specs.declared.synchronization.SyncStage.TheVariants as sync
 use Rattle.mon_plan.proofs.Learning.{learned-fit}
 use Rattle.mon_plan.proofs.Planning.{does_as}
 use Rattle.mon_plan.specs.Plans.{PlansRow}
