@@ -12,6 +12,7 @@ use std::alloc::Global;
 /// One byte more than an input of two reports may have, so that a longer one is refused.
 pub const MOST_REPORTS_READ: usize = 4097;
 
+/// The same as `compare_reports`, whose contract follows from this one.
 fn read_and_compare<S: Source, K: Sink>(alloc: Global, source: &mut S, sink: &mut K) -> ToolEnd
     ensures { Compares
         (record { bytes = S.left source.old; faults = S.faults source.old })

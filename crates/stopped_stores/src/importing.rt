@@ -51,6 +51,7 @@ fn read_map<S: Source>(alloc: Global, source: &mut S, member: &Member) -> Result
     }
 }
 
+/// The same as `import_export`, whose contract follows from this one.
 fn read_and_import<D: Disk, S: Source>(
     alloc: Global,
     source: &mut S,

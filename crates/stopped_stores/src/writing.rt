@@ -66,6 +66,7 @@ fn write_map<K: Sink>(
     }
 }
 
+/// The same as `write_text`, whose contract follows from this one.
 fn write<D: Disk, K: Sink>(
     alloc: Global,
     disks: NodeDisks<D>,
