@@ -60,7 +60,7 @@ impl Heard {
     }
 
     /// Counts a line. Returns whether it may be said in this interval.
-    fn counts(&mut self, now: u64) -> bool {
+    fn admit_line(&mut self, now: u64) -> bool {
         if now >= self.begun.saturating_add(LINES_INTERVAL) {
             self.begun = now;
             self.lines = 0;
@@ -92,7 +92,7 @@ impl Heard {
     fn says<S: Say>(&mut self, from: Rank, reason: Reason, line: &str, now: u64, say: &mut S) {
         if line.is_empty() {
             self.set_said(from, reason, false);
-        } else if !self.was_said(from, reason) && self.counts(now) {
+        } else if !self.was_said(from, reason) && self.admit_line(now) {
             self.set_said(from, reason, true);
             say.say(line);
         }

@@ -18,7 +18,7 @@ impl Passing {
     }
 
     /// Counts a receive that failed. Returns whether the next one may be tried: the seventeenth in a row is one too many.
-    pub(crate) fn allows(&mut self) -> bool
+    pub(crate) fn admit(&mut self) -> bool
         ensures allowed { result ≡ nat_lt self.old.count 16 }
         ensures count { self.new.count ≡ if result then self.old.count + 1 else self.old.count }
     {

@@ -216,7 +216,7 @@ impl<R: Net + Copy> UdpLink<R> {
         ensures faults { self.new.faults ≡ self.old.faults }
         ensures losses { self.new.losses ≡ self.old.losses }
     {
-        is_passing(said) && self.passing.allows()
+        is_passing(said) && self.passing.admit()
     }
 
     /// Who is at an address.

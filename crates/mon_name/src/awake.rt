@@ -50,11 +50,11 @@ impl<L: Link + Drop, C: Clock + Drop> Link for Awake<L, C> {
         ensures stays { self.old.gaps.stood ≡ true
             → (self.new.gaps.stood ≡ true) × (self.new.inner ≡ self.old.inner) × (result ≡ Ok Closed) }
     {
-        if self.gaps.reads() {
+        if self.gaps.read_clock() {
             return Ok(Got::Closed);
         }
         let gave = self.inner.next(wait);
-        let stood = self.gaps.reads();
+        let stood = self.gaps.read_clock();
         let got = gave?;
         Ok(if stood { Got::Closed } else { got })
     }
@@ -66,7 +66,7 @@ impl<L: Link + Drop, C: Clock + Drop> Link for Awake<L, C> {
         ensures stays { self.old.gaps.stood ≡ true
             → (self.new.gaps.stood ≡ true) × (self.new.inner ≡ self.old.inner) }
     {
-        if self.gaps.reads() {
+        if self.gaps.read_clock() {
             return Ok(());
         }
         self.inner.send(to, bytes)

@@ -43,7 +43,7 @@ impl<C: Clock + Drop> Gaps<C> {
     }
 
     /// Reads the clock. Returns whether there was a gap, now or before.
-    pub fn reads(&mut self) -> bool
+    pub fn read_clock(&mut self) -> bool
         ensures reads { Reads self.old self.new }
         ensures stood { result ≡ self.new.stood }
     {

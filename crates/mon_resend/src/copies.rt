@@ -170,7 +170,7 @@ impl Copies {
     }
 
     /// Notes a PROPOSE that arrived. Returns whether the message is a PROPOSE that isn't handed up.
-    fn drops(&mut self, from: Rank, header: &Header, now: u64) -> bool
+    fn take_propose(&mut self, from: Rank, header: &Header, now: u64) -> bool
         ensures after { self.new ≡ called_at from header.now now self.old }
         ensures drops { result ≡ is_dropped_at from header.now now self.old }
     {
@@ -178,7 +178,7 @@ impl Copies {
             return false;
         }
         let own = self.own;
-        self.boxes[usize::from(from.get())].drops(header.epoch, own, now)
+        self.boxes[usize::from(from.get())].take_propose(header.epoch, own, now)
     }
 
     fn whole_arrives(
@@ -193,7 +193,7 @@ impl Copies {
         ensures known { result.verdict ≡ is_whole_known from header.now bytes.now now self.old }
     {
         self.rises(header, now);
-        if self.drops(from, header, now) {
+        if self.take_propose(from, header, now) {
             return Answer::of(true);
         }
         self.boxes[usize::from(from.get())].arrives(alloc, header, bytes, now)

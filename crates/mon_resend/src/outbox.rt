@@ -287,7 +287,7 @@ impl Outbox {
     }
 
     /// Makes the kept answer to an arrived question due again. Returns whether there is such an answer.
-    fn answers(&mut self, came: &Header, now: u64) -> bool
+    fn answer_again(&mut self, came: &Header, now: u64) -> bool
         ensures after { self.new ≡ answered came.now now self.old }
         ensures knows { result ≡ knows came.now self.old.shelf }
     {
@@ -306,10 +306,10 @@ impl Outbox {
         ensures known { result.verdict ≡ is_known came.now bytes.now self.old }
     {
         if same_kind(came.kind, Kind::Begin) {
-            return Answer::of(self.answers(came, now));
+            return Answer::of(self.answer_again(came, now));
         }
         if same_kind(came.kind, Kind::Forward) {
-            self.answers(came, now);
+            self.answer_again(came, now);
             return Answer::of(false);
         }
         if !same_kind(came.kind, Kind::GetChunk) {
@@ -317,7 +317,7 @@ impl Outbox {
             return Answer::of(false);
         }
         if self.asked.as_slice() == bytes {
-            return Answer::of(self.answers(came, now));
+            return Answer::of(self.answer_again(came, now));
         }
         let has_memory = self.remembers_question(alloc, bytes);
         self.hears(came, now);
@@ -343,7 +343,7 @@ impl Outbox {
     /// was sent to any monitor, or 0 after a PROBE. In a quorum, a PROPOSE of an earlier epoch is dropped during the
     /// rest that follows the last one that was handed up. A PROPOSE that was acknowledged is dropped if its sender
     /// hears no acknowledgement.
-    pub(crate) fn drops(&mut self, epoch: u64, own: u64, now: u64) -> bool
+    pub(crate) fn take_propose(&mut self, epoch: u64, own: u64, now: u64) -> bool
         ensures after { self.new ≡ called epoch own now self.old }
         ensures drops { result ≡ is_dropped epoch own now self.old }
     {

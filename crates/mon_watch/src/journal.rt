@@ -60,7 +60,7 @@ impl<W: LineReceiver + Drop, C: Clock + Drop> Journal<W, C> {
     fn takes(&mut self, line: &str) {
         let now = self.clock.now().get();
         self.renews(now);
-        if self.ration.counts() {
+        if self.ration.admit() {
             self.writes(now, line);
         }
     }

@@ -41,7 +41,7 @@ impl Ration {
     }
 
     /// Counts a line. Returns whether it may be written.
-    pub fn counts(&mut self) -> bool
+    pub fn admit(&mut self) -> bool
         ensures after { self.new ≡ with_line self.old }
         ensures may { result ≡ admits self.old }
     {
