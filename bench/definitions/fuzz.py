@@ -2,6 +2,7 @@
 import random
 import run
 TIMERS = list(run.TIMER)
+MOST_KV_VALUE, MOST_TEXT = 65_536, 1_024
 
 
 def text(rng, length):
@@ -9,7 +10,7 @@ def text(rng, length):
 
 
 def request(rng, big):
-    length = rng.choice([0, 1, 5, 60, 1024, 1025, 65536, 65537, 60000] if big else [0, 1, 3, 8, 40])
+    length = rng.choice([0, 1, 5, 60, MOST_TEXT, MOST_TEXT + 1, MOST_KV_VALUE, MOST_KV_VALUE + 1, 60000] if big else [0, 1, 3, 8, 40])
     draw = rng.random()
     if draw < 0.35:
         return 'set k%d %s' % (rng.randrange(12), text(rng, length))
