@@ -39,7 +39,7 @@ none_there = sym (ap entries (none_kept [] refl)) ∙ entries-kept_map [] tt
 pub fine_empty : IsFine empty
 fine_empty = record { each = subst (AllByRecursion IsPair) (sym none_there) tt; short = omega (arith, length-map_text empty, ap size_of none_there) }
 
-each_put : (k v : List ℕ) (es : List Entry) → IsPair (k, v) → AllByRecursion IsPair es → AllByRecursion IsPair (put (slice_cmp nat_cmp) k v es)
+pub each_put : (k v : List ℕ) (es : List Entry) → IsPair (k, v) → AllByRecursion IsPair es → AllByRecursion IsPair (put (slice_cmp nat_cmp) k v es)
 each_put k v [] new h = (new, tt)
 each_put k v (e ∷ es) new h =
     elim (slice_cmp nat_cmp k e.0) as (λ r. AllByRecursion IsPair (by_order r ((k, v) ∷ e ∷ es) ((e.0, v) ∷ es) (e ∷ put (slice_cmp nat_cmp) k v es))) [

@@ -1,9 +1,9 @@
 -- What the bytes encode that a service keeps, whatever they are, has names and texts of the right form.
-use Rattle.std.proofs.Common.{◌≡◌, ℕ, zero, suc, ◌+◌, ◌≤◌, cond, eqb, ltb, List, [], ◌∷◌, Ok, Err, IsTrue, Less, Equal, Greater, nat_cmp, T, sym, subst, inl, inr}
+use Rattle.std.proofs.Common.{◌≡◌, ℕ, zero, suc, ◌+◌, ◌≤◌, cond, eqb, ltb, List, [], ◌∷◌, Ok, Err, IsTrue, Less, nat_cmp, T, sym, subst, inl, inr}
 use Rattle.std.proofs.lemmas.Bool.{ltb-false}
 use Rattle.std.specs.Cmp.Lexicographic.{slice_cmp, nat_list_cmp_total}
-use Rattle.std.specs.FinMap.{entries, from_sorted, insert, is_sorted, put, entries-from_sorted, entries-insert}
-use Rattle.std.specs.FinMap.Entries.{below_all, by_order}
+use Rattle.std.specs.FinMap.{entries, from_sorted, insert, is_sorted, entries-from_sorted, entries-insert}
+use Rattle.std.specs.FinMap.Entries.{below_all}
 use Rattle.std.specs.List.{AllByRecursion}
 use Rattle.std.specs.Ordering.{is_lt}
 use Rattle.std.specs.Str.{is_utf8}
@@ -24,6 +24,7 @@ use Rattle.map_kv.specs.declared.inc.KvInc.TheVariants.{Set, Remove}
 use Rattle.map_log.specs.Decode as log_decode
 use Rattle.map_log.specs.Text.{IsEntry}
 use Rattle.map_log.specs.declared.inc.LogInc.{LogInc}
+use Rattle.log_model.proofs.KvSteps.{each_put}
 
 name_is : (c : Reading) (x : List ℕ × Reading) → name_at c ≡ Ok x → IsTrue (is_name x.0)
 unfolding name_at
@@ -126,15 +127,6 @@ kv_map_is bytes m e =
     let g = ended_ok (from_sorted b.0.0, b.0.1) m b.2 in
     let rest = entries_are a.0.0 [] a.0.1 b.0 b.1 in
     subst (λ (n : Kv). AllByRecursion IsPair (entries n)) g.0 (subst (AllByRecursion IsPair) (sym (entries-from_sorted (slice_cmp nat_cmp) b.0.0 rest.sorted)) rest.pairs)
-
-each_put : (k v : List ℕ) (es : List Entry) → IsPair (k, v) → AllByRecursion IsPair es → AllByRecursion IsPair (put (slice_cmp nat_cmp) k v es)
-each_put k v [] new h = (new, tt)
-each_put k v (e ∷ es) new h =
-    elim (slice_cmp nat_cmp k e.0) as (λ r. AllByRecursion IsPair (by_order r ((k, v) ∷ e ∷ es) ((e.0, v) ∷ es) (e ∷ put (slice_cmp nat_cmp) k v es))) [
-      | Less ↦ (new, h)
-      | Equal ↦ ((h.0.0, new.1), h.1)
-      | Greater ↦ (h.0, each_put k v es new h.1)
-    ]
 
 pub inserted_is : (m : Kv) (k v : List ℕ) → IsPair (k, v) → AllByRecursion IsPair (entries m) → AllByRecursion IsPair (entries (insert m k v))
 inserted_is m k v new h = subst (AllByRecursion IsPair) (sym (entries-insert nat_list_cmp_total m k v)) (each_put k v (entries m) new h)
