@@ -25,7 +25,7 @@ use Rattle.map_log.specs.Text as log_text
 use Rattle.map_log.proofs.Lengths as log_lengths
 
 -- this many bytes were read
-abbrev Drawn : Reading → ℕ → Reading → Type 0
+abbrev pub Drawn : Reading → ℕ → Reading → Type 0
 Drawn c n after = length c.rest ≡ n + length after.rest
 
 front_drawn : (n : ℕ) (c : Reading) (x : List ℕ × Reading) → next_bytes n c ≡ Ok x → Drawn c (length x.0) x.1
@@ -34,7 +34,7 @@ front_drawn n c x e =
     let long = ltb-false _ _ g.0 in
     subst (λ (p : List ℕ × Reading). Drawn c (length p.0) p.1) (ok_is (take n c.rest, moved n c) x g.1) (omega (arith, long, length-take n c.rest, length-drop n c.rest))
 
-number_drawn : (k : ℕ) (c : Reading) (x : ℕ × Reading) → number k c ≡ Ok x → Drawn c k x.1
+pub number_drawn : (k : ℕ) (c : Reading) (x : ℕ × Reading) → number k c ≡ Ok x → Drawn c k x.1
 number_drawn k c x e =
     let g = guard_ok (ltb (length c.rest) k) (record { at = c.at }) _ x e in
     let long = ltb-false _ _ g.0 in

@@ -14,14 +14,11 @@ use Rattle.mon_tx.specs.Text.{op_text, is_range, most}
 use Rattle.mon_tx.specs.declared.op.Op.{Op}
 use Rattle.mon_tx.specs.declared.op.Op.TheVariants.{Put, Erase, ErasePrefix, EraseRange}
 use Rattle.mon_tx.specs.declared.refusal.TxRefused.TheVariants as refused
+use Rattle.log_model.proofs.TextsWithin.{Drawn, number_drawn}
 use Rattle.mon_bounds.proofs.Joins.{span, span-cons, text_span}
 
 cut_ok : {A : Type 0} (r : Result A Short) (x : A) → cut r ≡ Ok x → r ≡ Ok x
 cut_ok r x e = at_fault_ok (λ at. refused.Cut at) r x e
-
--- this many bytes were read
-abbrev Drawn : Reading → ℕ → Reading → Type 0
-Drawn c n after = length c.rest ≡ n + length after.rest
 
 abbrev Small : Reading → Type 0
 Small c = length c.rest ≤ most
@@ -32,12 +29,6 @@ front_drawn n c x e =
     let long = ltb-false _ _ g.0 in
     subst (λ (p : List ℕ × Reading). Drawn c (length p.0) p.1 × (length p.0 ≡ n)) (ok_is (take n c.rest, moved n c) x g.1)
     (omega (arith, long, length-take n c.rest, length-drop n c.rest), omega (arith, long, length-take n c.rest))
-
-number_drawn : (k : ℕ) (c : Reading) (x : ℕ × Reading) → number k c ≡ Ok x → Drawn c k x.1
-number_drawn k c x e =
-    let g = guard_ok (ltb (length c.rest) k) (record { at = c.at }) _ x e in
-    let long = ltb-false _ _ g.0 in
-    subst (λ (p : ℕ × Reading). Drawn c k p.1) (ok_is _ x g.1) (omega (arith, long, length-drop k c.rest))
 
 word_drawn : (limit : ℕ) (c : Reading) (x : List ℕ × Reading) → word_at limit c ≡ Ok x → Drawn c (1 + length x.0) x.1 × IsTrue (is_word limit x.0)
 unfolding word_at
