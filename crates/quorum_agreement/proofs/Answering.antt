@@ -80,9 +80,10 @@ use Rattle.mon_wire.specs.declared.request.Session.{Session}
 use Rattle.quorum_agreement.proofs.Accepting.{begun, begun_is, then_map}
 use Rattle.quorum_agreement.proofs.Lone.{active_is}
 use Rattle.quorum_history.proofs.Phases.{collecting_is, no, peon_is_peon}
+use Rattle.quorum_walk.proofs.Learning.{LearnedOne, Same, learns, learns_one}
 use Rattle.quorum_walk.proofs.Lists.{all_append, all_flat_map, all_of}
 use Rattle.quorum_walk.proofs.Walk.{Then, and_then, and_three, by_test, done, where_fits}
-use Rattle.std.proofs.Common.{Bool, Err, List, None, Ok, Option, Result, Some, [], ap, arith, eqb, false, inl, inr, leb, length, ltb, map, max, not, refl, subst, suc, sym, true, ℕ, ◌&&◌, ◌+◌, ◌++◌, ◌-◌, ◌||◌, ◌∙◌, ◌∷◌, ◌≡◌, ◌⊎◌}
+use Rattle.std.proofs.Common.{Bool, Err, List, None, Ok, Option, Result, Some, [], ap, eqb, false, inl, inr, leb, length, ltb, map, max, not, refl, subst, suc, sym, true, ℕ, ◌&&◌, ◌+◌, ◌++◌, ◌-◌, ◌||◌, ◌∙◌, ◌∷◌, ◌≡◌, ◌⊎◌}
 use Rattle.std.proofs.lemmas.Bool.{and_parts, cond_both, eqb-true, not-false, or_parts}
 use Rattle.std.specs.List.{AllByRecursion, filter, flat_map}
 use Rattle.std.specs.Prelude.{is_some, slice_index_or, slice_set}
@@ -276,22 +277,6 @@ module _ (me : Me) (now : ℕ) (w : Readings) (s : State) (From : ℕ → Comman
   peon_lead : (p : Phase) (l : Leader) (e : ℕ) → is_peon p ≡ true → Lead p l e
   peon_lead p l e t = leads_not p l e (peon_leads_not p t)
 
-  -- learning changes neither what is remembered nor what is sent
-  learns : (v : ℕ) (values : List (List Op)) (x : Course) → Then (λ y. (y.state ≡ x.state) × (y.out ≡ x.out)) (learn v values x)
-  unfolding learn
-  learns v [] x = done (refl, refl)
-  learns v (value ∷ values) x = where_fits (λ y. (y.state ≡ x.state) × (y.out ≡ x.out)) which.Version (v + length values) _ (λ _. done (refl, refl))
-
-  record LearnedOne (v : ℕ) (value : List Op) (x y : Course) : Type 0 where
-    state : y.state ≡ x.state
-    out : y.out ≡ x.out
-    last : y.readings.last ≡ v
-    changes : y.changes ≡ (x.changes ++ Learn v value ∷ []) ++ Last v ∷ []
-
-  learns_one : (v : ℕ) (value : List Op) (x : Course) → Then (LearnedOne v value x) (learn v (value ∷ []) x)
-  unfolding learn
-  learns_one v value x = where_fits (LearnedOne v value x) which.Version (v + 0) _ (λ _. done (record { state = refl; out = refl; last = omega arith; changes = ap (λ (c : ℕ). (x.changes ++ Learn v value ∷ []) ++ Last c ∷ []) (let e : v + 0 ≡ v = omega arith in e) }))
-
   -- ---- leading
 
   active : (x : Course) → AllPlain x.out → Then Outcome (Ok (be_active me now x))
@@ -423,7 +408,7 @@ module _ (me : Me) (now : ℕ) (w : Readings) (s : State) (From : ℕ → Comman
     begin_heard f e pn v value = by_test (not (of_leader f e x0 && eqb pn (promise_of w) && eqb v (suc w.last))) (λ _. rests) (λ _. quiet _ (tt, tt) L)
 
     learned : is_peon s.phase ≡ true → (v : ℕ) (values : List (List Op)) → Then Outcome (learn v values x0)
-    learned peon v values = then_map _ Outcome (learn v values x0) (λ y k. inl (record { out = subst AllPlain (sym k.1) tt; lead = peon_lead y.state.phase y.state.leader _ (ap (λ (z : State). is_peon z.phase) k.0 ∙ peon) })) (learns v values x0)
+    learned peon v values = then_map (Same x0) Outcome (learn v values x0) (λ y k. inl (record { out = subst AllPlain (sym k.out) tt; lead = peon_lead y.state.phase y.state.leader _ (ap (λ (z : State). is_peon z.phase) k.state ∙ peon) })) (learns v values x0)
 
     commit_heard : (f e from : ℕ) (values : List (List Op)) → Then Outcome (hear_commit f e from values x0)
     unfolding hear_commit
@@ -449,8 +434,8 @@ module _ (me : Me) (now : ℕ) (w : Readings) (s : State) (From : ℕ → Comman
         by_test (ltb s.leader.pn pn) (λ _. collects s.leader.quorum pn x0 tt) (λ _.
         by_test (ltb pn s.leader.pn) (λ _. rests) (λ _.
         by_test (ltb (suc w.last) first && ltb w.last last) (λ _. bootstraps x0 tt) (λ _.
-        and_then (λ y. (y.state ≡ s) × (y.out ≡ [])) Outcome (learn (news_from w.last from) (news w.last from values) x0) _ (learns (news_from w.last from) (news w.last from values) x0)
-        (λ y k. by_test whole (λ _. heard_whole y (collecting_is s.phase t.0) lease k.0 k.1) (λ _. collects y.state.leader.quorum 0 y (subst AllPlain (sym k.1) tt)))))))
+        and_then (Same x0) Outcome (learn (news_from w.last from) (news w.last from values) x0) _ (learns (news_from w.last from) (news w.last from values) x0)
+        (λ y k. by_test whole (λ _. heard_whole y (collecting_is s.phase t.0) lease k.state k.out) (λ _. collects y.state.leader.quorum 0 y (subst AllPlain (sym k.out) tt)))))))
       where
         gives_none : s.phase ≡ phase.Collecting → s.leader.lease ≡ None
         gives_none e = subst (λ (p : Phase). Lead p s.leader (epoch_of w)) e L
@@ -665,7 +650,7 @@ module _ (me : Me) (now : ℕ) (w : Readings) (s : State) (From : ℕ → Comman
 
     copies : (full : Bool) (v : ℕ) (values : List (List Op)) (es : List Entry) → Then Taken (copy full v values es x0)
     copies true v values es = done (record { out = refl; in_phase = refl; same = refl })
-    copies false v values es = then_map _ Taken (learn v values x0) (λ y k. record { out = k.1; in_phase = ap (λ (z : State). z.phase) k.0; same = ap (λ (z : State). z.leader) k.0 }) (learns v values x0)
+    copies false v values es = then_map (Same x0) Taken (learn v values x0) (λ y k. record { out = k.out; in_phase = ap (λ (z : State). z.phase) k.state; same = ap (λ (z : State). z.leader) k.state }) (learns v values x0)
 
     takes : (p : ChunkPlace) (values : List (List Op)) (es : List Entry) (end : Bool) → Then Taken (take p values es end x0)
     takes p values es end = where_fits Taken which.Version (p.version + length values) _ (λ _.

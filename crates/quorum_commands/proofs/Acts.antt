@@ -34,9 +34,10 @@ use Rattle.mon_wire.specs.declared.reply.Reply.{Reply}
 use Rattle.quorum_agreement.proofs.Accepting.{then_map}
 use Rattle.quorum_commands.specs.Unmade.{AcknowledgesNone}
 use Rattle.quorum_history.proofs.Phases.{no}
+use Rattle.quorum_walk.proofs.Learning.{Same, learns}
 use Rattle.quorum_walk.proofs.Lists.{all_append, all_flat_map, all_map, all_of}
 use Rattle.quorum_walk.proofs.Walk.{Then, and_then, by_test, done, where_fits}
-use Rattle.std.proofs.Common.{Bool, List, None, Ok, Option, Some, [], ap, eqb, false, length, ltb, map, max, not, refl, subst, suc, sym, true, ℕ, ◌&&◌, ◌++◌, ◌+◌, ◌∙◌, ◌∷◌, ◌≡◌}
+use Rattle.std.proofs.Common.{Bool, List, None, Ok, Option, Some, [], ap, eqb, false, ltb, map, max, not, refl, subst, suc, sym, true, ℕ, ◌&&◌, ◌++◌, ◌∙◌, ◌∷◌, ◌≡◌}
 use Rattle.std.proofs.lemmas.Bool.{cond_both}
 use Rattle.std.specs.List.{AllByRecursion, flat_map}
 use Rattle.std.specs.Prelude.{slice_index_or}
@@ -92,12 +93,6 @@ chunk_none last c p left n records =
 pub more : (out sends : List Sent) → AllOther out → AllOther sends → AllOther (out ++ sends)
 more out sends a b = all_append IsOther out sends a b
 
--- learning leaves what is remembered and sent
-pub learns : (v : ℕ) (values : List (List Op)) (x : Course) → Then (λ y. (y.state ≡ x.state) × (y.out ≡ x.out)) (learn v values x)
-unfolding learn
-learns v [] x = done (refl, refl)
-learns v (value ∷ values) x = where_fits (λ y. (y.state ≡ x.state) × (y.out ≡ x.out)) which.Version (v + length values) _ (λ _. done (refl, refl))
-
 -- ---- what acts leave
 
 -- its clients are the same, and unless something is found it has no version more
@@ -140,8 +135,8 @@ module _ (me : Me) where
     unfolding begin begin_alone begin_with
     begins_found None x O = active x (None ≡ None) O
     begins_found (Some f) x O = by_test (eqb f.version (suc x.readings.last)) (λ _. where_fits (Goes x (Some f ≡ None)) which.Version (suc x.readings.last) _ (λ _.
-        by_test (is_alone me x.state.leader.quorum) (λ _. and_then (λ y. (y.state ≡ x.state) × (y.out ≡ x.out)) (Goes x (Some f ≡ None)) (learn (suc x.readings.last) (f.value ∷ []) x) _ (learns (suc x.readings.last) (f.value ∷ []) x)
-        (λ y L. done (record { out = more y.out [] (subst AllOther (sym L.1) O) tt; clients = ap (λ (z : State). z.clients) L.0; last = λ e. absurd cc })))
+        by_test (is_alone me x.state.leader.quorum) (λ _. and_then (Same x) (Goes x (Some f ≡ None)) (learn (suc x.readings.last) (f.value ∷ []) x) _ (learns (suc x.readings.last) (f.value ∷ []) x)
+        (λ y L. done (record { out = more y.out [] (subst AllOther (sym L.out) O) tt; clients = ap (λ (z : State). z.clients) L.state; last = λ e. absurd cc })))
         (λ _. done (record { out = more x.out _ O (to_each (epoch_of x.readings) (body.Begin x.state.leader.pn (suc x.readings.last) f.value) tt (members me x.state.leader.quorum)); clients = refl; last = λ e. refl })))) (λ _. active x (Some f ≡ None) O)
 
     commits_none : (r : Readings) (lasts : List ℕ) (ks : List ℕ) → AllOther (flat_map (commits_to me r lasts) ks)

@@ -53,6 +53,7 @@ use Rattle.mon_wire.specs.declared.reply.Reply.{Reply}
 use Rattle.mon_wire.specs.declared.request.Session.{Session}
 use Rattle.quorum_agreement.proofs.Accepting.{begun, begun_is, then_map}
 use Rattle.quorum_history.proofs.Phases.{collecting_is, no}
+use Rattle.quorum_walk.proofs.Learning.{Same, learns}
 use Rattle.quorum_walk.proofs.Lists.{Among, all_map}
 use Rattle.quorum_walk.proofs.Walk.{Then, and_then, and_three, by_test, done, or_three, where_fits}
 use Rattle.std.proofs.Common.{Bool, List, None, Ok, Option, Some, [], ap, arith, eqb, false, inl, inr, leb, length, ltb, map, not, refl, subst, suc, sym, true, ℕ, ◌&&◌, ◌+◌, ◌-◌, ◌||◌, ◌∙◌, ◌∷◌, ◌≡◌, ◌⊎◌}
@@ -60,7 +61,7 @@ use Rattle.std.proofs.lemmas.Bool.{cond_both, eqb-true, ltb-false, not-false}
 use Rattle.std.specs.List.{AllByRecursion, filter}
 use Rattle.std.specs.Prelude.{is_some, slice_index_or}
 use Rattle.quorum_commands.specs.Unmade.{AcknowledgesNone}
-use Rattle.quorum_commands.proofs.Acts.{AllOther, Anew, Called, Goes, HandsNone, IsOther, Unpending, answer_none, answers_none, bootstraps, chunk_none, collects, elects, learns, more, settles, to_each, wins}
+use Rattle.quorum_commands.proofs.Acts.{AllOther, Anew, Called, Goes, HandsNone, IsOther, Unpending, answer_none, answers_none, bootstraps, chunk_none, collects, elects, more, settles, to_each, wins}
 
 -- ---- which input may bring a command
 
@@ -297,7 +298,7 @@ module _ (me : Me) (now : ℕ) (w : Readings) (s : State) (Settled : Session →
     commit_heard : (f e from : ℕ) (values : List (List Op)) → Then Idle (hear_commit f e from values x0)
     unfolding hear_commit
     commit_heard f e from values = by_test (not (of_leader f e x0) || ltb (suc w.last) from) (λ _. rests)
-        (λ _. then_map _ Idle (learn (suc w.last) (news w.last from values) x0) (λ y k. as_before y k.0 k.1) (learns (suc w.last) (news w.last from values) x0))
+        (λ _. then_map (Same x0) Idle (learn (suc w.last) (news w.last from values) x0) (λ y k. as_before y k.state k.out) (learns (suc w.last) (news w.last from values) x0))
 
     lease_heard : (f e last : ℕ) → Then Idle (hear_lease me now f e last x0)
     unfolding hear_lease
@@ -321,8 +322,8 @@ module _ (me : Me) (now : ℕ) (w : Readings) (s : State) (Settled : Session →
         by_test (ltb s.leader.pn pn) (λ _. collects_on leads s.leader.quorum pn x0 refl tt) (λ _.
         by_test (ltb pn s.leader.pn) (λ _. rests) (λ _.
         by_test (ltb (suc w.last) first && ltb w.last last) (λ _. anew x0 tt among) (λ _.
-        and_then (λ y. (y.state ≡ s) × (y.out ≡ [])) Idle (learn (news_from w.last from) (news w.last from values) x0) _ (learns (news_from w.last from) (news w.last from values) x0)
-        (λ y k. by_test whole (λ _. heard_whole leads y k.0 k.1) (λ _. collects_on leads y.state.leader.quorum 0 y (ap (λ (z : State). z.clients) k.0) (subst AllOther (sym k.1) tt)))))))
+        and_then (Same x0) Idle (learn (news_from w.last from) (news w.last from values) x0) _ (learns (news_from w.last from) (news w.last from values) x0)
+        (λ y k. by_test whole (λ _. heard_whole leads y k.state k.out) (λ _. collects_on leads y.state.leader.quorum 0 y (ap (λ (z : State). z.clients) k.state) (subst AllOther (sym k.out) tt)))))))
       where
         collects_on : is_leading s.phase ≡ true → (q : List Bool) (above : ℕ) (x : Course) → x.state.clients ≡ s.clients → AllOther x.out → Then Idle (collect me now q above x)
         collects_on t q above x same O = then_map _ Idle (collect me now q above x) (λ y G. leading t x y (Unpending x) same G) (collects me now q above x O)
@@ -356,10 +357,10 @@ module _ (me : Me) (now : ℕ) (w : Readings) (s : State) (Settled : Session →
             elim (begun_is s.phase c.0) [ inl e ↦ ap is_leading e | inr e ↦ ap is_leading e ]
 
         commits : is_leading s.phase ≡ true → (value : List Op) → Then Idle (commit me now value (counted f))
-        commits t value = and_then (λ y. (y.state ≡ (counted f).state) × (y.out ≡ [])) Idle (learn (suc w.last) (value ∷ []) (counted f)) _ (learns (suc w.last) (value ∷ []) (counted f)) (λ y K.
-            let c = same_clients y.state.clients s.clients (ap (λ (z : State). z.clients) K.0) in
+        commits t value = and_then (Same (counted f)) Idle (learn (suc w.last) (value ∷ []) (counted f)) _ (learns (suc w.last) (value ∷ []) (counted f)) (λ y K.
+            let c = same_clients y.state.clients s.clients (ap (λ (z : State). z.clients) K.state) in
             done (record {
-              out = all_fair _ (more _ _ (more _ _ (more y.out _ (subst AllOther (sym K.1) tt) (to_each me (epoch_of y.readings) (body.Commit (suc w.last) (value ∷ [])) tt (members me y.state.leader.quorum)))
+              out = all_fair _ (more _ _ (more _ _ (more y.out _ (subst AllOther (sym K.out) tt) (to_each me (epoch_of y.readings) (body.Commit (suc w.last) (value ∷ [])) tt (members me y.state.leader.quorum)))
                   (to_each me (epoch_of y.readings) (body.Lease y.readings.last) tt (members me y.state.leader.quorum))) (answers_none me (epoch_of y.readings) y.state.leader.origin (reply.Done (suc w.last)) (λ z. z)));
               clients = inl c;
               leads = λ _. inl (t, c);
@@ -419,7 +420,7 @@ module _ (me : Me) (now : ℕ) (w : Readings) (s : State) (Settled : Session →
 
     copies : (full : Bool) (v : ℕ) (values : List (List Op)) (es : List Entry) → Then Taken (copy full v values es x0)
     copies true v values es = done (refl, refl, refl)
-    copies false v values es = then_map _ Taken (learn v values x0) (λ y k. (k.1, ap (λ (z : State). z.phase) k.0, ap (λ (z : State). z.clients) k.0)) (learns v values x0)
+    copies false v values es = then_map (Same x0) Taken (learn v values x0) (λ y k. (k.out, ap (λ (z : State). z.phase) k.state, ap (λ (z : State). z.clients) k.state)) (learns v values x0)
 
     takes : (p : ChunkPlace) (values : List (List Op)) (es : List Entry) (end : Bool) → Then Taken (take p values es end x0)
     takes p values es end = where_fits Taken which.Version (p.version + length values) _ (λ _.

@@ -53,9 +53,10 @@ use Rattle.quorum_agreement.proofs.Lone.{active_is}
 use Rattle.quorum_commands.proofs.Acts.{AllOther, IsOther}
 use Rattle.quorum_commands.proofs.Idle.{AllFair, Idle, Returns, body_brings, brings, hears, rests, rings, says, starts}
 use Rattle.quorum_history.proofs.Phases.{any_leads, no}
+use Rattle.quorum_walk.proofs.Learning.{LearnedOne, learns_one}
 use Rattle.quorum_walk.proofs.Lists.{all_of}
 use Rattle.quorum_walk.proofs.Walk.{Then, and_then, and_three, by_test, done, where_fits}
-use Rattle.std.proofs.Common.{Err, List, Ok, Option, Result, Some, [], ap, arith, eqb, false, inl, inr, leb, length, ltb, not, refl, subst, suc, sym, true, ℕ, ◌&&◌, ◌+◌, ◌<◌, false, ◌++◌, ◌∙◌, ◌∷◌, ◌≡◌, ◌⊎◌}
+use Rattle.std.proofs.Common.{Err, List, Ok, Option, Result, Some, [], ap, arith, eqb, false, inl, inr, leb, length, ltb, not, refl, subst, suc, sym, true, ℕ, ◌&&◌, ◌<◌, false, ◌++◌, ◌∙◌, ◌∷◌, ◌≡◌, ◌⊎◌}
 use Rattle.std.proofs.lemmas.Bool.{and_parts, eqb-false, eqb-true, not-false, not-true}
 use Rattle.std.specs.Prelude.{is_some, slice_index_or, slice_set}
 
@@ -139,16 +140,6 @@ module _ (me : Me) (now : ℕ) (w : Readings) (s : State) (Source : Command → 
   done_other : (e v : ℕ) (o : Origin) → AllOther (answer_to me e o (reply.Done v) ∷ [])
   done_other e v (origin.Session t) = ((λ u. u), tt)
   done_other e v (origin.Forwarded f seq) = ((λ u. u), tt)
-
-  record LearnedOne (v : ℕ) (ops : List Op) (x y : Course) : Type 0 where
-    state : y.state ≡ x.state
-    out : y.out ≡ x.out
-    last : y.readings.last ≡ v
-    changes : y.changes ≡ (x.changes ++ Learn v ops ∷ []) ++ Last v ∷ []
-
-  learns_one : (v : ℕ) (ops : List Op) (x : Course) → Then (LearnedOne v ops x) (learn v (ops ∷ []) x)
-  unfolding learn
-  learns_one v ops x = where_fits (LearnedOne v ops x) which.Version (v + 0) _ (λ _. done (record { state = refl; out = refl; last = omega arith; changes = ap (λ (c : ℕ). (x.changes ++ Learn v ops ∷ []) ++ Last c ∷ []) (let e : v + 0 ≡ v = omega arith in e) }))
 
   -- what it remembers but for its clients is what it was
   module _ (c : Command) (o : Origin) (z : State) (F : Source c o z.clients.queue z.clients.taken) (leads : is_leading s.phase ≡ true) where

@@ -25,7 +25,8 @@ use Rattle.mon_wire.specs.declared.body.Body.{Body}
 use Rattle.mon_wire.specs.declared.reply.Reply.TheVariants as reply
 use Rattle.mon_wire.specs.declared.reply.Reply.{Reply}
 use Rattle.mon_wire.specs.declared.request.Session.{Session}
-use Rattle.quorum_replies.proofs.Spending.{IsMessage, Same, held, learns, no_replies, of_any, of_origin, replies, replies_append, same_spent, spent}
+use Rattle.quorum_replies.proofs.Spending.{IsMessage, held, no_replies, of_any, of_origin, replies, replies_append, same_spent, spent}
+use Rattle.quorum_walk.proofs.Learning.{Same, learns}
 use Rattle.quorum_walk.proofs.Lists.{all_flat_map, all_of}
 use Rattle.quorum_walk.proofs.Walk.{Then, and_then, by_test, done, where_fits}
 use Rattle.std.proofs.Common.{Bool, List, None, Ok, Option, Some, [], arith, eqb, ltb, map, max, not, refl, suc, ℕ, ◌&&◌, ◌++◌, ◌+◌, ◌∷◌, ◌≡◌, ◌≤◌}

@@ -6,6 +6,7 @@ pub mod FinePaxos
 pub mod FineReading
 pub mod FineSync
 pub mod FineTable
+pub mod Learning
 pub mod Lists
 pub mod Parity
 pub mod Ranks

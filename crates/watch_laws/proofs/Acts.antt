@@ -32,6 +32,7 @@ use Rattle.mon_wire.specs.declared.phase.Phase.{Phase}
 use Rattle.mon_wire.specs.declared.phase.Timer.TheVariants as timer
 use Rattle.mon_wire.specs.declared.reply.Reply.TheVariants as reply
 use Rattle.mon_wire.specs.declared.reply.Reply.{Reply}
+use Rattle.quorum_walk.proofs.Learning.{Same, learns}
 use Rattle.quorum_walk.proofs.Lists.{all_flat_map, all_of}
 use Rattle.quorum_walk.proofs.Sparing.{Own, Spares, learned_own}
 use Rattle.quorum_walk.proofs.Walk.{Then, and_then, by_test, done, where_fits}
@@ -50,16 +51,6 @@ anyway (Err e) = record { holds = tt }
 pub then_map : {A : Type 0} (P Q : A → Type 0) (r : Result A Which) → ((x : A) → P x → Q x) → Then P r → Then Q r
 then_map P Q (Ok x) f p = done (f x p.holds)
 then_map P Q (Err e) f p = record { holds = tt }
-
--- two courses with the same state and the same messages sent
-pub record Same (x y : Course) : Type 0 where
-  pub state : y.state ≡ x.state
-  pub out : y.out ≡ x.out
-
-pub learns : (v : ℕ) (values : List (List Op)) (x : Course) → Then (Same x) (learn v values x)
-unfolding learn
-learns v [] x = done (record { state = refl; out = refl })
-learns v (value ∷ values) x = where_fits (Same x) which.Version (v + length values) _ (λ _. done (record { state = refl; out = refl }))
 
 -- two courses with the same state, messages sent and epoch
 pub record Kept (x y : Course) : Type 0 where
