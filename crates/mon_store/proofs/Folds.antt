@@ -6,9 +6,10 @@ use Rattle.mon_bytes.specs.Reading.{Reading}
 use Rattle.mon_tx.specs.Map.{Store}
 use Rattle.mon_journal.specs.declared.stop.JournalStop.{JournalStop}
 use Rattle.mon_journal.specs.declared.stop.JournalStop.TheVariants.{DiskFault, NotAStore, OutOfMemory}
-use Rattle.mon_journal.specs.Content.{payloads_of, Fails, IsUnread, IsNext, NextIs}
+use Rattle.mon_journal.specs.Content.{payloads_of, Fails, IsUnread, IsNext}
 use Rattle.mon_journal.specs.Pieces.{left_at}
 use Rattle.mon_journal.specs.Steps.{IsOutside}
+use Rattle.mon_journal.proofs.Walks.{Next}
 use Rattle.mon_store.specs.Payloads.{after, begun, at_fault, folded, map_of}
 
 -- the payloads that are left take a map to the whole
@@ -55,10 +56,6 @@ ends left at m total none so_far = sym so_far ∙ ap (λ ps. folded ps at m) non
 -- the payloads of a file that are left after a gate take a map to the whole
 abbrev pub IsFoldedOn : Option (List ℕ) → ℕ → ℕ → Store → Type 0
 IsFoldedOn seen gate at m = IfSome seen (λ file. IsFolded (left_at gate file) at m (map_of (payloads_of file)))
-
--- what a reader returns at one gate, and after it
-abbrev pub Next : {V : Type 0} → (V → List ℕ) → Option (List ℕ) → ℕ → ℕ → Result (Option V) JournalStop → Type 0
-Next view seen gate behind result = IfSome seen (λ file. (payloads : List (List ℕ)) → IsUnread payloads (left_at gate file) → NextIs view payloads (left_at behind file) result)
 
 abbrev pub AllLeft : Option (List ℕ) → ℕ → Type 0
 AllLeft seen gate = IfSome seen (λ file. IsUnread (payloads_of file) (left_at gate file))

@@ -2,10 +2,11 @@ use Rattle.std.proofs.Common.{◌≡◌, ◌<◌, ◌+◌, List, ℕ, Vec, Globa
 use Rattle.std.proofs.lemmas.Result.{err_from_is_err_and}
 use Rattle.mon_bytes.proofs.Fields.{ok_is}
 use Rattle.mon_journal.proofs.Looking.{then_reads}
+use Rattle.mon_journal.proofs.Walks.{Next}
 use Rattle.mon_journal.specs.Content.{Fails}
 use Rattle.mon_store.specs.Payloads.{after, begun, at_fault}
 use Rattle.mon_store.proofs.Sizes.{size_empty}
-use Rattle.mon_store.proofs.Folds.{Next, any_fails, read_fails, reads_on_fails, none_at_all, begins_on, first_fails, goes_on_there, next_fails, ends_there}
+use Rattle.mon_store.proofs.Folds.{any_fails, read_fails, reads_on_fails, none_at_all, begins_on, first_fails, goes_on_there, next_fails, ends_there}
 use Rattle.mon_store.proofs.fold.fold.Goals as goal
 
 pub returns-in_err-reader-clause-map : goal.returns-in_err-reader-clause-map
