@@ -1,22 +1,22 @@
 -- A store whose shared part is a fold of a log of values is never full.
-use Rattle.std.proofs.Common.{◌≡◌, ℕ, zero, suc, ◌+◌, ◌-◌, ◌*◌, ◌/◌, ◌≤◌, ◌^◌, ◌&&◌, Bool, true, false, cond, not, eqb, leb, List, [], ◌∷◌, ◌++◌, length, map, Some, None, refl, sym, ap, subst, ◌∙◌, arith}
-use Rattle.std.proofs.lemmas.Bool.{eq-eqb, leb-true}
+use Rattle.std.proofs.Common.{◌≡◌, ℕ, zero, suc, ◌+◌, ◌-◌, ◌*◌, ◌/◌, ◌≤◌, ◌^◌, Bool, true, false, cond, not, List, [], ◌∷◌, ◌++◌, length, map, Some, None, refl, sym, ap, subst, ◌∙◌, arith}
+use Rattle.std.proofs.lemmas.Bool.{eq-eqb}
 use Rattle.std.proofs.lemmas.List.Sums.{sum_by-append, sum_by-cons}
 use Rattle.std.specs.FinMap.{get, entries, find, get-entries}
 use Rattle.std.specs.List.{AllByRecursion, sum_by}
 use Rattle.std.specs.Ordering.{eq_by_cmp}
-use Rattle.byteorder.specs.Endian.{little_number}
 use Rattle.mon_tx.specs.declared.key.Area.{Area}
 use Rattle.mon_tx.specs.declared.key.Area.TheVariants as area
 use Rattle.mon_tx.specs.declared.key.Key.{Key}
 use Rattle.mon_tx.specs.declared.key.Key.TheVariants as key
 use Rattle.mon_tx.specs.Decision.{Cell}
 use Rattle.mon_tx.specs.Keys.{place, cell, number, local_places, is_local, shared}
-use Rattle.mon_tx.specs.Map.{Place, place_cmp, Store, number_in}
+use Rattle.mon_tx.specs.Map.{Place, place_cmp, Store}
 use Rattle.mon_wire.specs.declared.request.Service.TheVariants.{Kv, Log}
 use Rattle.mon_kv.specs.Readers.{entry_size, size_of, most_size}
 use Rattle.mon_msg.specs.Fold.{entry, fold}
 use Rattle.mon_msg.specs.Protocol.Readings.{readings_of}
+use Rattle.log_copies.proofs.UnderWay.{number_short}
 use Rattle.log_model.specs.LogOfValues.{AllValues}
 use Rattle.log_model.specs.Windows.{log_from, within}
 use Rattle.log_model.proofs.Committed.{holds}
@@ -211,22 +211,11 @@ module _ (m : Store) where
         as_much (entries (shared m)) (entries_found (shared m)),
       )
 
--- a number is no greater than a store can hold
-number_low : (c : Cell) → number_in c ≤ 2 ^ 62
-unfolding number_in
-number_low None = omega arith
-number_low (Some bytes) = by (eqb (length bytes) 8) (leb (little_number 8 bytes) (2 ^ 62)) refl
-  where
-    by : (a b : Bool) → leb (little_number 8 bytes) (2 ^ 62) ≡ b → cond (a && b) (little_number 8 bytes) 0 ≤ 2 ^ 62
-    by true true e = leb-true (little_number 8 bytes) (2 ^ 62) e
-    by true false e = omega arith
-    by false b e = omega arith
-
 pub own_weight : (most : ℕ) (m : Store) → OwnShort most m
     → sum_by (weight m) (local_places (number m area.Paxos key.LastCommitted)) ≤ 10 * (most + 49)
 own_weight most m own =
     let last : ℕ = number m area.Paxos key.LastCommitted in
-    let low = number_low (cell m area.Paxos key.LastCommitted) in
+    let low = number_short (cell m area.Paxos key.LastCommitted) in
     let is : (a : Area) (k : Key) → KeyFits k → tied last a k ≡ true → weight m (place a k) ≤ most + 49 =
     λ a k room t. key_weight m a k most room (λ x e. own (place a k) x (local_named last a k ∙ t) e) in
     let k1 = is area.Paxos key.LastCommitted tt refl in
