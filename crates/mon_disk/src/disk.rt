@@ -51,7 +51,7 @@ pub trait Disk {
         ensures no_memory { result ≡ Err OutOfMemory → Unmade (state self.old) (state self.new) };
 
     /// Writes over what is there, and past the end. Until a sync, a crash may leave a part of it, whatever the call
-    /// returned. After `Failed` a read, too, may return a part of it. A write whose end isn't below 2^64 fails.
+    /// returned. After `Failed` a read, too, may return a part of it. A write that returns `Ok` ends below 2^64.
     fn write_at(&mut self, at: u64, bytes: &[u8]) -> Result<(), Stop>
         requires { at ≤ (state self.old).known }
         ensures call { Called (DiskCall.Write at bytes.now ∷ []) (TornFrom (state self.old).content at bytes.now)

@@ -1,4 +1,4 @@
--- That a later reply shows no older version.
+-- That the monitor of a later read has no earlier last version.
 use Rattle.std.specs.Prelude.{◌≡◌, ◌≤◌}
 use Rattle.std.specs.List.{AllByRecursion}
 use Rattle.mon_wire.specs.declared.reply.Reply.{Reply}

@@ -9,8 +9,8 @@ ghost use Rattle.quorum_answers.specs.Refused.{AllRefused};
 
 /// The acknowledged writes and the reads of one epoch are linearizable: the order of their events is the order of the
 /// one log. This holds in every run of any monitors under any rule, whatever is lost, repeated or late and wherever
-/// monitors crash. What is shown in an epoch, by whichever monitors, is never older than what was shown before in that
-/// epoch. What one monitor shows is never older than what it showed before, in whatever epochs.
+/// monitors crash. The last version of the monitor of a read is never lower than at the reads before it in its epoch, by
+/// whichever monitors, and never lower than at the earlier reads of that monitor, in whatever epochs.
 ///
 /// The law doesn't say that a client asked before its operation took effect. It gives no order to what two monitors
 /// show or acknowledge in two epochs.

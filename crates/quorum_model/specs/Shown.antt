@@ -1,4 +1,5 @@
--- What clients are shown is the log's, is what they asked for, and isn't older than what was acknowledged in the same epoch.
+-- What clients are shown is the log's, is what they asked for, and is of a log that has what was acknowledged before in the
+-- same epoch.
 use Rattle.std.specs.Prelude.{◌≡◌, ℕ, ◌+◌, ◌<◌, ◌≤◌, ◌↔◌, ◌⊎◌, Bool, IsTrue, List, length, take, drop}
 use Rattle.std.specs.List.{AllByRecursion, Contains}
 use Rattle.mon_msg.specs.Fold.{incrementals, map_of_log, version_of_log}

@@ -55,8 +55,8 @@ abbrev pub IsNoOlder : List Acknowledgement → (epoch : ℕ) → (v : ℕ) → 
 IsNoOlder before epoch v = AllByRecursion (λ (a : Acknowledgement). a.epoch ≡ epoch → a.version ≤ v) before
 
 -- A reply of monitor i in a session is the log's, and was asked for. It is a map up to a version, the changes after
--- one, or the version that a command is in. A map and changes are no older than what was acknowledged before in their
--- epoch. Each kind of reply is named, so that whoever adds one decides what is promised of it.
+-- one, or the version that a command is in. A map and changes are of a log that has what was acknowledged before in
+-- their epoch. Each kind of reply is named, so that whoever adds one decides what is promised of it.
 abbrev pub IsOfLog : List Asked → (acks before : List Acknowledgement) → List (List ℕ) → (i epoch : ℕ) → Session
     → Reply → Type 0
 IsOfLog requests acks before log i epoch session (reply.Shown s paxos version map) =
@@ -135,7 +135,7 @@ pub record IsLogOf (ms : Monitors) (requests : List Asked) (acks : List Acknowle
   pub once : AcknowledgedOnce (λ (a : Acknowledgement). a.version) acks
 
 -- After these steps there is a log, and after later ones the same log, perhaps longer. What is answered in the later
--- ones is no older than what was acknowledged in the earlier ones.
+-- ones is of a log that has what was acknowledged in the earlier ones.
 pub record HaveOneLog (ms : Monitors) (earlier later : List Step) : Type 0 where
   pub log : List (List ℕ)
   pub more : List (List ℕ)

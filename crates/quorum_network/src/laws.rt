@@ -60,7 +60,7 @@ pub fn law_network()
 /// client.
 ///
 /// No version is acknowledged twice. Each active leader with a proposal number of at least that of an acknowledgement
-/// has its version. What is shown after an acknowledgement, in its epoch, is no older.
+/// has its version. What is shown after an acknowledgement, in its epoch, is of a log with its version.
 ///
 /// Any two maps have the same bytes of each version that both keep, at any two points in time. No two processes ever
 /// lead in one epoch: those that are up and lead are among the leaders of all steps, and so are those that were killed

@@ -80,7 +80,7 @@ fn sync_both<D: Disk>(a: &mut D, b: &mut D) -> Result<(), Stop>
     Ok(())
 }
 
-/// The disk's stop for a journal's. The journal's calls that write never return NotAStore.
+/// The disk's stop for a journal's. `restart` never returns NotAStore.
 fn outside(stop: JournalStop) -> Stop
     requires { IsOutside stop }
     ensures { Some result ≡ stop_in {T = Journal} (Err stop) }
