@@ -47,7 +47,8 @@ fn blobs_len(blobs: &[Bytes]) -> usize
     len
 }
 
-fn entry_len(entry: &Entry) -> usize
+/// How many bytes an entry takes in a message, at most 2^64 - 1.
+pub fn entry_len(entry: &Entry) -> usize
     ensures { result ≡ min (entry_length entry.now) (2 ^ 64 - 1) }
 {
     let words = 2 + entry.prefix.as_slice().len() + entry.key.as_slice().len();
@@ -95,7 +96,8 @@ fn key_place_len(at: &KeyPlace) -> usize
     }
 }
 
-fn place_len(at: &Place) -> usize
+/// How many bytes a place takes in a message.
+pub fn place_len(at: &Place) -> usize
     ensures value { result ≡ place_length at.now }
     ensures most { result < 2 ^ 11 }
 {

@@ -24,6 +24,7 @@ mod write_reply;
 pub use body::Body;
 pub use kind::Kind;
 pub use laws::law_length;
+pub use length::{entry_len, place_len};
 pub use message::Message;
 pub use mon_bytes::{Items, MOST_MESSAGE, TryCopy};
 pub use parts::{Cookie, Place, Told};

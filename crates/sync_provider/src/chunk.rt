@@ -12,13 +12,14 @@ ghost use Rattle.sync_provider.specs.declared.entries.TheConstants.{BESIDES, BES
 ghost use Rattle.sync_provider.specs.Rows.{ByRow, remaining_after};
 
 use crate::cookies::{answer, lacks};
-use crate::entries::{BESIDES, BESIDES_LAST, given_entries, is_end, place_len};
+use crate::entries::{BESIDES, BESIDES_LAST, given_entries, is_end};
 use crate::here::Here;
 use mon_bytes::{Items, OutOfMemory};
 use mon_kv::{KeyRun, Kv};
 use mon_msg::{Body, Cookie, Place, Plan, Provider, RoleStop};
 use mon_stored::{Run, Stored};
 use mon_types::{Rank, Version};
+use mon_wire::place_len;
 use std::alloc::Global;
 
 /// How many bytes a LAST_CHUNK, if `is_last`, or otherwise a CHUNK takes besides its place, its values and its entries.

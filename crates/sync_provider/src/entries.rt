@@ -3,7 +3,7 @@
 ghost use Rattle.std.specs.Prelude.{◌≡◌, ℕ, ◌+◌, ◌-◌, ◌≤◌, ◌<◌, ◌^◌, List, [], false, nat_le, take, min, sum_by, length, IfOk};
 ghost use Rattle.mon_bytes.specs.declared.limits.TheConstants.{MOST_MESSAGE};
 ghost use Rattle.mon_tx.specs.declared.op.Op.{Op};
-ghost use Rattle.mon_msg.specs.Protocol.Parts.{entry_length, key_place_length, place_length, value_length};
+ghost use Rattle.mon_msg.specs.Protocol.Parts.{entry_length, place_length, value_length};
 ghost use Rattle.mon_msg.specs.Protocol.Providing.{is_finished, reach};
 ghost use Rattle.mon_wire.specs.declared.parts.Cookie.{Cookie};
 ghost use Rattle.mon_wire.specs.declared.write_lists.TheConstants.{MOST_ITEMS};
@@ -11,41 +11,16 @@ ghost use Rattle.sync_provider.specs.declared.entries.TheConstants.{BESIDES_LAST
 ghost use Rattle.sync_provider.specs.Rows.{remaining_after};
 ghost use Rattle.sync_provider.specs.Taken.{IsTaken, IsGiven};
 
-use mon_bytes::{Entry, KeyPlace, OutOfMemory};
+use mon_bytes::{Entry, OutOfMemory};
 use mon_kv::{KeyRun, Kv};
 use mon_msg::{MOST_ITEMS, MOST_MESSAGE, Place};
+use mon_wire::entry_len;
 
 /// How many bytes a CHUNK takes besides its place, its values and its entries.
 pub(crate) const BESIDES: usize = 33;
 
 /// How many bytes a LAST_CHUNK takes besides its place, its values and its entries.
 pub(crate) const BESIDES_LAST: usize = 40;
-
-fn key_place_len(at: &KeyPlace) -> usize
-    ensures value { result ≡ key_place_length at.now }
-    ensures most { result < 2 ^ 10 }
-{
-    match at {
-        KeyPlace::Start => 1,
-        KeyPlace::After { prefix, key } => 3 + prefix.as_slice().len() + key.as_slice().len(),
-        KeyPlace::Done => 1,
-    }
-}
-
-/// How many bytes a place takes in a message.
-pub(crate) fn place_len(at: &Place) -> usize
-    ensures value { result ≡ place_length at.now }
-    ensures most { result < 2 ^ 11 }
-{
-    8 + key_place_len(&at.key)
-}
-
-fn entry_len(entry: &Entry) -> usize
-    ensures { result ≡ min (entry_length entry.now) (2 ^ 64 - 1) }
-{
-    let words = 6 + entry.prefix.as_slice().len() + entry.key.as_slice().len();
-    words.saturating_add(entry.value.as_slice().len())
-}
 
 fn entries_len(entries: &[Entry]) -> usize
     ensures { result ≡ min (sum_by entry_length entries.now) (2 ^ 64 - 1) }
