@@ -16,7 +16,7 @@ use Rattle.mon_wire.specs.declared.request.Service.TheVariants.{Kv, Log}
 use Rattle.mon_kv.specs.Readers.{entry_size, size_of, most_size}
 use Rattle.mon_msg.specs.Fold.{entry, fold}
 use Rattle.mon_msg.specs.Protocol.Readings.{readings_of}
-use Rattle.log_copies.proofs.UnderWay.{number_short}
+use Rattle.mon_tx.proofs.Places.{number_in-low}
 use Rattle.log_model.specs.LogOfValues.{AllValues}
 use Rattle.log_model.specs.Windows.{log_from, within}
 use Rattle.log_model.proofs.Committed.{holds}
@@ -215,7 +215,7 @@ pub own_weight : (most : ℕ) (m : Store) → OwnShort most m
     → sum_by (weight m) (local_places (number m area.Paxos key.LastCommitted)) ≤ 10 * (most + 49)
 own_weight most m own =
     let last : ℕ = number m area.Paxos key.LastCommitted in
-    let low = number_short (cell m area.Paxos key.LastCommitted) in
+    let low = number_in-low (cell m area.Paxos key.LastCommitted) in
     let is : (a : Area) (k : Key) → KeyFits k → tied last a k ≡ true → weight m (place a k) ≤ most + 49 =
     λ a k room t. key_weight m a k most room (λ x e. own (place a k) x (local_named last a k ∙ t) e) in
     let k1 = is area.Paxos key.LastCommitted tt refl in

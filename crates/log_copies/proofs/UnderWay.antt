@@ -1,12 +1,11 @@
 -- A full synchronization under way: what the monitor's store holds at each stage.
-use Rattle.std.proofs.Common.{◌≡◌, inl, ℕ, suc, ◌≤◌, ◌^◌, true, ◌&&◌, eqb, leb, List, [], length, Option, Some, None, IfSome, ◌⊎◌, Result, Ok, refl, sym, ap, subst, ◌∙◌, arith}
-use Rattle.std.proofs.lemmas.Bool.{and_parts, leb-true, eqb-true, cond_both}
+use Rattle.std.proofs.Common.{◌≡◌, inl, ℕ, suc, ◌≤◌, ◌^◌, true, eqb, List, [], length, Option, Some, None, IfSome, ◌⊎◌, Result, Ok, refl, sym, ap, subst, ◌∙◌, arith}
+use Rattle.std.proofs.lemmas.Bool.{and_parts, eqb-true, cond_both}
 use Rattle.std.proofs.lemmas.Map.Lookups.{exact_bytes}
 use Rattle.std.proofs.lemmas.Map.Text.{is_eq-slice_cmp}
 use Rattle.std.specs.FinMap.{empty}
 use Rattle.std.specs.Option.{option_map}
 use Rattle.std.specs.Str.{bytes_eq}
-use Rattle.byteorder.specs.Endian.{little_number}
 use Rattle.mon_bytes.proofs.Fields.{ok_is}
 use Rattle.mon_bytes.specs.declared.entry.KeyPlace.{KeyPlace}
 use Rattle.mon_bytes.specs.declared.entry.KeyPlace.TheVariants as key_place
@@ -18,7 +17,7 @@ use Rattle.mon_tx.specs.declared.op.Op.{Op}
 use Rattle.mon_tx.specs.Decision.{Cell}
 use Rattle.mon_tx.specs.Keys.{cell}
 use Rattle.mon_tx.specs.Map.{Store, apply, number_in}
-use Rattle.mon_tx.proofs.Places.{is_equal}
+use Rattle.mon_tx.proofs.Places.{is_equal, number_in-low}
 use Rattle.mon_types.specs.declared.names.Which.{Which}
 use Rattle.mon_wire.specs.declared.parts.Place.{Place as ChunkPlace}
 use Rattle.mon_wire.specs.declared.phase.Phase.TheVariants as phase
@@ -42,16 +41,9 @@ use Rattle.log_model.proofs.Spares.{is_number}
 
 -- ---- numbers that are read are short
 
-pub number_short : (c : Cell) → number_in c ≤ 2 ^ 62
-unfolding number_in
-number_short None = omega arith
-number_short (Some bytes) =
-    let n = little_number 8 bytes in
-    cond_both (eqb (length bytes) 8 && leb n (2 ^ 62)) n 0 (λ z. z ≤ 2 ^ 62) (λ e. leb-true n (2 ^ 62) (and_parts (eqb (length bytes) 8) (leb n (2 ^ 62)) e).1) (λ e. omega arith)
-
 pub there_short : (c : Cell) → IfSome (number_if_there c) IsShort
 there_short None = tt
-there_short (Some bytes) = number_short (Some bytes)
+there_short (Some bytes) = number_in-low (Some bytes)
 
 pending_low : (v pn last : ℕ) (records : ℕ → Cell) → pending_version (pending_of v pn last records) ≤ v
 unfolding pending_of
@@ -68,9 +60,9 @@ pending_low v pn last records = cond_both (eqb v (suc last)) _ None (λ f. pendi
 pub floor_short : (m : Store) → floor_of (readings_of m) ≤ 2 ^ 62
 unfolding readings_of
 floor_short m =
-    let a = number_short (cell m area.Sync key.Floor) in
-    let b = number_short (cell m area.Paxos key.LastCommitted) in
-    let c = number_short (cell m area.Paxos key.PendingV) in
+    let a = number_in-low (cell m area.Sync key.Floor) in
+    let b = number_in-low (cell m area.Paxos key.LastCommitted) in
+    let c = number_in-low (cell m area.Paxos key.PendingV) in
     let p = pending_low (number_in (cell m area.Paxos key.PendingV)) (number_in (cell m area.Paxos key.PendingPn)) (number_in (cell m area.Paxos key.LastCommitted)) (λ v. cell m area.Paxos (key.Version v)) in
     omega (arith, a, b, c, p)
 

@@ -52,7 +52,8 @@ use Rattle.mon_wire.specs.declared.request.Request.{Request}
 use Rattle.mon_wire.specs.declared.request.Service.{Service}
 use Rattle.mon_wire.specs.declared.request.Session.{Session}
 use Rattle.mon_bounds.proofs.Acts.{answers_go, begin_ok, room_least}
-use Rattle.mon_bounds.proofs.Courses.{Over, Under, number_short, over, says, serving, tells}
+use Rattle.mon_tx.proofs.Places.{number_in-low}
+use Rattle.mon_bounds.proofs.Courses.{Over, Under, over, says, serving, tells}
 use Rattle.mon_bounds.proofs.Maps.{MayRefuse, read_shown, value_refused}
 use Rattle.mon_bounds.proofs.Messages as said
 use Rattle.mon_bounds.proofs.Messages.{Answers, Routed, few, goes, routed_answers}
@@ -207,7 +208,7 @@ module _ (me : Me) (now : ℕ) where
   shown_answers w s h =
       let m = read_shown w s in
       let l = m.1 in
-      record { form = (tt, (h, (number_short (w.row s key.LastCommitted), m.0))); length = omega arith; lists = λ id. refl }
+      record { form = (tt, (h, (number_in-low (w.row s key.LastCommitted), m.0))); length = omega arith; lists = λ id. refl }
 
   each_blob : (is : List (List ℕ)) → sum_by bytes_length is ≤ 524288 → AllByRecursion blob.Form is
   each_blob [] h = tt

@@ -1,10 +1,8 @@
 -- An event under way: what it has written so far takes at most this many bytes, what it has said may be sent, and its
 -- state may be remembered.
-use Rattle.std.proofs.Common.{ℕ, ◌+◌, ◌<◌, ◌≤◌, ◌^◌, ◌&&◌, eqb, leb, List, [], ◌∷◌, ◌++◌, length, map, Some, None, Ok, IfSome, arith}
-use Rattle.std.proofs.lemmas.Bool.{cond_both, and_parts, leb-true}
+use Rattle.std.proofs.Common.{ℕ, ◌+◌, ◌<◌, ◌≤◌, ◌^◌, List, [], ◌∷◌, ◌++◌, map, Some, None, Ok, IfSome, arith}
 use Rattle.std.specs.List.{AllByRecursion}
 use Rattle.std.specs.Option.{option_map_or}
-use Rattle.byteorder.specs.Endian.{little_number}
 use Rattle.log_model.proofs.Lists.{all_append}
 use Rattle.mon_msg.specs.Protocol.Changes.{Change, Boot, Epoch, Numbers, Promise, Vote, Record, Learn, Last, Copy, Mark, Unmark, ops_of}
 use Rattle.mon_msg.specs.Protocol.Course.{Course}
@@ -18,6 +16,7 @@ use Rattle.mon_msg.specs.declared.paxos.Peon.{Peon}
 use Rattle.mon_msg.specs.declared.plan.Sent.{Sent}
 use Rattle.mon_msg.specs.declared.synchronization.Requester.{Requester}
 use Rattle.mon_msg.specs.declared.view.Me.{Me}
+use Rattle.mon_tx.proofs.Places.{number_in-low}
 use Rattle.mon_tx.specs.Decision.{Cell, Decision, decision}
 use Rattle.mon_tx.specs.Keys.{cell, place}
 use Rattle.mon_tx.specs.Map.{Store, number_in}
@@ -43,29 +42,23 @@ pub record AreNumbers (w : Readings) : Type 0 where
   pub first : IsNumber w.first
   pub last : IsNumber w.last
 
-pub number_short : (c : Cell) → number_in c ≤ 2 ^ 62
-unfolding number_in
-number_short None = omega arith
-number_short (Some bytes) = cond_both (eqb (length bytes) 8 && leb (little_number 8 bytes) (2 ^ 62)) (little_number 8 bytes) 0 (λ n. n ≤ 2 ^ 62)
-    (λ t. leb-true (little_number 8 bytes) (2 ^ 62) (and_parts (eqb (length bytes) 8) (leb (little_number 8 bytes) (2 ^ 62)) t).1) (λ _. omega arith)
-
 epoch_short : (c : Cell) → epoch_or_first (number_if_there c) ≤ 2 ^ 62
 epoch_short None = omega arith
-epoch_short (Some bytes) = number_short (Some bytes)
+epoch_short (Some bytes) = number_in-low (Some bytes)
 
 there_short : (c : Cell) → IfSome (number_if_there c) IsNumber
 there_short None = tt
-there_short (Some bytes) = number_short (Some bytes)
+there_short (Some bytes) = number_in-low (Some bytes)
 
 pub readings_numbers : (m : Store) → AreNumbers (readings_of m)
 unfolding readings_of
 readings_numbers m = record {
   epoch = epoch_short (cell m area.Monitor key.ElectionEpoch);
-  boot = number_short (cell m area.Monitor key.BootCount);
+  boot = number_in-low (cell m area.Monitor key.BootCount);
   promise = there_short (cell m area.Paxos key.AcceptedPn);
-  pending = number_short (cell m area.Paxos key.PendingPn);
-  first = number_short (cell m area.Paxos key.FirstCommitted);
-  last = number_short (cell m area.Paxos key.LastCommitted);
+  pending = number_in-low (cell m area.Paxos key.PendingPn);
+  first = number_in-low (cell m area.Paxos key.FirstCommitted);
+  last = number_in-low (cell m area.Paxos key.LastCommitted);
 }
 
 told : {A : Type 0} (P : A → Type 0) (tell : Cell → A) (d : Decision) (before : A) → ((c : Cell) → P (tell c)) → P before → P (option_map_or tell d before)
@@ -76,11 +69,11 @@ after_numbers : (ops : List Op) (w : Readings) → AreNumbers w → AreNumbers (
 unfolding after
 after_numbers ops w R = record {
   epoch = told (λ e. epoch_or_first e ≤ 2 ^ 62) number_if_there (decision ops (place area.Monitor key.ElectionEpoch)) w.epoch epoch_short R.epoch;
-  boot = told IsNumber number_in (decision ops (place area.Monitor key.BootCount)) w.boot number_short R.boot;
+  boot = told IsNumber number_in (decision ops (place area.Monitor key.BootCount)) w.boot number_in-low R.boot;
   promise = told (λ p. IfSome p IsNumber) number_if_there (decision ops (place area.Paxos key.AcceptedPn)) w.promise there_short R.promise;
-  pending = told IsNumber number_in (decision ops (place area.Paxos key.PendingPn)) w.pending_pn number_short R.pending;
-  first = told IsNumber number_in (decision ops (place area.Paxos key.FirstCommitted)) w.first number_short R.first;
-  last = told IsNumber number_in (decision ops (place area.Paxos key.LastCommitted)) w.last number_short R.last;
+  pending = told IsNumber number_in (decision ops (place area.Paxos key.PendingPn)) w.pending_pn number_in-low R.pending;
+  first = told IsNumber number_in (decision ops (place area.Paxos key.FirstCommitted)) w.first number_in-low R.first;
+  last = told IsNumber number_in (decision ops (place area.Paxos key.LastCommitted)) w.last number_in-low R.last;
 }
 
 -- what readers return after a change, which a message can carry

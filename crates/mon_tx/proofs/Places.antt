@@ -1,16 +1,17 @@
 -- What a change leaves at each place.
-use Rattle.std.proofs.Common.{◌≡◌, ◌≢◌, ℕ, ◌^◌, ◌≤◌, Bool, true, false, cond, leb, List, [], Some, refl, ap, ◌∙◌, arith}
+use Rattle.std.proofs.Common.{◌≡◌, ◌≢◌, ℕ, ◌^◌, ◌≤◌, Bool, true, false, ◌&&◌, cond, eqb, leb, List, [], length, Some, None, refl, ap, ◌∙◌, arith}
 use Rattle.std.specs.declared.cmp.Ordering.{Ordering}
 use Rattle.std.specs.declared.cmp.Ordering.TheVariants.{Less, Equal, Greater}
 use Rattle.std.specs.Ordering.{nat_cmp, eq_by_cmp, is_eq}
 use Rattle.std.specs.Cmp.{IsTotalOrder, eq_by_cmp_equiv}
 use Rattle.std.specs.Cmp.Lexicographic.{slice_cmp, nat_list_cmp_total}
 use Rattle.std.specs.FinMap.{get, insert, get-insert}
-use Rattle.std.proofs.lemmas.Bool.{le-leb}
+use Rattle.std.proofs.lemmas.Bool.{and_parts, cond_both, le-leb, leb-true}
 use Rattle.std.proofs.lemmas.Cmp.{on_total, then_total}
 use Rattle.std.proofs.lemmas.Map.Lookups.{CmpEqualImpliesEq, exact_pairs, exact_bytes}
 use Rattle.byteorder.specs.Endian.{little_bytes, little_number}
 use Rattle.byteorder.specs.Numbers.{little_number-reads_back}
+use Rattle.mon_tx.specs.Decision.{Cell}
 use Rattle.mon_tx.specs.Map.{Place, place_cmp, Store, number_bytes, number_in, number_at}
 
 pub places_total : IsTotalOrder place_cmp
@@ -46,6 +47,13 @@ number_in-bytes n le =
     let back : little_number 8 (little_bytes 8 n) ≡ n = little_number-reads_back 8 n [] (omega arith) in
     let fits : leb n (2 ^ 62) ≡ true = le-leb _ _ le in
     rw (back, fits) refl
+
+pub number_in-low : (c : Cell) → number_in c ≤ 2 ^ 62
+unfolding number_in
+number_in-low None = omega arith
+number_in-low (Some bytes) =
+    let n = little_number 8 bytes in
+    cond_both (eqb (length bytes) 8 && leb n (2 ^ 62)) n 0 (λ z. z ≤ 2 ^ 62) (λ e. leb-true n (2 ^ 62) (and_parts (eqb (length bytes) 8) (leb n (2 ^ 62)) e).1) (λ _. omega arith)
 
 -- a number that is put is read
 pub number-put_same : (m : Store) (prefix key : List ℕ) (n : ℕ) → n ≤ 2 ^ 62 → number_at (insert m (prefix, key) (number_bytes n)) prefix key ≡ n

@@ -25,7 +25,7 @@ use Rattle.mon_node.specs.Nodes.{Node}
 use Rattle.mon_node.specs.Posting.{letters, datagrams, next_after, boot_in}
 use Rattle.mon_node.specs.Iterations.{map_after}
 use Rattle.std.specs.Option.{option_map, unwrap_or}
-use Rattle.log_copies.proofs.UnderWay.{number_short}
+use Rattle.mon_tx.proofs.Places.{number_in-low}
 use Rattle.log_model.proofs.Lists.{of_all}
 use Rattle.mon_tx.specs.Decision.{Cell}
 use Rattle.mon_tx.specs.Keys.{cell}
@@ -89,7 +89,7 @@ not_eq j i e is = grind (arith, nat_tests)
 
 epoch_by : (c : Cell) → unwrap_or (option_map (λ (bytes : List ℕ). number_in (Some bytes)) c) 1 ≤ 2 ^ 62
 epoch_by None = omega arith
-epoch_by (Some bytes) = number_short (Some bytes)
+epoch_by (Some bytes) = number_in-low (Some bytes)
 
 pub epoch_short : (m : Store) → epoch m ≤ 2 ^ 62
 epoch_short m = epoch_by (cell m area.Monitor key.ElectionEpoch)
