@@ -22,7 +22,8 @@ use Rattle.log_model.specs.LogOfValues.{view_at, AllValues}
 use Rattle.log_model.specs.Windows.{is_kept_key, IsKeptKey}
 use Rattle.log_model.proofs.Committed.{holds, encoded_text, next_at}
 use Rattle.log_model.proofs.FoldWindows.{Holds, keeps_view, view_last}
-use Rattle.log_model.proofs.KeptKeys.{IsNamed, AllNamed, PutsNamed, all_named, value_named, no_local, first_place, greatest}
+use Rattle.log_model.proofs.AllPlaces.{all_places}
+use Rattle.log_model.proofs.KeptKeys.{IsNamed, AllNamed, PutsNamed, value_named, no_local, first_place, greatest}
 use Rattle.log_model.proofs.Sharing.{of_own}
 use Rattle.log_model.proofs.Places.{same_place, get_kept, shared_is, is_shared, tied, local_named}
 
@@ -34,7 +35,7 @@ named_none log q x e = let g : None ≡ Some x = sym (get-empty place_cmp q) ∙
 
 named_more : (log : List (List ℕ)) (c : ℕ) → AllByRecursion PutsNamed (ops_in (entry log (suc c))) → AllNamed (fold log c) → AllNamed (fold log (suc c))
 unfolding fold
-named_more log c h all = all_named (put area.Paxos (key.Version (suc c)) (entry log (suc c)) ∷ ops_in (entry log (suc c))) (fold log c) (record { area = area.Paxos; key = key.Version (suc c); is = refl }, h) all
+named_more log c h all = all_places IsNamed (put area.Paxos (key.Version (suc c)) (entry log (suc c)) ∷ ops_in (entry log (suc c))) (fold log c) (record { area = area.Paxos; key = key.Version (suc c); is = refl }, h) all
 
 module _ (log : List (List ℕ)) (fits : length log ≤ 2 ^ 62) (all : AllValues log) where
   named : (c : ℕ) → c ≤ length log → AllNamed (fold log c)

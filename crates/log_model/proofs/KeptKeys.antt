@@ -1,22 +1,17 @@
 -- The keys of the fold of a log of values: none is a monitor's own, each is a named one, and none is above that of the log's
 -- first version.
-use Rattle.std.proofs.Common.{◌≡◌, ℕ, suc, ◌+◌, ◌-◌, ◌<◌, ◌≤◌, Bool, true, false, ◌&&◌, cond, List, [], ◌∷◌, ◌++◌, length, map, get_or, codes, Some, None, Less, nat_cmp, ◌⊎◌, inl, inr, refl, sym, ap, subst, ◌∙◌, arith, lit≤}
+use Rattle.std.proofs.Common.{◌≡◌, ℕ, suc, ◌+◌, ◌-◌, ◌<◌, ◌≤◌, true, false, List, [], ◌∷◌, ◌++◌, length, map, get_or, codes, Some, None, Less, nat_cmp, ◌⊎◌, inl, inr, refl, sym, ap, subst, ◌∙◌, arith, lit≤}
 use Rattle.std.specs.Cmp.{nat_cmp_is}
 use Rattle.std.specs.Cmp.Lexicographic.{slice_cmp}
 use Rattle.std.specs.FinMap.{get}
 use Rattle.std.specs.List.{AllByRecursion, range_with_len}
-use Rattle.std.specs.Ordering.{eq_by_cmp}
-use Rattle.std.specs.Str.{bytes_eq}
 use Rattle.mon_tx.specs.declared.key.Area.{Area}
 use Rattle.mon_tx.specs.declared.key.Area.TheVariants as area
 use Rattle.mon_tx.specs.declared.key.Key.{Key}
 use Rattle.mon_tx.specs.declared.key.Key.TheVariants as key
 use Rattle.mon_tx.specs.declared.op.Op.{Op}
-use Rattle.mon_tx.specs.declared.op.Op.TheVariants.{Put, Erase, ErasePrefix, EraseRange}
-use Rattle.mon_tx.specs.Decision.{Cell, Decision, decided, or_before}
 use Rattle.mon_tx.specs.Keys.{decimal_text, place, cell, is_local}
-use Rattle.mon_tx.specs.Map.{Place, place_cmp, Store, is_within, apply_op, apply}
-use Rattle.mon_tx.proofs.After.{get-apply_op}
+use Rattle.mon_tx.specs.Map.{Place, place_cmp, Store}
 use Rattle.mon_tx.proofs.Ties.{decimal_first}
 use Rattle.mon_msg.specs.Fold.{fold, incrementals}
 use Rattle.mon_msg.specs.Puts.{area_of}
@@ -25,10 +20,10 @@ use Rattle.mon_msg.specs.Protocol.Parts.{map_text}
 use Rattle.mon_msg.specs.Protocol.Readings.{readings_of}
 use Rattle.log_model.specs.LogOfValues.{IsOlder, none, same, range}
 use Rattle.log_model.specs.Windows.{is_kept_key, first_read, service_from, log_from}
+use Rattle.log_model.proofs.AllPlaces.{AllPlaces, PutsAt}
 use Rattle.log_model.proofs.AreaEdits.{Edit, Set, Drop, DropRange, encoded}
 use Rattle.log_model.proofs.FoldWindows.{Holds}
 use Rattle.log_model.proofs.Lists.{all_append}
-use Rattle.log_model.proofs.Places.{same_place}
 use Rattle.log_model.proofs.RuleEdits.{begun, log_trimmed, service_edits, value_is}
 use Rattle.log_model.proofs.Sharing.{of_own}
 use Rattle.log_model.proofs.Windows.{Next}
@@ -65,47 +60,11 @@ pub record IsNamed (q : Place) : Type 0 where
   pub is : q ≡ place area key
 
 abbrev pub AllNamed : Store → Type 0
-AllNamed m = (q : Place) (x : List ℕ) → get m q ≡ Some x → IsNamed q
+AllNamed = AllPlaces IsNamed
 
 -- what a change puts has a name
 abbrev pub PutsNamed : Op → Type 0
-PutsNamed (Put prefix k v) = IsNamed (prefix, k)
-PutsNamed (Erase prefix k) = Unit {0}
-PutsNamed (ErasePrefix prefix) = Unit {0}
-PutsNamed (EraseRange prefix from to) = Unit {0}
-
-decided_named : (op : Op) (q : Place) (x : List ℕ) → PutsNamed op → decided op q ≡ Some (Some x) → IsNamed q
-decided_named (Put prefix k v) q x h e = by (eq_by_cmp place_cmp q (prefix, k)) refl e
-  where
-    by : (b : Bool) → eq_by_cmp place_cmp q (prefix, k) ≡ b → ◌≡◌ {A = Decision} (cond b (Some (Some v)) None) (Some (Some x)) → IsNamed q
-    by true t e = subst IsNamed (sym (same_place q (prefix, k) t)) h
-    by false t e = absurd cc
-decided_named (Erase prefix k) q x h e = absurd (gone (eq_by_cmp place_cmp q (prefix, k)) x e)
-  where
-    gone : (b : Bool) (x : List ℕ) → ◌≡◌ {A = Decision} (cond b (Some None) None) (Some (Some x)) → ⊥
-    gone true x e = cc
-    gone false x e = cc
-decided_named (ErasePrefix prefix) q x h e = absurd (gone (bytes_eq q.0 prefix) x e)
-  where
-    gone : (b : Bool) (x : List ℕ) → ◌≡◌ {A = Decision} (cond b (Some None) None) (Some (Some x)) → ⊥
-    gone true x e = cc
-    gone false x e = cc
-decided_named (EraseRange prefix from to) q x h e = absurd (gone (bytes_eq q.0 prefix && is_within from to q.1) x e)
-  where
-    gone : (b : Bool) (x : List ℕ) → ◌≡◌ {A = Decision} (cond b (Some None) None) (Some (Some x)) → ⊥
-    gone true x e = cc
-    gone false x e = cc
-
-one_named : (op : Op) (m : Store) → PutsNamed op → AllNamed m → AllNamed (apply_op op m)
-one_named op m h all q x e = by (decided op q) refl (sym (get-apply_op op m q) ∙ e)
-  where
-    by : (d : Decision) → decided op q ≡ d → or_before d (get m q) ≡ Some x → IsNamed q
-    by None t i = all q x i
-    by (Some c) t i = decided_named op q x h (t ∙ ap (λ (c : Cell). Some c) i)
-
-pub all_named : (ops : List Op) (m : Store) → AllByRecursion PutsNamed ops → AllNamed m → AllNamed (apply ops m)
-all_named [] m h all = all
-all_named (op ∷ ops) m h all = all_named ops (apply_op op m) h.1 (one_named op m h.0 all)
+PutsNamed = PutsAt IsNamed
 
 edits_named : (a : Area) (es : List Edit) → AllByRecursion PutsNamed (encoded a es)
 edits_named a [] = tt

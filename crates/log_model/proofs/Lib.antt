@@ -1,3 +1,4 @@
+pub mod AllPlaces
 pub mod AnyValue
 pub mod AreaEdits
 pub mod Beginnings
