@@ -4,7 +4,6 @@ use Rattle.map_follower.specs.declared.end.FollowEnd.{FollowEnd}
 use Rattle.map_follower.specs.declared.end.FollowEnd.TheVariants as follow_end
 use Rattle.mon_disk.specs.Calls.{DiskState}
 use Rattle.mon_link.specs.declared.udp.Address.{Address}
-use Rattle.mon_types.specs.Faults.{Rose}
 use Rattle.mon_types.specs.declared.member.Member.{Member}
 use Rattle.mon_wire.specs.declared.request.Service.{Service}
 use Rattle.stopped_stores.specs.Completing.{ComparisonCompletes, Hold, ImportCompletes, TextCompletes}

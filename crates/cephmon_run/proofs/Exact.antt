@@ -1,7 +1,6 @@
 -- A status and its cause determine each other.
-use Rattle.std.proofs.Common.{◌≡◌, ℕ, ◌+◌, ◌<◌, ◌≤◌, String, string_bytes, List, [], ◌++◌, length, map, Option, Some, None, Result, Ok, Err, refl, sym, ap, subst, ◌∙◌, arith, inl, inr, ◌⊎◌, length-append}
+use Rattle.std.proofs.Common.{◌≡◌, ℕ, ◌+◌, ◌<◌, ◌≤◌, String, string_bytes, List, [], ◌++◌, length, map, Option, Some, None, Result, Ok, Err, refl, sym, ap, subst, ◌∙◌, arith, inl, inr, ◌⊎◌}
 use Rattle.std.proofs.lemmas.Bool.{lt-ltb}
-use Rattle.std.proofs.lemmas.List.{append-nil}
 use Rattle.std.specs.Prelude.{IfSome}
 use Rattle.std.specs.declared.alloc.Global.{Global}
 use Rattle.cephmon_run.proofs.Caused.{compare_faulty, compared_so, follow_faulty, followed_so, import_faulty, imported_so, text_faulty, written_so}
@@ -24,7 +23,6 @@ use Rattle.mon_store.specs.Opening.{IsStopOf as Refuses}
 use Rattle.mon_store.specs.Pair.{Refusal}
 use Rattle.mon_store.specs.StoreView.{StoreView, opens_as}
 use Rattle.mon_store.specs.declared.stop.OpenStop.TheVariants as open_stop
-use Rattle.mon_types.specs.Faults.{Rose, risen}
 use Rattle.mon_types.specs.declared.member.Member.{Member}
 use Rattle.quorum_model.specs.Happens as happens
 use Rattle.quorum_model.specs.Monitors.{Monitors}

@@ -37,7 +37,7 @@ use Rattle.mon_wire.specs.declared.reply.Reply.TheVariants as reply
 use Rattle.mon_wire.specs.declared.reply.Reply.{Reply}
 use Rattle.mon_bounds.proofs.Courses.{AreNumbers, Tells, OthersIn, KeepsIn, Over, Under, WrittenIn, leading, over, raise, says, tells, tells_each, writes}
 use Rattle.mon_bounds.proofs.Messages as said
-use Rattle.mon_bounds.proofs.Messages.{Answers, Routed, goes, routed_answers}
+use Rattle.mon_bounds.proofs.Messages.{Routed, goes, routed_answers}
 use Rattle.mon_bounds.proofs.RankSets.{members_below, others_below, set_none, set_only}
 use Rattle.mon_bounds.proofs.Reading.{longest_passes, pending_is, run_texts}
 use Rattle.mon_bounds.proofs.Sizes.{epoch_size, last_size, learned_size, load, load-cons, mark_size, numbers_size, vote_size}

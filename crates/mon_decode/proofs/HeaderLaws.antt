@@ -1,5 +1,5 @@
 -- What is read of the front of a message is its header and the numbers that its body begins with.
-use Rattle.std.proofs.Common.{◌≡◌, ℕ, ◌+◌, ◌-◌, ◌^◌, ◌≤◌, ◌<◌, Bool, List, [], ◌∷◌, ◌++◌, length, take, Option, Some, refl, sym, ap, ◌∙◌, append_assoc, arith}
+use Rattle.std.proofs.Common.{◌≡◌, ℕ, ◌+◌, ◌-◌, ◌^◌, ◌≤◌, ◌<◌, Bool, List, [], ◌∷◌, ◌++◌, length, take, refl, sym, ap, ◌∙◌, append_assoc, arith}
 use Rattle.std.proofs.lemmas.List.{append-nil, length-append}
 use Rattle.std.specs.List.{flat_map}
 use Rattle.std.proofs.Math.Seq.{take-append-add}
@@ -11,16 +11,14 @@ use Rattle.mon_bytes.proofs.Fields.{Found, number_found}
 use Rattle.std.proofs.Math.Nat.{pow-le-pow_right}
 use Rattle.mon_wire.specs.declared.body.Body.{Body}
 use Rattle.mon_wire.specs.declared.body.Body.TheVariants as body
-use Rattle.mon_wire.specs.declared.kind.Kind.{Kind}
 use Rattle.mon_wire.specs.declared.message.Message.{Message}
 use Rattle.mon_wire.specs.Message.Format.{Reader, u16_bytes, ◌⊗◌, list}
 use Rattle.mon_wire.specs.Message.Fields.{number_bytes, set_bytes, numeral, flag, value}
 use Rattle.mon_wire.specs.Message.Parts.{optional, cookie, told, place, entry, a_command}
 use Rattle.mon_wire.specs.Message.Client.{a_request, a_reply, a_routed}
 use Rattle.mon_wire.specs.Message.Bodies.{encoded}
-use Rattle.mon_wire.specs.Message.Whole.{kind_of, text, IsMessage, HasText}
+use Rattle.mon_wire.specs.Message.Whole.{kind_of, text, IsMessage}
 use Rattle.mon_wire.proofs.PartLengths.{length-number_bytes, length-set_bytes}
-use Rattle.mon_decode.specs.declared.header.Header.{Header}
 use Rattle.mon_decode.specs.Headers.{none_at, one_at, two_at, ranks_at, range_at, numbers_at, header_at, header_of, kind_byte, kind_in, numbers_in, heading, ReadsHeaders}
 use Rattle.mon_decode.proofs.FieldLaws.{numeral-lawful}
 use Rattle.mon_decode.proofs.BodyLaws.{tag-is}

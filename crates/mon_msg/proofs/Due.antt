@@ -5,7 +5,7 @@ use Rattle.std.specs.Prelude.{slice_index_or}
 use Rattle.mon_wire.specs.declared.phase.TheConstants.Timer.{ALL}
 use Rattle.mon_wire.specs.declared.phase.Timer.{Timer}
 use Rattle.mon_wire.specs.declared.phase.Timer.TheVariants as timer
-use Rattle.mon_msg.specs.Protocol.Timers.{index_of, end_of, sooner, soonest, due, IsDue, IsNext}
+use Rattle.mon_msg.specs.Protocol.Timers.{index_of, end_of, sooner, soonest, due, IsNext}
 
 -- the same of the kinds from one on
 record IsDueFrom (timers : List (Option ℕ)) (k : ℕ) (next : Timer × ℕ) : Type 0 where

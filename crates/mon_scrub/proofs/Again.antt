@@ -1,27 +1,27 @@
 -- The text of two reports is read as these reports.
-use Rattle.std.proofs.Common.{◌≡◌, ℕ, zero, suc, ◌<◌, ◌≤◌, ◌+◌, ◌*◌, ◌-◌, ◌^◌, Bool, true, false, cond, eqb, leb, ltb, not, List, [], ◌∷◌, ◌++◌, length, take, drop, Option, Some, None, Result, Ok, Err, refl, sym, ap, subst, ◌∙◌, append_assoc, length-append, arith, inl, inr}
+use Rattle.std.proofs.Common.{◌≡◌, ℕ, ◌<◌, ◌≤◌, ◌+◌, ◌*◌, ◌-◌, ◌^◌, Bool, true, false, eqb, leb, List, [], ◌∷◌, ◌++◌, length, Some, Ok, refl, sym, ap, subst, ◌∙◌, append_assoc, length-append, arith, inl, inr}
 use Rattle.std.specs.Prelude.{IsTrue, IsOk, ◌&&◌, codes, decimal, nat_lt}
 use Rattle.std.specs.List.{list_all}
 use Rattle.std.specs.Str.{bytes_eq}
 use Rattle.std.proofs.Math.Seq.{take-append_seam, drop-append_seam}
 use Rattle.std.proofs.lemmas.Bool.{cases_eq}
 use Rattle.std.proofs.lemmas.Bool.Decides.{nat_tests}
-use Rattle.std.proofs.lemmas.Fmt.{decimal_digit, digits_decimal, length-decimal-le}
+use Rattle.std.proofs.lemmas.Fmt.{decimal_digit, digits_decimal}
 use Rattle.std.proofs.lemmas.List.{append-nil}
 use Rattle.std.proofs.lemmas.List.Sums.{list_all-from_AllPass}
 use Rattle.std.proofs.lemmas.Slice.Eq.{bytes_eq-Decides}
 use Rattle.hex.proofs.HexLemmas.{IsOk-decode_sized, decode_sized-encode_lower, length-encode_with}
 use Rattle.hex.specs.Hex.{decode_sized, encode_lower, is_hex_digit, lower_digits}
 use Rattle.mon_bytes.specs.Reading.{IsBytes}
-use Rattle.schedule_text.specs.Fields.{cut, digit, number_of, within}
+use Rattle.schedule_text.specs.Fields.{cut, digit, within}
 use Rattle.schedule_text.proofs.FieldLaws.{apart, cut_again, list_all-weaker}
 use Rattle.schedule_text.proofs.Lengths.{at_most_20_digits}
 use Rattle.schedule_text.proofs.Numerals.{number_again, own, within_most}
 use Rattle.trace_text.specs.Words.{flag_text}
 use Rattle.mon_scrub.specs.declared.report.Part.{Part}
-use Rattle.mon_scrub.specs.Text.{AreParts, Fields, IsPart, IsReport, fields_text, last_text, member_text, part_text, parts_text, prefixes}
+use Rattle.mon_scrub.specs.Text.{AreParts, Fields, IsPart, IsReport, fields_text, part_text, parts_text, prefixes}
 use Rattle.mon_scrub.proofs.Found.{line_of}
-use Rattle.mon_scrub.specs.Reading.{◌>>=◌, digest_at, field_at, if_encoded, if_number, last_at, member_at, number_at, part_at, parts_at, report_at, reports_at, text_at, two_at}
+use Rattle.mon_scrub.specs.Reading.{◌>>=◌, digest_at, field_at, last_at, member_at, number_at, part_at, parts_at, report_at, reports_at, text_at, two_at}
 
 -- ---- what comes next
 

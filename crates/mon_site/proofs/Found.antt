@@ -7,7 +7,7 @@ use Rattle.mon_disk.specs.declared.disk.DiskCall.{DiskCall}
 use Rattle.mon_disk.specs.declared.disk.DiskCall.TheVariants.{Sync}
 use Rattle.mon_journal.specs.declared.stop.JournalStop.{JournalStop}
 use Rattle.mon_journal.specs.declared.stop.JournalStop.TheVariants as stops
-use Rattle.mon_journal.specs.Content.{Held, held_by}
+use Rattle.mon_journal.specs.Content.{Held}
 use Rattle.mon_journal.specs.Content as journal
 use Rattle.mon_journal.specs.Fields.{Owner}
 use Rattle.mon_journal.specs.Steps.{open_calls}

@@ -15,7 +15,6 @@ use Rattle.mon_disk.specs.Memory.{from_of, seen_of, settled}
 use Rattle.mon_disk.specs.MemoryDisk.{MemoryState, observed_of}
 use Rattle.mon_disk.proofs.Lives.{length_more}
 use Rattle.mon_tx.specs.Map.{Store}
-use Rattle.mon_journal.specs.Content.{Held, held_by}
 use Rattle.mon_journal.specs.Content as journal
 use Rattle.mon_journal.specs.Steps.{made_more, create_calls}
 use Rattle.mon_journal.specs.Written.{owner_of, created}
@@ -24,7 +23,7 @@ use Rattle.mon_store.specs.declared.stop.OpenStop.{OpenStop}
 use Rattle.mon_store.specs.declared.stop.OpenStop.TheVariants as opening
 use Rattle.mon_store.specs.Opening.{AlikePair, Settled, first_content}
 use Rattle.mon_store.specs.OpeningCalls.{MakesBoth, opening_calls, calls_on}
-use Rattle.mon_store.specs.Pair.{◌>>=◌, Found, Create, Live, Refusal, found, taken}
+use Rattle.mon_store.specs.Pair.{◌>>=◌, Found, Create, Live, Refusal, found}
 use Rattle.mon_store.specs.Pair as pair
 use Rattle.mon_store.specs.StoreView.{StoreView, opens_as, standing_of}
 use Rattle.quorum_model.specs.Cuts.{opening_cut}

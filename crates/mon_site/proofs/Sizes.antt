@@ -16,7 +16,7 @@ use Rattle.mon_store.specs.Checkpoint.{Entry, entry_text, value_text, checkpoint
 use Rattle.mon_store.specs.Sound as stored
 use Rattle.mon_store.specs.Sound.{is_first, next_journal}
 use Rattle.quorum_model.specs.Files as model
-use Rattle.quorum_model.specs.Files.{File, checkpoint_length, checkpoint}
+use Rattle.quorum_model.specs.Files.{checkpoint_length, checkpoint}
 use Rattle.mon_site.proofs.Standing.{file_by}
 
 entry_is : (e : Entry) → length (entry_text e) ≡ entry_len e

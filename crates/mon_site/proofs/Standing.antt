@@ -10,7 +10,7 @@ use Rattle.mon_tx.specs.declared.op.Op.{Op}
 use Rattle.mon_tx.specs.Map.{Store}
 use Rattle.mon_journal.specs.declared.stop.JournalStop.{JournalStop}
 use Rattle.mon_journal.specs.declared.journal.Journal.{Journal}
-use Rattle.mon_journal.specs.Content.{Held, appended}
+use Rattle.mon_journal.specs.Content.{Held}
 use Rattle.mon_journal.specs.Content as journal
 use Rattle.mon_store.specs.Calls.{journal_after}
 use Rattle.mon_types.specs.Sides.{other as other_side}

@@ -1,6 +1,6 @@
 -- A crash at any point of a call leaves two images on which a member opens the map from before or from after it.
-use Rattle.std.proofs.Common.{◌≡◌, ℕ, suc, ◌+◌, ◌<◌, ◌≤◌, Bool, true, false, inl, inr, List, [], ◌∷◌, Option, Some, Ok, Result, refl, sym, ap, ◌∙◌, subst, arith}
-use Rattle.std.specs.Prelude.{◌⊎◌, ◌==◌, if◌then◌else◌, slice_index_or, OnOk}
+use Rattle.std.proofs.Common.{◌≡◌, ℕ, ◌+◌, ◌<◌, ◌≤◌, Bool, true, false, inl, inr, List, [], ◌∷◌, Option, Some, Result, refl, sym, ap, ◌∙◌, subst, arith}
+use Rattle.std.specs.Prelude.{◌⊎◌, ◌==◌, if◌then◌else◌, slice_index_or}
 use Rattle.mon_types.specs.declared.member.Member.{Member}
 use Rattle.mon_types.specs.declared.names.Side.{Side}
 use Rattle.mon_types.specs.declared.names.Side.TheVariants.{A, B}
@@ -12,12 +12,12 @@ use Rattle.mon_disk.specs.MemoryDisk.{MemoryState}
 use Rattle.mon_journal.specs.declared.journal.Form.TheVariants.{Second}
 use Rattle.mon_journal.specs.declared.journal.Journal.{Journal}
 use Rattle.mon_journal.specs.declared.stop.JournalStop.{JournalStop}
-use Rattle.mon_journal.specs.Content.{Held, appended, held_by}
+use Rattle.mon_journal.specs.Content.{Held, appended}
 use Rattle.mon_journal.specs.Content as journal
 use Rattle.mon_journal.specs.Written.{owner_of}
 use Rattle.mon_store.specs.declared.store.Store as kept
 use Rattle.mon_store.specs.Calls.{journal_after}
-use Rattle.mon_store.specs.Times.{Lasts, Meanwhile, WhileOpening}
+use Rattle.mon_store.specs.Times.{Meanwhile, WhileOpening}
 use Rattle.mon_store.specs.Opening.{Alike}
 use Rattle.mon_store.specs.Sound.{of_a, of_b, of_live, BeforeOrAfter, IsBelow, StandsOn, ThisOrNext, next_journal}
 use Rattle.mon_store.specs.StoreView.{opens_as}

@@ -1,5 +1,5 @@
 -- Which arguments are those of a task.
-use Rattle.std.proofs.Common.{◌≡◌, ◌==◌, ℕ, suc, ◌≤◌, ◌+◌, ◌^◌, Bool, true, false, List, [], ◌∷◌, length, map, Option, Some, None, IsTrue, is_some, String, string_bytes, codes, decimal, refl, sym, ap, subst, ◌∙◌, arith}
+use Rattle.std.proofs.Common.{◌≡◌, ◌==◌, ℕ, suc, ◌≤◌, ◌+◌, ◌^◌, Bool, true, false, List, [], ◌∷◌, length, map, Option, Some, None, is_some, String, string_bytes, codes, decimal, refl, sym, ap, subst, ◌∙◌, arith}
 use Rattle.std.specs.Prelude.{IfSome, is_ok}
 use Rattle.std.specs.declared.alloc.Global.{Global}
 use Rattle.std.specs.List.{AllByRecursion, list_all}
@@ -12,13 +12,12 @@ use Rattle.mon_types.specs.declared.member.Member.{Member}
 use Rattle.mon_wire.specs.declared.request.Service.{Service}
 use Rattle.schedule_text.specs.Encoding.{RuleFits, rule_text}
 use Rattle.schedule_text.specs.Words.{service_text}
-use Rattle.task_words.specs.declared.task.Task.{Task}
 use Rattle.task_words.specs.Addresses.{IsAddress, addresses_of, addresses_text, commas}
-use Rattle.task_words.specs.Task.{AreStore, HasWords, IsAsked, ParsesTask, is_word, most_made}
+use Rattle.task_words.specs.Task.{AreStore, IsAsked, ParsesTask, is_word, most_made}
 use Rattle.task_words.specs.Words.{Parses, Reflects}
 use Rattle.task_words.proofs.AddressLaws.{addresses_there, commas_between, no_addresses}
 use Rattle.task_words.proofs.TaskKinds.{Kind, Parsed, Replays, Compares, Makes, Serves, Follows, Scrubs, DumpsKeys, DumpsPaxos, Exports, Imports, name_by, named, parsed, parses}
-use Rattle.task_words.proofs.NumberLaws.{last_reflects, parsed_none}
+use Rattle.task_words.proofs.NumberLaws.{last_reflects}
 use Rattle.task_words.proofs.Parsed.{WithFiles}
 use Rattle.task_words.proofs.Unique.{node_by_text, store_by_text, versions_by_text}
 

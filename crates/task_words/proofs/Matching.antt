@@ -1,5 +1,5 @@
 -- The command takes the arguments of each task, and finds each text under its name.
-use Rattle.std.proofs.Common.{◌≡◌, ℕ, true, false, List, [], ◌∷◌, Option, Some, IsTrue, codes, decimal, refl, ap, subst, ◌∙◌, drop}
+use Rattle.std.proofs.Common.{◌≡◌, true, false, List, [], ◌∷◌, Option, Some, IsTrue, codes, decimal, refl, ap, subst, ◌∙◌}
 use Rattle.std.specs.Prelude.{fold, find, option_map}
 use Rattle.std.specs.List.{list_all}
 use Rattle.mon_bytes.proofs.Ascii.{both}
@@ -12,7 +12,7 @@ use Rattle.schedule_text.specs.Words.{service_text}
 use Rattle.task_words.specs.declared.task.Task.{Task}
 use Rattle.task_words.specs.declared.task.Task.TheVariants as task
 use Rattle.task_words.specs.Addresses.{addresses_text}
-use Rattle.task_words.specs.Commands.{command, follow_texts, made_texts, no_texts, node_texts, store_texts, subcommand, versions_texts}
+use Rattle.task_words.specs.Commands.{command, no_texts, store_texts, subcommand}
 use Rattle.task_words.specs.Matches.{AreTexts}
 use Rattle.task_words.specs.Task.{is_word, words_of}
 use Rattle.task_words.proofs.TaskKinds.{Kind, Replays, Makes, Serves, Follows, Scrubs, Compares, DumpsKeys, DumpsPaxos, Exports, Imports, ids_by, kind_of, name_by, name_of, texts_of, words_are}

@@ -1,19 +1,13 @@
 -- Accepted arguments are read as the task that they ask for.
-use Rattle.std.proofs.Common.{◌≡◌, ℕ, Bool, true, false, List, [], ◌∷◌, Option, Some, None, Result, Ok, Err, String, string_bytes, map, codes, decimal, refl, sym, ap, ap₂, subst, ◌∙◌}
+use Rattle.std.proofs.Common.{◌≡◌, ℕ, Bool, true, false, List, [], ◌∷◌, Option, Some, None, Result, Ok, Err, String, string_bytes, map, refl, sym, ap, ap₂, subst, ◌∙◌}
 use Rattle.std.specs.Prelude.{option_map}
-use Rattle.std.proofs.lemmas.Bool.{false≢true}
 use Rattle.clap.specs.Words.{App, HasMatchesOf, Row, Text, subcommand_name_of, subcommand_of, subcommand_rows_of, takes}
 use Rattle.clap.specs.declared.parser.matches.ArgMatches.{ArgMatches}
-use Rattle.election_rules.specs.declared.rule.Rule.{Rule}
-use Rattle.mon_link.specs.declared.udp.Address.{Address}
-use Rattle.mon_types.specs.declared.member.Member.{Member}
-use Rattle.schedule_text.specs.Encoding.{rule_text}
 use Rattle.task_words.specs.declared.task.Task.{Task}
 use Rattle.task_words.specs.declared.task.Task.TheVariants as task
 use Rattle.task_words.specs.declared.task.WordsStop.{WordsStop}
 use Rattle.task_words.specs.declared.task.WordsStop.TheVariants.{Refused, OutOfMemory}
 use Rattle.std.specs.declared.alloc.Global.{Global}
-use Rattle.task_words.specs.Addresses.{addresses_text}
 use Rattle.task_words.specs.Commands.{command}
 use Rattle.task_words.specs.Matches.{AreTexts, IsGiven}
 use Rattle.task_words.specs.Task.{Asks, AsksFor, HasWords, IsAsked, Reads, words_of}

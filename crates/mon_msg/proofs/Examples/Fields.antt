@@ -1,5 +1,5 @@
 -- A step writes only the field that it changes, so what an act leaves and what it keeps is seen without a proof.
-use Rattle.std.proofs.Common.{◌≡◌, ℕ, Bool, List, Option, Some, None, refl}
+use Rattle.std.proofs.Common.{◌≡◌, ℕ, Bool, List, Option, Some, refl}
 use Rattle.mon_tx.specs.declared.op.Op.{Op}
 use Rattle.mon_msg.specs.declared.paxos.LeaderStage.{LeaderStage}
 use Rattle.mon_wire.specs.declared.phase.Phase.TheVariants as phase

@@ -3,13 +3,13 @@ use Rattle.std.specs.Prelude.{ℕ, List, Option, Some, None, [], ◌∷◌, ◌+
 use Rattle.mon_bytes.specs.declared.entry.Entry.{Entry}
 use Rattle.mon_msg.specs.Puts.{put, put_number}
 pub use Rattle.mon_tx.specs.Puts.{erase}
-use Rattle.mon_tx.specs.Keys.{area_text, key_text}
+use Rattle.mon_tx.specs.Keys.{area_text}
 use Rattle.mon_tx.specs.Text.{text}
 use Rattle.mon_tx.specs.declared.key.Area.TheVariants as area
 use Rattle.mon_tx.specs.declared.key.Area.{Area}
 use Rattle.mon_tx.specs.declared.key.Key.TheVariants as key
 use Rattle.mon_tx.specs.declared.key.Key.{Key}
-use Rattle.mon_tx.specs.declared.op.Op.TheVariants.{Put, Erase, ErasePrefix}
+use Rattle.mon_tx.specs.declared.op.Op.TheVariants.{Put, ErasePrefix}
 use Rattle.mon_tx.specs.declared.op.Op.{Op}
 
 pub data Change : Type 0 where

@@ -1,4 +1,4 @@
-use Rattle.std.proofs.Common.{ℕ, ◌≤◌, ◌^◌, decimal, map, string_bytes, refl, sym, ◌∙◌}
+use Rattle.std.proofs.Common.{◌≤◌, ◌^◌, map, string_bytes, refl, ◌∙◌}
 use Rattle.task_words.proofs.AskedLaws.{reflects_versions, versions_without_member}
 use Rattle.task_words.proofs.NumberLaws.{member_there, no_member_there}
 use Rattle.task_words.proofs.Parsed.{six_texts}

@@ -1,4 +1,4 @@
-use Rattle.std.proofs.Common.{codes, refl, sym}
+use Rattle.std.proofs.Common.{codes, sym}
 use Rattle.clap.specs.Words.{found_of, rows_of}
 use Rattle.task_words.proofs.Reading.{given_as, is_met, met_as, none_met}
 use Rattle.task_words.proofs.matched.task_in.Goals as goal
