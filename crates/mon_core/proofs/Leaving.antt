@@ -23,12 +23,16 @@ use Rattle.mon_plan.specs.Leaves.{Ends, Leaves, WritesEpoch}
 use Rattle.mon_plan.specs.Plans.{done, stands, changed, arm_all, sending}
 use Rattle.mon_plan.proofs.Planning.{changed-state}
 use Rattle.mon_stored.proofs.Standing.{readings-after}
-use Rattle.mon_core.specs.Acts.{IsLast, KeepsAll, Leads, LeadsOn, MayAct}
+use Rattle.mon_core.specs.Acts.{IsLast, KeepsAll, Leads, MayAct}
 use Rattle.mon_core.specs.Rows.{IsReady}
 use Rattle.mon_core.proofs.Acting.{rests}
 use Rattle.mon_event.specs.Events.{IsCarried, IsUnderWay, remembering}
 use Rattle.mon_event.specs.State.{state_of}
 use Rattle.mon_event.specs.declared.event.Event.{Event}
+
+-- the stage of an active leader stays its phase when this role's state is replaced
+abbrev pub LeadsOn : {S : Type 0} → (put : S → State → State) → Type 0
+LeadsOn {S} put = (x : S) (s : State) → s.phase ≡ phase.Active → Leads s → Leads (put x s)
 
 -- ---- what the store's readers return, except for the epoch and the count of starts
 

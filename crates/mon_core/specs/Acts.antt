@@ -44,10 +44,6 @@ MayAct me m e (next.Begin value o) =
 abbrev pub Leads : State → Type 0
 Leads s = s.phase ≡ phase_of s.leader.stage
 
--- the stage of an active leader stays its phase when this role's state is replaced
-abbrev pub LeadsOn : {S : Type 0} → (put : S → State → State) → Type 0
-LeadsOn {S} put = (x : S) (s : State) → s.phase ≡ phase.Active → Leads s → Leads (put x s)
-
 -- after this act no other one follows in the same event
 abbrev pub IsLast : Next → Type 0
 IsLast next.Stay = Unit {0}

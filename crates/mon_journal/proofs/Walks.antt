@@ -7,7 +7,7 @@ use Rattle.mon_bytes.proofs.Fields.{ok_is}
 use Rattle.mon_journal.specs.declared.stop.JournalStop.{JournalStop}
 use Rattle.mon_journal.specs.declared.stop.JournalStop.TheVariants.{DiskFault, NotAStore, OutOfMemory}
 use Rattle.mon_journal.specs.declared.journal.Journal.{Journal}
-use Rattle.mon_journal.specs.Content.{payloads_then, header_at, records_at, payloads_in, payloads_of, held_by, Holds, Fails, IsStore, IsUnread, IsNext, HeadAt, NextIs}
+use Rattle.mon_journal.specs.Content.{Held, content, payloads_then, header_at, records_at, payloads_in, payloads_of, held_by, Holds, Fails, IsUnread, IsNext, HeadAt, NextIs}
 use Rattle.mon_journal.specs.Pieces.{left_at}
 use Rattle.mon_journal.proofs.Local.{from, bind_ok}
 use Rattle.mon_journal.proofs.RecordParts.{one_found}
@@ -15,6 +15,10 @@ use Rattle.mon_journal.proofs.Files.{held_with, held_open, held_found, opened_fi
 use Rattle.mon_journal.specs.Steps.{IsOutside}
 use Rattle.mon_journal.proofs.Steady.{header_steady}
 use Rattle.mon_journal.proofs.Heads.{each_file, both_files}
+
+-- a file is open, and each field up to its first closed gate is valid
+abbrev pub IsStore : List ℕ → Type 0
+IsStore file = (held : Held) × (content file ≡ Some (Ok held))
 
 -- after the gate and the header of a store's file all its payloads are left
 pub all_left : (file : List ℕ) → IsStore file → IsUnread (payloads_of file) (left_at 25 file)

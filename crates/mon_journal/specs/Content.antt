@@ -135,10 +135,6 @@ HeadAt (Ok None) c = records_at c ≡ Ok ([], c.at)
 HeadAt (Ok (Some n)) c = records_at c ≡ payloads_then (take n (drop 5 c.rest) ∷ []) (records_at (moved (5 + n) c))
 HeadAt (Err e) c = Fails e (records_at c)
 
--- a file is open, and each field up to its first closed gate is valid
-abbrev pub IsStore : List ℕ → Type 0
-IsStore file = (held : Held) × (content file ≡ Some (Ok held))
-
 -- these payloads are left to be read
 abbrev pub IsUnread : List (List ℕ) → Reading → Type 0
 IsUnread payloads c = (gate : ℕ) × (records_at c ≡ Ok (payloads, gate))

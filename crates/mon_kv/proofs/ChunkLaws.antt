@@ -15,12 +15,19 @@ use Rattle.mon_bytes.specs.Texts.{is_prefix}
 use Rattle.mon_kv.specs.Tree.{bytes_cmp, first}
 use Rattle.mon_kv.specs.Readers.{after, entries_after}
 use Rattle.mon_tx.specs.Keys.{is_local}
-use Rattle.mon_kv.specs.Chunks.{shared_of, entry_len, run_of, RunsOn}
+use Rattle.mon_kv.specs.Chunks.{shared_of, entry_len, run_of}
 use Rattle.mon_kv.specs.Tree as trees
 use Rattle.mon_kv.specs.Areas.{Records, places, store, is_area, IsWhole}
 use Rattle.mon_kv.specs.declared.tree.Tree.{Tree}
 use Rattle.mon_kv.proofs.AreaLaws.{from_T}
 use Rattle.mon_kv.proofs.PlaceLaws.{entries-store, below_places}
+
+-- After `taken` of `all` were taken and `rest` remains, with `left` bytes of room: the longest run of `all` is `taken`
+-- and then the longest run of `rest`.
+pub record RunsOn (all : List (Place × List ℕ)) (room most : ℕ) (taken : List (Place × List ℕ)) (left : ℕ) (rest : List (Place × List ℕ)) : Type 0 where
+  pub run : taken ++ run_of left (most - length taken) rest ≡ run_of room most all
+  pub within : length taken ≤ most
+  pub count : length taken + length rest ≡ length all
 
 abbrev Entries : Type 0
 Entries = List (Place × List ℕ)

@@ -1,5 +1,5 @@
 -- The shared entries of a map, and the runs of them that a chunk takes.
-use Rattle.std.specs.Prelude.{◌≡◌, ℕ, zero, suc, ◌+◌, ◌-◌, ◌≤◌, Bool, not, ◌==◌, nat_le, if◌then◌else◌, List, [], ◌∷◌, ◌++◌, map, length}
+use Rattle.std.specs.Prelude.{◌≡◌, ℕ, zero, suc, ◌+◌, ◌-◌, Bool, not, ◌==◌, nat_le, if◌then◌else◌, List, [], ◌∷◌, map, length}
 use Rattle.std.specs.List.{filter, list_any}
 use Rattle.std.specs.Ordering.{eq_by_cmp}
 use Rattle.std.specs.FinMap.{entries}
@@ -48,10 +48,3 @@ plain e = ((e.prefix, e.key), e.value)
 pub record IsLongestRun (all : List (Place × List ℕ)) (room most : ℕ) (run : KeyRun) : Type 0 where
   pub entries : map plain run.entries.items ≡ run_of room most all
   pub done : run.done ≡ (length run.entries.items == length all)
-
--- After `taken` of `all` were taken and `rest` remains, with `left` bytes of room: the longest run of `all` is `taken`
--- and then the longest run of `rest`.
-pub record RunsOn (all : List (Place × List ℕ)) (room most : ℕ) (taken : List (Place × List ℕ)) (left : ℕ) (rest : List (Place × List ℕ)) : Type 0 where
-  pub run : taken ++ run_of left (most - length taken) rest ≡ run_of room most all
-  pub within : length taken ≤ most
-  pub count : length taken + length rest ≡ length all

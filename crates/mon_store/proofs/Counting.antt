@@ -7,7 +7,14 @@ use Rattle.mon_disk.specs.Calls.{DiskState, faults_after, MayCountRefusal, Calle
 use Rattle.mon_store.specs.declared.stop.OpenStop.{OpenStop}
 use Rattle.mon_store.specs.declared.stop.OpenStop.TheVariants.{DiskFault, OutOfMemory}
 use Rattle.mon_store.specs.declared.stop.OpenStop.TheVariants as stop
-use Rattle.mon_store.specs.Opening.{stop_in, Counts, BothCount, IsNoFault}
+use Rattle.mon_store.specs.Opening.{stop_in, Counts, BothCount}
+
+-- any stop but a disk's fault
+abbrev pub IsNoFault : OpenStop → Type 0
+IsNoFault DiskFault = ⊥
+IsNoFault OutOfMemory = Unit {0}
+IsNoFault (stop.NotAStore disk at) = Unit {0}
+IsNoFault (stop.Stranger kept asked) = Unit {0}
 
 pub of_calls : {calls : List DiskCall} {P : List ℕ → Type 0} {stop : Option Stop} {old new : DiskState} → Called calls P stop old new → Counts stop old new
 of_calls c = (c.faults, c.refusals)

@@ -18,10 +18,11 @@ use Rattle.mon_store.specs.declared.stop.OpenStop.TheVariants.{DiskFault, OutOfM
 use Rattle.mon_store.specs.declared.stop.OpenStop.TheVariants as stop
 use Rattle.mon_store.specs.Pair.{Refusal, NotAStore, Stranger, Found, Create, Live, held_on, chosen, found}
 use Rattle.mon_journal.specs.Written.{owner_of}
-use Rattle.mon_store.specs.Opening.{held_in, len_of, named, IsStopOf, IsRefusal, IsNoFault, stop_in}
+use Rattle.mon_store.specs.Opening.{held_in, len_of, named, IsStopOf, IsRefusal, stop_in}
 use Rattle.mon_store.specs.OpeningCalls.{calls_on, unless_refused, both_calls, creation, opening_calls, MakesBoth, OpensWith}
 use Rattle.mon_store.proofs.Alike.{at_some, holds}
 use Rattle.mon_store.proofs.Answering.{found_is}
+use Rattle.mon_store.proofs.Counting.{IsNoFault}
 use Rattle.mon_store.proofs.Called.{stop_named, on_a, on_b, both_then, both_stop, still_a, still_b}
 
 -- what can be seen of both disks

@@ -120,10 +120,3 @@ IsRefusal DiskFault = ⊥
 IsRefusal OutOfMemory = ⊥
 IsRefusal (stop.NotAStore disk at) = Unit {0}
 IsRefusal (stop.Stranger kept asked) = Unit {0}
-
--- any stop but a disk's fault
-abbrev pub IsNoFault : OpenStop → Type 0
-IsNoFault DiskFault = ⊥
-IsNoFault OutOfMemory = Unit {0}
-IsNoFault (stop.NotAStore disk at) = Unit {0}
-IsNoFault (stop.Stranger kept asked) = Unit {0}

@@ -10,8 +10,14 @@ use Rattle.mon_tx.specs.declared.refusal.TxRefused.TheVariants as refused
 use Rattle.mon_tx.specs.Text.{is_range}
 use Rattle.mon_tx.specs.Fields.{◌>>=◌, format_at}
 use Rattle.mon_tx.specs.Decode.{op_at, ops_at, ops_of}
-use Rattle.mon_tx.specs.EncodedOp.{range_at, with_range, ranges_at}
+use Rattle.mon_tx.specs.EncodedOp.{range_at, ranges_at}
 use Rattle.mon_tx.proofs.Loop.{one_more}
+
+-- whether there was a range before, or is one among the changes that are read
+abbrev pub with_range : Bool → Result (List Op × Reading) TxRefused → Result (Bool × Reading) TxRefused
+with_range before read = do
+  ops ← read
+  Ok (before || list_any is_range ops.0, ops.1)
 
 pub or-assoc : (a b c : Bool) → (a || (b || c)) ≡ ((a || b) || c)
 or-assoc true b c = refl

@@ -26,12 +26,6 @@ range_at format c = do
   op ← op_at format c
   Ok (is_range op.0, op.1)
 
--- whether there was a range before, or is one among the changes that are read
-abbrev pub with_range : Bool → Result (List Op × Reading) TxRefused → Result (Bool × Reading) TxRefused
-with_range before read = do
-  ops ← read
-  Ok (before || list_any is_range ops.0, ops.1)
-
 -- whether there is a range among this many changes
 abbrev pub ranges_at : ℕ → ℕ → Reading → Result (Bool × Reading) TxRefused
 ranges_at format count c = do

@@ -1,6 +1,7 @@
 use Rattle.std.proofs.Common.{◌≡◌, ◌-◌}
 use Rattle.mon_tx.specs.Decode.{ops_at}
-use Rattle.mon_tx.specs.EncodedOp.{with_range, ranges_at}
+use Rattle.mon_tx.specs.EncodedOp.{ranges_at}
+use Rattle.mon_tx.proofs.Over.{with_range}
 use Rattle.mon_tx.proofs.scan.ranges_at.Given as goal
 
 abbrev pub invariant-loop : goal.invariant-loop

@@ -3,8 +3,8 @@ use Rattle.std.specs.Option.{option_map}
 use Rattle.std.proofs.lemmas.List.{map-append, length-map}
 use Rattle.mon_tx.specs.Keys.{is_local}
 use Rattle.mon_kv.specs.Readers.{found_of, entries_after}
-use Rattle.mon_kv.specs.Chunks.{shared_of, entry_len, run_of, plain, RunsOn}
-use Rattle.mon_kv.proofs.ChunkLaws.{shorter, skips, takes, runs_push, runs_full, runs_long, runs_more}
+use Rattle.mon_kv.specs.Chunks.{shared_of, entry_len, run_of, plain}
+use Rattle.mon_kv.proofs.ChunkLaws.{RunsOn, shorter, skips, takes, runs_push, runs_full, runs_long, runs_more}
 use Rattle.mon_kv.proofs.kv.Kv.run_from.Goals as goal
 
 pub loop-found-smaller-then-is_local : goal.loop-found-smaller-then-is_local

@@ -1,6 +1,7 @@
 use Rattle.std.proofs.Common.{length, map}
 use Rattle.mon_kv.specs.Readers.{entries_after}
-use Rattle.mon_kv.specs.Chunks.{shared_of, plain, RunsOn}
+use Rattle.mon_kv.specs.Chunks.{shared_of, plain}
+use Rattle.mon_kv.proofs.ChunkLaws.{RunsOn}
 use Rattle.mon_kv.proofs.kv.Kv.run_from.Given as goal
 
 abbrev pub invariant-loop-found : goal.invariant-loop-found
