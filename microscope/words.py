@@ -26,7 +26,8 @@ ROWS = {
 # The points of a row's paragraph that say why the row drops something, if they aren't all of its points.
 POINTS = {'hear_propose': (), 'hear_earlier': (1,), 'weigh': (4, 5), 'copy_again': (1,), 'hear_probe_reply': (), 'hear_collect': (), 'hear_last': (2,),
           'hear_get_chunk': (1,), 'hear_chunk': (), 'hear_last_chunk': ()}
-# What it means that a part of a test decided: the beginning of that part's text, whether the part holds, and the meaning.
+# What it means that a part of a test decided: the beginning of that part's text, whether the part holds, and the meaning. It has to be true of each row
+# that has a test with this beginning.
 TESTS = [
     ('of_leader ', False, "the message isn't from the leader that the monitor follows, or is of another epoch"),
     ('of_member ', False, "the message isn't from a member of its quorum in this epoch, or comes in a phase that doesn't take it"),
@@ -44,10 +45,10 @@ TESTS = [
     ('has q me.member.rank', False, "the monitor isn't in the quorum that the message names"),
     ('has q f', False, "the sender isn't in the quorum that it names"),
     ('is_majority ', False, 'the quorum is no majority'),
-    ('pn == promise_of', False, "the proposal number isn't the one that the monitor promised"),
+    ('pn == (promise_of', False, "the proposal number isn't the one that the monitor promised"),
     ('pn == leader.pn', False, "the proposal number isn't the leader's own"),
     ('nat_lt pn leader.pn', True, "the answer is to an older proposal number than the leader's"),
-    ('v == suc', False, "the value isn't for the next version"),
+    ('v == (suc', False, "the value isn't for the next version"),
     ('last == x.readings.last', False, "the message names another last version than the monitor's"),
     ('is_some (pending', True, 'the monitor accepted a value that it has not committed yet'),
     ('nat_lt (suc last) from', True, 'the values begin after the next version: one before is missing'),
@@ -63,9 +64,11 @@ TESTS = [
     ('x.readings.marked', True, 'the monitor takes a full copy, and has no usable store meanwhile'),
     ('nat_le 1 last', False, 'the sender has nothing to copy'),
     ('nat_le x.readings.floor last', False, 'the sender is behind what the copy must reach'),
-    ('nat_lt last x.readings.floor', True, 'the sender is behind what the copy must reach'),
+    ('full && (nat_lt last x.readings.floor', True, 'the sender is behind what the copy must reach'),
     ('is_ours', False, "the message isn't the answer that the copy waits for"),
     ('of_provider', False, "the message isn't from the monitor that is copied"),
+    ('awaits_cookie', False, 'no cookie is awaited'),
+    ('same_flag full', False, 'the cookie is for the other kind of copy, full or recent'),
     ('is_cookie', False, "the message is of another copy"),
 ]
 # Values of a starting monitor that are left out.
@@ -99,10 +102,14 @@ def sends_of(step: Step) -> list[Sent]:
     return [Sent(int(it[1]), int(it[2]), int(it[3]), it[4], int(it[5]), it[6], step.number, time) for it in map(SEND.fullmatch, step.lines) if it]
 
 
+def meaning_of(test: str, holds: bool) -> str | None:
+    """What it means that this part of a test holds, or fails."""
+    return next((words for begin, it_holds, words in TESTS if test.lstrip('(').startswith(begin) and it_holds is holds), None)
+
+
 def why(drop: Drop) -> str:
     """A sentence on why a row dropped its input."""
-    name = drop.test.lstrip('(')
-    return next((words for begin, holds, words in TESTS if name.startswith(begin) and holds is drop.holds), f'{drop.test} {"holds" if drop.holds else "fails"}')
+    return meaning_of(drop.test, drop.holds) or f'{drop.test} {"holds" if drop.holds else "fails"}'
 
 
 @functools.lru_cache(maxsize=None)
