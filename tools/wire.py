@@ -200,10 +200,13 @@ def hello_of(datagram: bytes) -> Hello:
     reader = Reader(datagram)
     if reader.take(1) != bytes([HELLO]):
         raise Malformed('no hello')
-    version, name = reader.key(), reader.decoded(reader.take(reader.unsigned(1)), 'utf-8')
+    version, octets = reader.key(), reader.take(reader.unsigned(1))
+    name = reader.decoded(octets, 'utf-8')
     monitors, rule, rank = reader.unsigned(1), rule_of(reader), reader.unsigned(1)
     if not 1 <= len(version) <= MOST_VERSION or not all('!' <= letter <= '~' for letter in version) or not rank < monitors <= MOST_MONITORS:
         raise Malformed(f'{version!r}, {rank} of {monitors}')
+    if len(octets) > MOST_QUORUM_NAME:
+        raise Malformed(f'a name of {len(octets)} bytes')
     addresses = [(socket.inet_ntoa(reader.take(4)), reader.unsigned(2)) for _ in range(monitors)]
     reader.end()
     return Hello(version, name, monitors, rule, rank, addresses)
