@@ -6,21 +6,19 @@ use Rattle.mon_bytes.specs.declared.command.Command.{Command}
 use Rattle.mon_bytes.specs.declared.entry.Entry.{Entry}
 use Rattle.mon_msg.proofs.Changed.{readings-joined}
 use Rattle.mon_msg.specs.Joined.{joined}
-use Rattle.mon_msg.specs.Protocol.Changes.{Boot, Change, Copy, Epoch, Last, Learn, Mark, Numbers, Promise, Record, Unmark, Vote, ops_of, encoded}
+use Rattle.mon_msg.specs.Protocol.Changes.{Boot, Change, Copy, Epoch, Last, Learn, Mark, Numbers, Promise, Record, Unmark, Vote, encoded, ops_of}
 use Rattle.mon_msg.specs.Protocol.Course.{Course}
+use Rattle.mon_msg.specs.Protocol.Phases.{same_phase}
 use Rattle.mon_msg.specs.Protocol.Played.{Fits, IsShort, play, played}
 use Rattle.mon_msg.specs.Protocol.Readings.{Readings, cell_after, epoch_of, epoch_or_first, readings_of}
-use Rattle.mon_msg.specs.Protocol.Phases.{same_phase}
-use Rattle.mon_msg.specs.Protocol.State.{State}
-use Rattle.mon_msg.specs.declared.input.Input.{Input}
-use Rattle.mon_msg.specs.declared.input.Input.TheVariants as input
-use Rattle.mon_wire.specs.declared.phase.Phase.TheVariants as phase
-use Rattle.std.specs.Prelude.{if◌then◌else◌}
 use Rattle.mon_msg.specs.Protocol.Records.{most_value, pending, transaction_in}
 use Rattle.mon_msg.specs.Protocol.Sending.{message_to}
 use Rattle.mon_msg.specs.Protocol.Services.{service_last}
+use Rattle.mon_msg.specs.Protocol.State.{State}
 use Rattle.mon_msg.specs.Protocol.Value.{service_of, value}
 use Rattle.mon_msg.specs.declared.clients.Waiting.{Waiting}
+use Rattle.mon_msg.specs.declared.input.Input.TheVariants as input
+use Rattle.mon_msg.specs.declared.input.Input.{Input}
 use Rattle.mon_msg.specs.declared.paxos.Found.{Found}
 use Rattle.mon_msg.specs.declared.plan.Origin.TheVariants as origin
 use Rattle.mon_msg.specs.declared.plan.Origin.{Origin}
@@ -32,21 +30,22 @@ use Rattle.mon_msg.specs.declared.view.Me.{Me}
 use Rattle.mon_tx.specs.Decision.{Cell, decision}
 use Rattle.mon_tx.specs.Keys.{place}
 use Rattle.mon_tx.specs.Map.{Store, apply}
-use Rattle.mon_tx.specs.Text.{text}
 use Rattle.mon_tx.specs.declared.key.Area.TheVariants as area
 use Rattle.mon_tx.specs.declared.key.Key.TheVariants as key
+use Rattle.mon_tx.specs.Text.{text}
 use Rattle.mon_tx.specs.declared.op.Op.{Op}
 use Rattle.mon_wire.specs.declared.body.Body.TheVariants as body
 use Rattle.mon_wire.specs.declared.body.Body.{Body}
 use Rattle.mon_wire.specs.declared.message.Message.{Message}
 use Rattle.mon_wire.specs.declared.parts.Told.{Told}
+use Rattle.mon_wire.specs.declared.phase.Phase.TheVariants as phase
 use Rattle.mon_wire.specs.declared.request.Request.TheVariants as request
 use Rattle.mon_wire.specs.declared.request.Request.{Request}
-use Rattle.quorum_walk.proofs.Lists.{all_append, all_of}
 use Rattle.quorum_walk.proofs.Sparing.{EntrySpares, Own, Spares, own_of, played_more}
-use Rattle.quorum_walk.proofs.Walk.{Then, done}
 use Rattle.std.proofs.Common.{IfSome, List, None, Ok, Option, Some, [], ap, inl, inr, length, map, refl, subst, suc, sym, ℕ, ◌++◌, ◌∙◌, ◌∷◌, ◌≡◌, ◌≤◌, ◌⊎◌}
 use Rattle.std.specs.List.{AllByRecursion}
+use Rattle.std.specs.Prelude.{if◌then◌else◌}
+use Rattle.table_walk.proofs.Lists.{all_append, all_of}
 
 -- what some store's readers return
 abbrev pub IsStored : Readings → Type 0
@@ -310,7 +309,3 @@ module _ {me : Me} {w0 : Base me} {w : Readings} {cs : List Change} {found : Opt
 
   pub ended_at : FineAt Calm me w0 w cs found value pn stage queue out → FineAt Shaped me w0 w cs found value pn stage queue out
   ended_at A = record { shape = inl A.shape; stored = A.stored; tells = A.tells; boot = A.boot; fits = A.fits; readings = A.readings; state = A.state; sends = A.sends }
-
--- nothing more is done
-pub over : {me : Me} (w0 : Base me) {x : Course} → Fine w0 x → Then (Ended w0) (Ok x)
-over w0 A = done (ended_at A)

@@ -1,29 +1,26 @@
 -- What is read of a store whose records are values of commands, and that this holds after it learns or copies such
 -- values.
 use Rattle.mon_bytes.specs.declared.entry.Entry.{Entry}
-use Rattle.mon_msg.specs.Protocol.Changes.{Copy, Last, Learn, Record, ops_of}
+use Rattle.mon_msg.specs.Protocol.Changes.{Copy, Learn, Record, ops_of}
 use Rattle.mon_msg.specs.Protocol.Chunks.{copy_changes, record_changes}
-use Rattle.mon_msg.specs.Protocol.Course.{Course}
-use Rattle.mon_msg.specs.Protocol.Learning.{learn, learn_changes}
+use Rattle.mon_msg.specs.Protocol.Learning.{learn_changes}
 use Rattle.mon_msg.specs.Protocol.Played.{play, played, with_record}
 use Rattle.mon_msg.specs.Protocol.Readings.{Readings, after, cell_after}
 use Rattle.mon_msg.specs.Protocol.Records.{found_as, longest, longest_onto, pending_of, record_at, run_from, run_of}
 use Rattle.mon_msg.specs.Protocol.Replay.{more_of, most_bytes, most_versions, step_of}
 use Rattle.mon_msg.specs.Protocol.Value.{value}
 use Rattle.mon_msg.specs.Puts.{put}
-use Rattle.mon_msg.specs.declared.view.Me.{Me}
 use Rattle.mon_tx.specs.Decision.{Cell, Decision, decided, decision, later, or_before}
 use Rattle.mon_tx.specs.Keys.{place}
 use Rattle.mon_tx.specs.Map.{place_cmp}
-use Rattle.mon_tx.specs.Text.{text}
 use Rattle.mon_tx.specs.declared.key.Area.TheVariants as area
 use Rattle.mon_tx.specs.declared.key.Key.TheVariants as key
+use Rattle.mon_tx.specs.Text.{text}
 use Rattle.mon_tx.specs.declared.op.Op.{Op}
-use Rattle.quorum_walk.proofs.FineCourses.{Base, Calm, CellFine, EntryFine, Fine, Fit, FoundFine, OwnFine, RecordsFine, Val, changes_fine, number_fine}
-use Rattle.quorum_walk.proofs.Lists.{all_append, all_map}
-use Rattle.quorum_walk.proofs.Sparing.{EntrySpares, Own, Spares, learned_own, own_of}
-use Rattle.quorum_walk.proofs.Walk.{Then, done, where_fits}
-use Rattle.std.proofs.Common.{Bool, IfSome, List, None, Option, Some, [], ap, cond, false, inl, inr, leb, length, min, refl, subst, suc, sym, true, zero, ℕ, ◌++◌, ◌+◌, ◌-◌, ◌∙◌, ◌∷◌, ◌≡◌, ◌⊎◌}
+use Rattle.quorum_walk.proofs.FineCourses.{Calm, CellFine, EntryFine, Fit, FoundFine, RecordsFine, Val}
+use Rattle.table_walk.proofs.Lists.{all_append, all_map}
+use Rattle.quorum_walk.proofs.Sparing.{EntrySpares, Spares}
+use Rattle.std.proofs.Common.{Bool, IfSome, List, None, Option, Some, [], cond, false, inl, inr, leb, length, min, refl, subst, suc, sym, true, zero, ℕ, ◌++◌, ◌+◌, ◌-◌, ◌∙◌, ◌∷◌, ◌≡◌, ◌⊎◌}
 use Rattle.std.proofs.lemmas.Bool.{cond_both}
 use Rattle.std.specs.List.{AllByRecursion}
 use Rattle.std.specs.Option.{option_map}
@@ -168,17 +165,3 @@ longest_onto_fine P test front (x ∷ xs) f k = cond_both (test (front ++ x ∷ 
 
 pub longest_fine : {A : Type 0} (P : A → Type 0) (test : List A → Bool) (xs : List A) → AllByRecursion P xs → AllByRecursion P (longest test xs)
 longest_fine P test xs k = longest_onto_fine P test [] xs tt k
-
--- ---- learning
-
-pub learn_fine : {me : Me} (w0 : Base me) (v : ℕ) (values : List (List Op)) (x : Course) → AllByRecursion Val values → Fine w0 x → Then (Fine w0) (learn v values x)
-unfolding learn
-learn_fine w0 v [] x V A = done A
-learn_fine w0 v (value ∷ values) x V A =
-    let cs = learn_changes v (value ∷ values) in
-    let w = played cs x.readings in
-    let same : own_of w ≡ own_of x.readings = learned_own v (value ∷ values) x.readings (all_spare (value ∷ values) V) in
-    let O : OwnFine (own_of w) = subst OwnFine (sym same) A.readings.own in
-    let B = changes_fine cs A (learned_calm v (value ∷ values)) (learned_fits v (value ∷ values) V) (record { own = O; records = learned_cells v (value ∷ values) x.readings V A.readings.records }) (ap (λ (o : Own). o.boot) same) in
-    where_fits (Fine w0) _ (v + length values) _ (λ short. done (number_fine (Last (v + length values)) B tt short refl refl
-    (record { epoch = O.epoch; last_pn = O.last_pn; promise = O.promise; pending = O.pending; last = short; floor = O.floor })))

@@ -1,40 +1,50 @@
--- All rows of the table pass on only values of commands, and their numbers fit.
-use Rattle.election_rules.specs.declared.scores.Scores.{Scores}
+-- Each event passes on only values of commands, its numbers fit, and what its course says is what its transaction writes.
+use Rattle.log_model.specs.LogOfValues.{IsCommand}
 use Rattle.mon_bytes.specs.declared.entry.Entry.{Entry}
-use Rattle.mon_msg.specs.Protocol.Changes.{Boot, Epoch}
-use Rattle.mon_msg.specs.Protocol.Course.{Course, change, change_if, disarm, elector_is}
-use Rattle.mon_msg.specs.Protocol.Entering.{own_table}
-use Rattle.mon_msg.specs.Protocol.Hearing.{hear, is_heard}
+use Rattle.mon_msg.specs.Protocol.Changes.{Boot, Change, Epoch, Last, Numbers, Promise, Unmark}
+use Rattle.mon_msg.specs.Protocol.Chunks.{copy_changes, record_changes}
+use Rattle.mon_msg.specs.Protocol.Collecting.{missed}
+use Rattle.mon_msg.specs.Protocol.Course.{Course, change, change_all, ◌▸◌}
+use Rattle.mon_msg.specs.Protocol.Leading.{begin_with}
+use Rattle.mon_msg.specs.Protocol.Learning.{learn_changes}
+use Rattle.mon_msg.specs.Protocol.Length.{fits}
 use Rattle.mon_msg.specs.Protocol.Phases.{same_phase}
-use Rattle.mon_msg.specs.Protocol.Pings.{hear_ping, hear_ping_reply, measure, note_table, ping}
-use Rattle.mon_msg.specs.Protocol.Played.{IsShort, play}
-use Rattle.mon_msg.specs.Protocol.Readings.{Readings}
-use Rattle.mon_msg.specs.Protocol.Records.{pending}
-use Rattle.mon_msg.specs.Protocol.Sending.{others}
-use Rattle.mon_msg.specs.Protocol.State.{State}
-use Rattle.mon_msg.specs.Protocol.Table.{at_rest, before_start, react, running, start, timer_comes}
-use Rattle.mon_msg.specs.Protocol.Timers.{end_of}
-use Rattle.mon_msg.specs.Protocol.Value.{value}
+use Rattle.mon_msg.specs.Protocol.Places.{is_after}
+use Rattle.mon_msg.specs.Protocol.Played.{IsShort, play, played}
+use Rattle.mon_msg.specs.Protocol.Proposing.{asked_of}
+use Rattle.mon_msg.specs.Protocol.Readings.{Readings, epoch_of, promise_of}
+use Rattle.mon_msg.specs.Protocol.Records.{pending, run_from}
+use Rattle.mon_msg.specs.Protocol.Sending.{answers_to, members}
+use Rattle.mon_msg.specs.Protocol.State.{State, quorum_of}
+use Rattle.mon_msg.specs.Protocol.Table.{at_rest, react}
+use Rattle.mon_msg.specs.declared.clients.Asked.{Asked}
+use Rattle.mon_msg.specs.declared.clients.Waiting.{Waiting}
 use Rattle.mon_msg.specs.declared.input.Input.TheVariants as input
 use Rattle.mon_msg.specs.declared.input.Input.{Input}
+use Rattle.mon_msg.specs.declared.paxos.Found.{Found}
+use Rattle.mon_msg.specs.declared.plan.Origin.TheVariants as origin
+use Rattle.mon_msg.specs.declared.plan.Origin.{Origin}
+use Rattle.mon_msg.specs.declared.plan.Sent.TheVariants as sent
+use Rattle.mon_msg.specs.declared.plan.Sent.{Sent}
+use Rattle.mon_msg.specs.declared.synchronization.SyncStage.TheVariants as sync
+use Rattle.mon_msg.specs.declared.synchronization.SyncStage.{SyncStage}
 use Rattle.mon_msg.specs.declared.view.Me.{Me}
-use Rattle.mon_types.specs.declared.names.Which.TheVariants as which
+use Rattle.mon_tx.specs.declared.op.Op.{Op}
 use Rattle.mon_wire.specs.declared.body.Body.TheVariants as body
 use Rattle.mon_wire.specs.declared.body.Body.{Body}
 use Rattle.mon_wire.specs.declared.phase.Phase.TheVariants as phase
-use Rattle.mon_wire.specs.declared.phase.Timer.TheVariants as timer
-use Rattle.mon_wire.specs.declared.phase.Timer.{Timer}
-use Rattle.mon_wire.specs.declared.reply.Reply.TheVariants as reply
-use Rattle.quorum_walk.proofs.FineActs.{bootstrap_fine, epoch_fine}
-use Rattle.quorum_walk.proofs.FineClients.{hear_client_fine, hear_forward_fine, hear_route_fine, propose_due_fine, replies_fine}
-use Rattle.quorum_walk.proofs.FineCourses.{Base, BodyFine, Ended, EntryFine, Fine, IsStored, Made, MessageFine, ReadingsFine, RequestFine, StateFine, begun, changes_fine, over, still, tell_fine, tells_fine}
-use Rattle.quorum_walk.proofs.FineElections.{election_ends_fine, hear_ack_fine, hear_probe_fine, hear_probe_reply_fine, hear_propose_fine, hear_victory_fine}
-use Rattle.quorum_walk.proofs.FinePaxos.{hear_accept_fine, hear_begin_fine, hear_collect_fine, hear_commit_fine, hear_last_fine, hear_lease_ack_fine, hear_lease_fine, renew_fine}
-use Rattle.quorum_walk.proofs.FineSync.{anew_fine, hear_chunk_fine, hear_cookie_fine, hear_get_chunk_fine, hear_get_cookie_full_fine, hear_get_cookie_recent_fine, hear_last_chunk_fine, hear_no_cookie_fine, replay_step_fine}
-use Rattle.quorum_walk.proofs.Walk.{Then, by_test, where_fits}
-use Rattle.std.proofs.Common.{Bool, List, None, Option, Some, [], ap, arith, cond, false, not, refl, suc, true, ℕ, ◌≡◌, ◌≤◌}
+use Rattle.mon_wire.specs.declared.request.Request.TheVariants as request
+use Rattle.quorum_walk.proofs.FineCourses.{Base, BodyFine, Calm, Ended, EntryFine, Fine, FineAt, FoundFine, Made, MessageFine, OriginFine, OwnFine, RequestFine, SentOwn, StageFine, StateFine, Val, WaitingFine, begun, boot_after, changes_fine, ended_at, more_sent, number_fine, state_fine, still, stored_now, tell_fine, tells_fine, vote_fine}
+use Rattle.quorum_walk.proofs.FineReading.{all_spare, copied_calm, copied_cells, copied_fits, entries_spare, learned_calm, learned_cells, learned_fits, longest_fine, pending_fine, recorded_calm, recorded_cells, recorded_fits, run_fine, step_of_fine}
+use Rattle.quorum_walk.proofs.FineSteps.{answer_fine, answers_fine, chunk_fine, counts_fine, epoch_fine, full_sync_fine, vote_readings}
+use Rattle.quorum_walk.proofs.Sparing.{Own, copied_own, learned_own, own_of, records_own}
+use Rattle.std.proofs.Common.{Bool, IfSome, List, None, Option, Some, [], ap, arith, cond, eqb, false, filter, inl, inr, refl, subst, suc, sym, ℕ, ◌-◌, ◌^◌, ◌∙◌, ◌∷◌, ◌≡◌, ◌≤◌, ◌⊎◌}
 use Rattle.std.specs.List.{AllByRecursion}
-use Rattle.std.specs.Prelude.{is_some}
+use Rattle.table_walk.proofs.Acts.{acts_of}
+use Rattle.table_walk.proofs.Lists.{all_append, all_drop, all_filter, all_map, all_of}
+use Rattle.table_walk.proofs.Steps.{CommandOf, FoundOf, HeardFrom, InHand, MayCopy, MayEnter, MayFind, MayLearn, MayReplay, MaySay, MaySend, MayWrite, Steps, ValueOf, accepted_by_all, alone, brought, copied_chunk, copied_last_chunk, counted, from_chunk, from_commit, from_last, from_last_chunk, heard, origin_of, replayed}
+use Rattle.table_walk.proofs.Table.{walked}
+use Rattle.table_walk.proofs.Walk.{Then}
 
 -- what may come
 abbrev pub ComesFine : Me → ℕ → Readings → Made → (shared : List Entry) → AllByRecursion EntryFine shared → Input → Type 0
@@ -43,120 +53,184 @@ ComesFine me now w made shared sharing (input.Deliver m) = (m.from ≤ 14) × Me
 ComesFine me now w made shared sharing (input.Timer t) = Unit {0}
 ComesFine me now w made shared sharing (input.Client s r) = RequestFine r
 
-module _ (me : Me) (now : ℕ) (w0 : Base me) where
-  -- ---- pings, and the start
+module _ (me : Me) (now : ℕ) (made : Made) (shared : List Entry) (sharing : AllByRecursion EntryFine shared) (w : Readings) (s : State) (came : Input) (comes : ComesFine me now w made shared sharing came) (rest : Fine (still me w) (at_rest w s)) where
+  -- the readings at the beginning, and the count of starts at the end
+  abbrev w0 : Base me
+  w0 = begun me w s came
 
-  hear_ping_fine : (f : ℕ) (table : Option Scores) (x : Course) → Fine w0 x → Then (Ended w0) (hear_ping me f table x)
-  unfolding hear_ping
-  hear_ping_fine f None x A = over w0 A
-  hear_ping_fine f (Some table) x A = over w0 (tell_fine me (body.PingReply (own_table me (note_table f table x))) f A tt)
+  -- what is in hand is fine
+  abbrev HandFine : InHand → Type 0
+  HandFine (CommandOf c o) = IsCommand c × OriginFine o
+  HandFine (FoundOf found) = FoundFine found
+  HandFine (ValueOf value o) = Val value
+  HandFine other = Unit {0}
 
-  hear_ping_reply_fine : (f : ℕ) (table : Option Scores) (x : Course) → Fine w0 x → Then (Ended w0) (hear_ping_reply f table x)
-  unfolding hear_ping_reply
-  hear_ping_reply_fine f None x A = over w0 A
-  hear_ping_reply_fine f (Some table) x A = over w0 A
+  abbrev Goes : InHand → Course → Type 0
+  Goes h x = Fine w0 x × HandFine h
 
-  ping_fine : (x : Course) → Fine w0 x → Then (Ended w0) (ping me now x)
-  unfolding ping
-  ping_fine x A = over w0 (tells_fine me (body.Ping (own_table me (elector_is (measure me now x.state.elector) x))) (others me) A tt)
+  -- ---- reasons
 
-  first_epoch_fine : (b : Bool) (x : Course) → Fine w0 x → Fine w0 (change_if b (Epoch 1) x)
-  first_epoch_fine true x A = epoch_fine me now w0 1 x (omega arith) A
-  first_epoch_fine false x A = changes_fine [] A tt tt A.readings refl
+  came_fine : {f e : ℕ} {m : Body} → HeardFrom came f e m → (f ≤ 14) × IsShort e × BodyFine m
+  came_fine C = let k = subst (ComesFine me now w made shared sharing) C.is comes in
+      (subst (λ (n : ℕ). n ≤ 14) C.from k.0, subst IsShort C.epoch k.1.0, subst BodyFine C.says k.1.1)
 
-  -- a start counts up by one
-  start_fine : (w : Readings) (s : State) → w ≡ w0.from → IsStored w0.from → suc w.boot ≡ w0.boot → ReadingsFine w → StateFine s.leader.found s.leader.value s.leader.pn s.requester.stage s.clients.queue → Then (Ended w0) (start me now (at_rest w s))
-  unfolding start
-  start_fine w s from stored boots R S =
-      let x : Course = at_rest w s in
-      let boot = suc x.readings.boot in
-      let O = R.own in
-      where_fits (Ended w0) which.Boot boot _ (λ short.
-      let y : Course = change (Boot boot) x in
-      let B : Fine w0 y = record {
+  asked_fine : (c : Input) → ComesFine me now w made shared sharing c → HandFine (brought c)
+  asked_fine input.Start k = tt
+  asked_fine (input.Deliver m) k = tt
+  asked_fine (input.Timer t) k = tt
+  asked_fine (input.Client u (request.Set key value)) k = (k, tt)
+  asked_fine (input.Client u (request.Remove key)) k = (k, tt)
+  asked_fine (input.Client u (request.Log text)) k = (k, tt)
+  asked_fine (input.Client u (request.Show v)) k = tt
+  asked_fine (input.Client u (request.Since v n)) k = tt
+
+  uncounted : (c : Input) → (c ≡ input.Start → same_phase s.phase phase.Booting ≡ false) → w.boot ≡ boot_after s c w.boot
+  uncounted input.Start k = ap (λ (t : Bool). cond t (suc w.boot) w.boot) (sym (k refl))
+  uncounted (input.Deliver m) k = refl
+  uncounted (input.Timer t) k = refl
+  uncounted (input.Client u r) k = refl
+
+  asked_rank : (o : Origin) → OriginFine o → asked_of me o ≤ 14
+  asked_rank (origin.Session u) k = let a = me.member.in_map in let b = me.member.most in omega arith
+  asked_rank (origin.Forwarded f seq) k = k
+
+  module _ (x : Course) (A : Fine w0 x) where
+    abbrev O : OwnFine (own_of x.readings)
+    O = A.readings.own
+
+    written : (c : Change) → MayWrite came x c → Fine w0 (change c x)
+    written (Epoch e) k = epoch_fine me now w0 e x (by k) A
+      where
+        by : MayEnter came e → IsShort e
+        by (counted short) = short
+        by (heard C) = (came_fine C).1
+    written (Numbers pn) k = number_fine (Numbers pn) A tt k refl refl (record { epoch = O.epoch; last_pn = k; promise = k; pending = O.pending; last = O.last; floor = O.floor })
+    written (Promise pn) k = let short = (came_fine k.4).2 in number_fine (Promise pn) A tt short refl refl (record { epoch = O.epoch; last_pn = O.last_pn; promise = short; pending = O.pending; last = O.last; floor = O.floor })
+    written (Last v) k = let short = by k in number_fine (Last v) A tt short refl refl (record { epoch = O.epoch; last_pn = O.last_pn; promise = O.promise; pending = O.pending; last = short; floor = O.floor })
+      where
+        by : (v ≤ 2 ^ 62) ⊎ ((next : ℕ) × (x.state.requester.stage ≡ sync.Replay next v)) → IsShort v
+        by (inl short) = short
+        by (inr e) = subst StageFine e.1 A.state.stage
+    written Unmark k = number_fine Unmark A tt tt refl refl (record { epoch = O.epoch; last_pn = O.last_pn; promise = O.promise; pending = O.pending; last = O.last; floor = omega arith })
+    written other k = absurd k
+
+    learnt : {h : InHand} (values : List (List Op)) → HandFine h → MayLearn came x h values → AllByRecursion Val values
+    learnt values k (from_last n C) = all_drop Val n _ (came_fine C).2.0
+    learnt values k (from_commit n C) = all_drop Val n _ (came_fine C).2
+    learnt values k (from_chunk C) = (came_fine C).2.0
+    learnt values k (from_last_chunk C) = (came_fine C).2.0
+    learnt values k (replayed left v e) = subst (λ (o : Option (List (List Op))). IfSome o (AllByRecursion Val)) e (step_of_fine x.readings.record_of A.readings.records left v)
+    learnt values k (accepted_by_all e) = (subst (λ (o : Option (List Op)). IfSome o Val) e A.state.value, tt)
+    learnt values k alone = (k, tt)
+
+    copied : (v : ℕ) (values : List (List Op)) (entries : List Entry) → MayCopy came values entries → Fine w0 (x ▸ change_all (record_changes v values) ▸ change_all (copy_changes entries))
+    copied v values entries K =
+        let F = by K in
+        let V = F.0 in
+        let E = F.1 in
+        let z = played (record_changes v values) x.readings in
+        let B = changes_fine (record_changes v values) A (recorded_calm v values) (recorded_fits v values) (record { own = subst OwnFine (sym (records_own v values x.readings)) O; records = recorded_cells v values x.readings V A.readings.records }) (ap (λ (o : Own). o.boot) (records_own v values x.readings)) in
+        changes_fine (copy_changes entries) B (copied_calm entries) (copied_fits entries E) (record { own = subst OwnFine (sym (copied_own entries z (entries_spare entries E))) B.readings.own; records = copied_cells entries z E B.readings.records }) (ap (λ (o : Own). o.boot) (copied_own entries z (entries_spare entries E)))
+      where
+        by : MayCopy came values entries → AllByRecursion Val values × AllByRecursion EntryFine entries
+        by (copied_chunk C) = (came_fine C).2
+        by (copied_last_chunk C) = ((came_fine C).2.0, (came_fine C).2.1)
+
+    body_fine : (h : InHand) (m : Body) → HandFine h → MaySay me shared h x m → BodyFine m
+    unfolding missed
+    body_fine h (body.ProbeReply quorum first last) k t = absurd t
+    body_fine h (body.Begin pn v value) k t = absurd t
+    body_fine h (body.Accept pn v) k t = absurd t
+    body_fine h (body.Route seq r) k t = absurd t
+    body_fine h (body.Forward seq c) k t = absurd t
+    body_fine h (body.Collect pn first last) k t = subst IsShort (sym t) A.state.pn
+    body_fine h (body.Last pn first last whole from values told) k t = subst BodyFine (sym t.1) (answer_fine me.member.monitors (promise_of x.readings) x.readings.first x.readings.last x.readings.record_of (pending x.readings) t.0 A.readings.records (pending_fine x.readings.record_of A.readings.records x.readings.pending_v x.readings.pending_pn x.readings.last))
+    body_fine h (body.Commit from values) k (inl t) = subst (AllByRecursion Val) (sym t.3) (subst HandFine t.2 k, tt)
+    body_fine h (body.Commit from values) k (inr t) = subst (AllByRecursion Val) (sym t) (missed_fine (from - 1))
+      where
+        missed_fine : (told : ℕ) → AllByRecursion Val (missed me.member.monitors x.readings.record_of x.readings.last told)
+        missed_fine told = longest_fine Val (λ vs. fits me.member.monitors (body.Commit (suc told) vs)) (run_from x.readings.record_of x.readings.last (suc told)) (run_fine x.readings.record_of A.readings.records x.readings.last (suc told))
+    body_fine h (body.Chunk c p values entries end) k t = subst BodyFine (sym t) (chunk_fine x.readings.last c p (filter (is_after p.key) shared) me.member.monitors x.readings.record_of O.last A.readings.records (all_filter EntryFine (is_after p.key) shared sharing))
+    body_fine h (body.LastChunk c p values entries last) k t = subst BodyFine (sym t) (chunk_fine x.readings.last c p (filter (is_after p.key) shared) me.member.monitors x.readings.record_of O.last A.readings.records (all_filter EntryFine (is_after p.key) shared sharing))
+    body_fine h other k t = tt
+
+    said_fine : (h : InHand) → HandFine h → (m : Sent) → MaySend me shared h x m → SentOwn me m
+    said_fine h k (sent.Message to m) t = ((subst IsShort (sym t.1) O.epoch, body_fine h m.body k t.2), t.0)
+    said_fine h k (sent.Reply to r) t = tt
+
+    stood : (z : SyncStage) → MayReplay came x z → StageFine z
+    stood sync.Cookie k = tt
+    stood sync.Chunks k = tt
+    stood (sync.Replay next end) (inl k) = (came_fine k.6).2.2
+    stood (sync.Replay next end) (inr k) = subst StageFine k.1 A.state.stage
+
+    found_one : (o : Option Found) → MayFind came x o → FoundFine o
+    found_one None k = tt
+    found_one (Some f) (inl e) = subst FoundFine e A.state.found
+    found_one (Some f) (inr k) = subst Val (sym k.12) (counts_fine k.8 k.9 (came_fine k.10).2.1 k.11)
+
+    -- another state
+    kept : {f : Option Found} {v : Option (List Op)} {p : ℕ} {z : SyncStage} {q : List Waiting} → FoundFine f → IfSome v Val → IsShort p → StageFine z → AllByRecursion WaitingFine q → FineAt Calm me w0 x.readings x.changes f v p z q x.out
+    kept {f} {v} {p} {z} {q} F V short Z W = state_fine f v p z q A (record { found = F; value = V; pn = short; stage = Z; queue = W })
+
+  -- ---- steps
+
+  bears : Steps me now shared w s came Goes (Ended w0)
+  unfolding begin_with
+  bears = record {
+    before = λ k. (record { shape = tt; stored = rest.stored; tells = rest.tells; boot = uncounted came k; fits = tt; readings = rest.readings; state = rest.state; sends = tt }, asked_fine came comes);
+    boots = λ is boots short. (
+      record {
         shape = (tt, tt);
-        stored = stored;
-        tells = ap (play (Boot boot)) from;
-        boot = boots;
+        stored = rest.stored;
+        tells = ap (play (Boot (suc w.boot))) rest.tells;
+        boot = ap (λ (t : Bool). cond t (suc w.boot) w.boot) (sym boots) ∙ ap (λ (c : Input). boot_after s c w.boot) (sym is);
         fits = (short, tt);
-        readings = record { own = record { epoch = O.epoch; last_pn = O.last_pn; promise = O.promise; pending = O.pending; last = O.last; floor = O.floor }; records = R.records };
-        state = S;
+        readings = record { own = record { epoch = rest.readings.own.epoch; last_pn = rest.readings.own.last_pn; promise = rest.readings.own.promise; pending = rest.readings.own.pending; last = rest.readings.own.last; floor = rest.readings.own.floor }; records = rest.readings.records };
+        state = rest.state;
         sends = tt;
-      } in
-      let C : Fine w0 (change_if (not (is_some x.readings.epoch)) (Epoch 1) y) = first_epoch_fine (not (is_some x.readings.epoch)) y B in
-      bootstrap_fine me now w0 _ C)
-
-  -- ---- the table
-
-  module _ (made : Made) (shared : List Entry) (sharing : AllByRecursion EntryFine shared) where
-    hear_fine : (f e : ℕ) (b : Body) (x : Course) → f ≤ 14 → IsShort e → BodyFine b → Fine w0 x → Then (Ended w0) (hear me shared now f e b x)
-    hear_fine f e body.Probe x r s k A = hear_probe_fine me now w0 f x A
-    hear_fine f e (body.ProbeReply q first last) x r s k A = hear_probe_reply_fine me now w0 f q first last x A
-    hear_fine f e (body.Propose table) x r s k A = hear_propose_fine me now w0 f e table x s A
-    hear_fine f e body.Ack x r s k A = hear_ack_fine me now w0 f e x s A
-    hear_fine f e (body.Victory q) x r s k A = hear_victory_fine me now w0 f e q x s A
-    hear_fine f e (body.Collect pn first last) x r s k A = hear_collect_fine me now w0 f e pn first last x k A
-    hear_fine f e (body.Last pn first last whole from values pending) x r s k A = hear_last_fine me now w0 f e pn first last whole from values pending x k A
-    hear_fine f e (body.Begin pn v value) x r s k A = hear_begin_fine me now w0 f e pn v value x k A
-    hear_fine f e (body.Accept pn v) x r s k A = hear_accept_fine me now w0 f e pn v x A
-    hear_fine f e (body.Commit from values) x r s k A = hear_commit_fine me now w0 f e from values x k A
-    hear_fine f e (body.Lease last) x r s k A = hear_lease_fine me now w0 f e last x A
-    hear_fine f e (body.LeaseAck last) x r s k A = hear_lease_ack_fine me now w0 f e last x A
-    hear_fine f e (body.Forward seq c) x r s k A = hear_forward_fine me now w0 made f e seq c x r k A
-    hear_fine f e (body.Route seq p) x r s k A = hear_route_fine me now w0 f e seq p x A
-    hear_fine f e body.GetCookieFull x r s k A = hear_get_cookie_full_fine me now w0 f x A
-    hear_fine f e (body.GetCookieRecent last) x r s k A = hear_get_cookie_recent_fine me now w0 f last x A
-    hear_fine f e (body.Cookie full c last) x r s k A = hear_cookie_fine me now w0 f full c last x A
-    hear_fine f e (body.GetChunk c p) x r s k A = hear_get_chunk_fine me now w0 shared sharing f c p x A
-    hear_fine f e (body.Chunk c p values entries last) x r s k A = hear_chunk_fine me now w0 f c p values entries last x k.0 k.1 A
-    hear_fine f e (body.LastChunk c p values entries last) x r s k A = hear_last_chunk_fine me now w0 f c p values entries last x k A
-    hear_fine f e (body.NoCookie c) x r s k A = hear_no_cookie_fine me now w0 f c x A
-    hear_fine f e (body.Ping table) x r s k A = hear_ping_fine f table x A
-    hear_fine f e (body.PingReply table) x r s k A = hear_ping_reply_fine f table x A
-    hear_fine f e (body.Request id q) x r s k A = over w0 A
-    hear_fine f e (body.Reply id q) x r s k A = over w0 A
-
-    timer_fine : (t : Timer) (x : Course) → Fine w0 x → Then (Ended w0) (timer_comes me now t x)
-    timer_fine timer.Probe x A = anew_fine me now w0 x A
-    timer_fine timer.Election x A = election_ends_fine me now w0 x A
-    timer_fine timer.Collect x A = anew_fine me now w0 x A
-    timer_fine timer.Accept x A = anew_fine me now w0 x A
-    timer_fine timer.Renew x A = renew_fine me now w0 x A
-    timer_fine timer.LeaseAck x A = anew_fine me now w0 x A
-    timer_fine timer.Lease x A = anew_fine me now w0 x A
-    timer_fine timer.Sync x A = anew_fine me now w0 x A
-    timer_fine timer.Step x A = replay_step_fine me now w0 x A
-    timer_fine timer.Propose x A = propose_due_fine me now w0 made x A
-    timer_fine timer.Ping x A = ping_fine x A
-
-    before_fine : (came : Input) (x : Course) → (came ≡ input.Start → ⊥) → Fine w0 x → Then (Ended w0) (before_start me now came x)
-    before_fine input.Start x other A = absurd (other refl)
-    before_fine (input.Deliver m) x other A = over w0 A
-    before_fine (input.Timer t) x other A = over w0 A
-    before_fine (input.Client s r) x other A = over w0 (replies_fine me now w0 s reply.Unavailable x A)
-
-    running_fine : (came : Input) (x : Course) → ComesFine me now w0.from made shared sharing came → Fine w0 x → Then (Ended w0) (running me shared now came x)
-    running_fine input.Start x k A = over w0 A
-    running_fine (input.Deliver m) x k A = by_test (is_heard me m) (λ _. hear_fine m.from m.epoch m.body x k.0 k.1.0 k.1.1 A) (λ _. over w0 A)
-    running_fine (input.Timer t) x k A = by_test (is_some (end_of t x.state.timers)) (λ _. timer_fine t (disarm t x) A) (λ _. over w0 A)
-    running_fine (input.Client s r) x k A = hear_client_fine me now w0 made s r x k A
-
-    runs_fine : (w : Readings) (s : State) (came : Input) → (came ≡ input.Start → ⊥) → ComesFine me now w0.from made shared sharing came → Fine w0 (at_rest w s) → Then (Ended w0) (react me shared now w s came)
-    unfolding react
-    runs_fine w s came other k A = by_test (same_phase s.phase phase.Booting) (λ _. before_fine came (at_rest w s) other A) (λ _. running_fine came (at_rest w s) k A)
-
-module _ (me : Me) (now : ℕ) (made : Made) (shared : List Entry) (sharing : AllByRecursion EntryFine shared) (w : Readings) (s : State) where
-  react_start_fine : Fine (still me w) (at_rest w s) → Then (Ended (begun me w s input.Start)) (react me shared now w s input.Start)
-  unfolding react
-  react_start_fine A = by (same_phase s.phase phase.Booting)
-    where
-      by : (b : Bool) → Then (Ended {me = me} (record { from = w; boot = cond b (suc w.boot) w.boot })) (cond b (before_start me now input.Start (at_rest w s)) (running me shared now input.Start (at_rest w s)))
-      by true = start_fine me now (record { from = w; boot = suc w.boot }) w s refl A.stored refl A.readings A.state
-      by false = over (still me w) A
+      },
+      tt,
+    );
+    after = λ A. ended_at A.0;
+    marks = λ f why A. full_sync_fine me now w0 f (at_rest w s) A.0;
+    answers_probe = λ f e A. ended_at (tell_fine me (body.ProbeReply (quorum_of s) w.first w.last) f A.0 tt);
+    proposes = λ {x = x} z value o short A.
+        let pn = x.state.leader.pn in
+        let v = suc x.readings.last in
+        let B = vote_fine v pn value A.0 (short, A.0.state.pn) (vote_readings me now w0 v pn value x.readings short A.1 A.0.readings) in
+        let S : StateFine x.state.leader.found (Some value) pn x.state.requester.stage x.state.clients.queue = record { found = A.0.state.found; value = A.1; pn = A.0.state.pn; stage = A.0.state.stage; queue = A.0.state.queue } in
+        tells_fine me (body.Begin pn v value) (members me x.state.leader.quorum) (state_fine x.state.leader.found (Some value) pn x.state.requester.stage x.state.clients.queue B S) (A.0.state.pn, short, A.1);
+    votes = λ {x = x} f e pn v value C t A. let k = (came_fine C).2 in tell_fine me (body.Accept pn v) f (vote_fine v pn value A.0 (k.1, k.0) (vote_readings me now w0 v pn value x.readings k.1 k.2 A.0.readings)) tt;
+    writes = λ {x = x} c k A. (written x A.0 c k, A.1);
+    learns = λ {x = x} v values L A. let V = learnt x A.0 values A.1 L in let same = learned_own v values x.readings (all_spare values V) in
+        (changes_fine (learn_changes v values) A.0 (learned_calm v values) (learned_fits v values V) (record { own = subst OwnFine (sym same) A.0.readings.own; records = learned_cells v values x.readings V A.0.readings.records }) (ap (λ (o : Own). o.boot) same), A.1);
+    copies = λ {x = x} v values entries K A. (copied x A.0 v values entries K, A.1);
+    sends = λ {h = h} {x = x} sends k A. (more_sent sends A.0 (all_map (MaySend me shared h x) (SentOwn me) (said_fine x A.0 h A.1) sends k), A.1);
+    enters = λ p A. A;
+    timers = λ ts A. A;
+    elector = λ e A. A;
+    prober = λ p A. A;
+    peon = λ p A. A;
+    provider = λ p A. A;
+    requester = λ {x = x} q k A. (kept x A.0 A.0.state.found A.0.state.value A.0.state.pn (stood x A.0 q.stage k) A.0.state.queue, A.1);
+    leader = λ l A. A;
+    finds = λ {x = x} l k A. (kept x A.0 (found_one x A.0 l.found k) A.0.state.value A.0.state.pn A.0.state.stage A.0.state.queue, A.1);
+    collects = λ {x = x} q pn short A. (kept x A.0 (pending_fine x.readings.record_of A.0.readings.records x.readings.pending_v x.readings.pending_pn x.readings.last) tt short A.0.state.stage A.0.state.queue, tt);
+    forgets = λ {x = x} A. (kept x A.0 A.0.state.found A.0.state.value A.0.state.pn A.0.state.stage tt, A.1);
+    takes_queued = λ {x = x} q qs e A. let W = subst (AllByRecursion WaitingFine) e A.0.state.queue in (kept x A.0 A.0.state.found A.0.state.value A.0.state.pn A.0.state.stage W.1, W.0);
+    takes_forwarded = λ f e seq c C A. (A.0, ((came_fine C).2, (came_fine C).0));
+    takes_found = λ {x = x} A. (kept x A.0 tt A.0.state.value A.0.state.pn A.0.state.stage A.0.state.queue, A.0.state.found);
+    takes_value = λ {x = x} value e A. (kept x A.0 A.0.state.found tt A.0.state.pn A.0.state.stage A.0.state.queue, subst (λ (o : Option (List Op)). IfSome o Val) e A.0.state.value);
+    makes_value = λ {x = x} c o ops short e A. (A.0, made x.readings (stored_now A.0) c (asked_of me o) ops A.1.0 (asked_rank o A.1.1) A.0.readings.own.last short e);
+    proposes_found = λ found A. A;
+    drops_found = λ found A. (A.0, tt);
+    queues = λ {x = x} c o A. (kept x A.0 A.0.state.found A.0.state.value A.0.state.pn A.0.state.stage (all_append WaitingFine x.state.clients.queue (record { command = c; origin = o } ∷ []) A.0.state.queue (A.1, tt)), tt);
+    forwards = λ {x = x} seq c u A. (tell_fine me (body.Forward seq c) x.state.peon.leader A.0 A.1.0, tt);
+    routes = λ {x = x} seq r A. (more_sent _ A.0 (all_of (SentOwn me) (λ (a : Asked). sent.Reply a.session r) (λ a. tt) (filter (λ (a : Asked). eqb a.seq seq) x.state.clients.sessions)), tt);
+    answers = λ {x = x} h r A. (more_sent (answers_to me (epoch_of x.readings) (origin_of h) r) A.0 (answers_fine me now w0 (epoch_of x.readings) (origin_of h) r A.0.readings.own.epoch), tt);
+  }
 
   -- what holds when it is over, and how often the monitor was started then
-  pub react_fine : (came : Input) → ComesFine me now w made shared sharing came → Fine (still me w) (at_rest w s) → Then (Ended (begun me w s came)) (react me shared now w s came)
-  react_fine input.Start k A = react_start_fine A
-  react_fine (input.Deliver m) k A = runs_fine me now (still me w) made shared sharing w s (input.Deliver m) (λ e. cc) k A
-  react_fine (input.Timer t) k A = runs_fine me now (still me w) made shared sharing w s (input.Timer t) (λ e. cc) k A
-  react_fine (input.Client c r) k A = runs_fine me now (still me w) made shared sharing w s (input.Client c r) (λ e. cc) k A
+  pub react_fine : Then (Ended (begun me w s came)) (react me shared now w s came)
+  react_fine = walked bears (acts_of bears)

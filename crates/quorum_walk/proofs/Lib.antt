@@ -1,10 +1,6 @@
-pub mod FineActs
-pub mod FineClients
+pub mod FineSteps
 pub mod FineCourses
-pub mod FineElections
-pub mod FinePaxos
 pub mod FineReading
-pub mod FineSync
 pub mod FineTable
 pub mod Learning
 pub mod Lists

@@ -1,0 +1,371 @@
+-- The rows, walked once.
+use Rattle.election_rules.specs.declared.scores.Scores.{Scores}
+use Rattle.mon_bytes.specs.declared.command.Command.TheVariants as command
+use Rattle.mon_bytes.specs.declared.command.Command.{Command}
+use Rattle.mon_bytes.specs.declared.command.CommandRefused.{CommandRefused}
+use Rattle.mon_bytes.specs.declared.entry.Entry.{Entry}
+use Rattle.mon_lease.specs.Lease as lease
+use Rattle.mon_lease.specs.Lease.{readable}
+use Rattle.mon_msg.specs.Protocol.Answers.{answer_of, is_complete, last_answer, sent_values, told_of}
+use Rattle.mon_msg.specs.Protocol.Changes.{Epoch, Last, Promise, Unmark}
+use Rattle.mon_msg.specs.Protocol.Chunks.{copy, hear_chunk, hear_last_chunk, is_ours, take}
+use Rattle.mon_msg.specs.Protocol.Commands.{ask, at_leader, at_peon, hear_forward, hear_route, is_too_long, may_propose, propose_due, too_long}
+use Rattle.mon_msg.specs.Protocol.Copying.{awaits_cookie, first_place, hear_cookie, hear_no_cookie, of_provider, same_flag}
+use Rattle.mon_msg.specs.Protocol.Course.{Course, change_if, elector_is, leader_is, ◌▸◌}
+use Rattle.mon_msg.specs.Protocol.Elections.{election_ends, hear_ack, hear_propose, hear_victory, is_allowed, is_whole, may_defer, merge, merged_if_sent, stands_before, table_or, weigh}
+use Rattle.mon_msg.specs.Protocol.Entering.{is_even, own_table}
+use Rattle.mon_msg.specs.Protocol.Found.{better, counts, is_newer}
+use Rattle.mon_msg.specs.Protocol.Hearing.{hear_client}
+use Rattle.mon_msg.specs.Protocol.Leader.{all_accepted, all_answered, commit_any, hear_accept, hear_last, hear_lease_ack, note, note_answer, note_pending, of_member, renew}
+use Rattle.mon_msg.specs.Protocol.Leading.{has_queue}
+use Rattle.mon_msg.specs.Protocol.Learning.{learn, news, news_from}
+use Rattle.mon_msg.specs.Protocol.Peon.{cancel, hear_begin, hear_collect, hear_commit, hear_lease, of_leader, promise}
+use Rattle.mon_msg.specs.Protocol.Phases.{is_leading, is_member, is_peon, same_phase, votes}
+use Rattle.mon_msg.specs.Protocol.Pings.{hear_ping, hear_ping_reply, measure, note_table, ping, with_heard}
+use Rattle.mon_msg.specs.Protocol.Places.{is_after, is_cookie, no_cookie, same_cookie}
+use Rattle.mon_msg.specs.Protocol.Proposing.{asked_of, begin_made, propose, propose_first, propose_next, refusal}
+use Rattle.mon_msg.specs.Protocol.Providing.{chunk, given_entries, given_values, grant, hear_get_chunk, hear_get_cookie_full, hear_get_cookie_recent, is_finished, reach}
+use Rattle.mon_msg.specs.Protocol.Readings.{Readings, epoch_of, promise_of}
+use Rattle.mon_msg.specs.Protocol.Reads.{is_standing, read, shown, since}
+use Rattle.mon_msg.specs.Protocol.Records.{pending}
+use Rattle.mon_msg.specs.Protocol.Replay.{replay_any, replay_step, step_in, step_of}
+use Rattle.mon_msg.specs.Protocol.Sending.{others}
+use Rattle.mon_msg.specs.Protocol.Services.{service_last}
+use Rattle.mon_msg.specs.Protocol.State.{State, lease_of, quorum_of}
+use Rattle.mon_msg.specs.Protocol.Value.{service_of, value}
+use Rattle.mon_msg.specs.declared.clients.Waiting.{Waiting}
+use Rattle.mon_msg.specs.declared.input.Input.{Input}
+use Rattle.mon_msg.specs.declared.limits.TheConstants.{MOST_WAITING}
+use Rattle.mon_msg.specs.declared.paxos.Found.{Found}
+use Rattle.mon_msg.specs.declared.paxos.LeaderStage.TheVariants as stage
+use Rattle.mon_msg.specs.declared.plan.Origin.TheVariants as origin
+use Rattle.mon_msg.specs.declared.plan.Origin.{Origin}
+use Rattle.mon_msg.specs.declared.synchronization.SyncStage.TheVariants as sync
+use Rattle.mon_msg.specs.declared.synchronization.SyncStage.{SyncStage}
+use Rattle.mon_msg.specs.declared.view.Me.{Me}
+use Rattle.mon_tx.specs.declared.op.Op.{Op}
+use Rattle.mon_types.specs.Ranks.{has, is_majority, no_ranks, with_rank}
+use Rattle.mon_types.specs.declared.names.Which.TheVariants as which
+use Rattle.mon_types.specs.declared.names.Which.{Which}
+use Rattle.mon_wire.specs.declared.body.Body.TheVariants as body
+use Rattle.mon_wire.specs.declared.body.Body.{Body}
+use Rattle.mon_wire.specs.declared.parts.Cookie.{Cookie}
+use Rattle.mon_wire.specs.declared.parts.Place.{Place}
+use Rattle.mon_wire.specs.declared.parts.Told.{Told}
+use Rattle.mon_wire.specs.declared.phase.Phase.TheVariants as phase
+use Rattle.mon_wire.specs.declared.phase.Timer.TheVariants as timer
+use Rattle.mon_wire.specs.declared.reply.Reply.TheVariants as reply
+use Rattle.mon_wire.specs.declared.reply.Reply.{Reply}
+use Rattle.mon_wire.specs.declared.request.Request.TheVariants as request
+use Rattle.mon_wire.specs.declared.request.Request.{Request}
+use Rattle.mon_wire.specs.declared.request.Session.{Session}
+use Rattle.table_walk.proofs.Walk.{Then, and_then, by_test, done, where_fits}
+use Rattle.std.proofs.Common.{Bool, Err, List, None, Ok, Option, Result, Some, [], eqb, false, filter, inl, inr, is_some, leb, length, ltb, not, refl, slice_index_or, slice_set, suc, true, ℕ, ◌&&◌, ◌+◌, ◌-◌, ◌^◌, ◌||◌, ◌∷◌, ◌≡◌, ◌≤◌}
+use Rattle.std.proofs.lemmas.Bool.{cond_both}
+use Rattle.table_walk.proofs.Acts.{Acts, arms, disarms, ends, keeps, sends_one, sends_to}
+use Rattle.table_walk.proofs.Steps.{CommandOf, Steps, InHand, HeardFrom, MayCopy, MayFind, MayLearn, MayReplay, MaySay, Nothing, ReadOf, asked_by, copied_chunk, heard, from_chunk, from_last_chunk, copied_last_chunk, from_commit, from_last, replayed}
+
+unnot : (t : Bool) → not t ≡ false → t ≡ true
+unnot true e = refl
+unnot false e = absurd cc
+
+module _ (me : Me) (shared : List Entry) (h : InHand) (x : Course) where
+  answer_told : (v : ℕ) → MaySay me shared h x (last_answer me.member.monitors x.readings v)
+  unfolding answer_of
+  answer_told v =
+      let n = me.member.monitors in
+      let promised = promise_of x.readings in
+      let first = x.readings.first in
+      let last = x.readings.last in
+      let found = told_of (pending x.readings) in
+      let sent = sent_values n promised first last x.readings.record_of v in
+      cond_both (is_complete n promised first last v sent found) (body.Last promised first last true v sent found) (body.Last promised first last false v sent None) (λ (m : Body). m ≡ last_answer n x.readings v → MaySay me shared h x m) (λ _ e. (v, e)) (λ _ e. (v, e)) refl
+
+  chunk_told : (c : Cookie) (p : Place) → MaySay me shared h x (chunk x.readings.last c p (filter (is_after p.key) shared) me.member.monitors x.readings.record_of)
+  unfolding chunk
+  chunk_told c p =
+      let n = me.member.monitors in
+      let last = x.readings.last in
+      let left = filter (is_after p.key) shared in
+      let values = given_values last c p left n x.readings.record_of in
+      let es = given_entries last c p left n values in
+      cond_both (reach last p values && is_finished p left es) (body.LastChunk c p values es last) (body.Chunk c p values es (is_finished p left es)) (λ (m : Body). m ≡ chunk last c p left n x.readings.record_of → MaySay me shared h x m) (λ _ e. e) (λ _ e. e) refl
+
+module _ {me : Me} {now : ℕ} {shared : List Entry} {w : Readings} {s : State} {came : Input} {P : InHand → Course → Type 0} {Q : Course → Type 0} (b : Steps me now shared w s came P Q) (a : Acts me now shared w s came P Q) where
+  -- ---- elections
+
+  weighed : {x : Course} (table : Scores) (f : ℕ) → P Nothing x → Then Q (weigh me now table f x)
+  weighed {x = x} table f A =
+      by_test (is_allowed me f && stands_before me table f me.member.rank)
+      (λ _. by_test (may_defer me table f x.state.elector.deferred) (λ _. ends b (sends_one b f body.Ack tt (b.elector (record x.state.elector { candidate = false; acked = no_ranks; deferred = Some f }) A))) (λ _. ends b A))
+      (λ _. by_test (not (is_some x.state.elector.deferred) && not x.state.elector.candidate) (λ _. a.elects A) (λ _. ends b A))
+
+  merged_in : {x : Course} (table : Option Scores) → P Nothing x → P Nothing (merge table x)
+  merged_in {x = x} table A = b.elector (record x.state.elector { scores = merged_if_sent table x.state.elector.scores }) A
+
+  pub proposed : {x : Course} (f e : ℕ) (table : Option Scores) → HeardFrom came f e (body.Propose table) → P Nothing x → Then Q (hear_propose me now f e table x)
+  unfolding hear_propose
+  proposed {x = x} f e table C A =
+      by_test (not (votes x.state.phase) || is_even e) (λ _. ends b A) (λ _.
+      by_test (ltb e (epoch_of x.readings)) (λ _. by_test (is_even (epoch_of x.readings) && not (has (quorum_of x.state) f)) (λ _. a.elects A) (λ _. ends b A)) (λ _.
+      by_test (ltb (epoch_of x.readings) e) (λ _. weighed (table_or table x.state.elector.scores) f (merged_in table (a.adopts e (heard C) A))) (λ _. weighed (table_or table x.state.elector.scores) f (merged_in table A))))
+
+  pub acked : {x : Course} (f e : ℕ) → HeardFrom came f e body.Ack → P Nothing x → Then Q (hear_ack me now f e x)
+  unfolding hear_ack
+  acked {x = x} f e C A =
+      let by = with_rank x.state.elector.acked f in
+      let B = b.elector (record x.state.elector { acked = by }) A in
+      by_test (not (votes x.state.phase) || is_even e || ltb e (epoch_of x.readings)) (λ _. ends b A) (λ _.
+      by_test (ltb (epoch_of x.readings) e) (λ _. a.elects (a.adopts e (heard C) A)) (λ _.
+      by_test x.state.elector.candidate (λ _. by_test (is_whole me by && is_allowed me me.member.rank) (λ _. a.wins by B) (λ _. ends b B)) (λ _. ends b A)))
+
+  pub election_over : {x : Course} → P Nothing x → Then Q (election_ends me now x)
+  unfolding election_ends
+  election_over {x = x} A =
+      by_test (not (same_phase x.state.phase phase.Electing)) (λ _. ends b A) (λ _.
+      by_test (x.state.elector.candidate && is_allowed me me.member.rank && is_majority me.member.monitors x.state.elector.acked) (λ _. a.wins x.state.elector.acked A) (λ _. a.elects A))
+
+  pub lost : {x : Course} (f e : ℕ) (q : List Bool) → HeardFrom came f e (body.Victory q) → P Nothing x → Then Q (hear_victory me now f e q x)
+  unfolding hear_victory
+  lost {x = x} f e q C A =
+      by_test (not (votes x.state.phase) || not (is_even e) || leb e (epoch_of x.readings)) (λ _. ends b A) (λ _.
+      by_test (not (eqb e (suc (epoch_of x.readings)))) (λ _. a.elects (b.writes (Epoch e) (heard C) A)) (λ _.
+      by_test (has q me.member.rank && has q f && is_majority me.member.monitors q)
+      (λ _. ends b (a.follows f e q C A)) (λ _. ends b A)))
+
+  -- ---- peons
+
+  promised : {x : Course} (f e pn first last : ℕ) → HeardFrom came f e (body.Collect pn first last) → P Nothing x → P Nothing (promise pn x)
+  promised {x = x} f e pn first last C A = by (ltb (promise_of x.readings) pn)
+    where
+      by : (t : Bool) → P Nothing (change_if t (Promise pn) x)
+      by true = b.writes (Promise pn) (f, e, first, last, C) A
+      by false = keeps b A
+
+  cancels : {x : Course} → P Nothing x → P Nothing (cancel x)
+  cancels {x = x} A = b.peon (record x.state.peon { lease = None }) A
+
+  pub collected : {x : Course} (f e pn first last : ℕ) → HeardFrom came f e (body.Collect pn first last) → P Nothing x → Then Q (hear_collect me now f e pn first last x)
+  unfolding hear_collect
+  collected {x = x} f e pn first last C A =
+      let y : Course = x ▸ cancel ▸ promise pn in
+      by_test (not (of_leader f e x)) (λ _. ends b A) (λ _.
+      by_test (ltb (suc x.readings.last) first) (λ _. a.bootstraps A) (λ _.
+      where_fits Q which.Version (suc last) _ (λ _. ends b (sends_one b f (last_answer me.member.monitors y.readings (suc last)) (answer_told me shared Nothing y (suc last)) (promised f e pn first last C (cancels A))))))
+
+  pub begin_heard : {x : Course} (f e pn v : ℕ) (value : List Op) → HeardFrom came f e (body.Begin pn v value) → P Nothing x → Then Q (hear_begin me f e pn v value x)
+  unfolding hear_begin
+  begin_heard {x = x} f e pn v value C A = let t = of_leader f e x && eqb pn (promise_of x.readings) && eqb v (suc x.readings.last) in
+      by_test (not t) (λ _. ends b A) (λ k. done (b.votes f e pn v value C (unnot t k) A))
+
+  pub committed : {x : Course} (f e from : ℕ) (values : List (List Op)) → HeardFrom came f e (body.Commit from values) → P Nothing x → Then Q (hear_commit f e from values x)
+  unfolding hear_commit
+  committed {x = x} f e from values C A = by_test (not (of_leader f e x) || ltb (suc x.readings.last) from) (λ _. ends b A)
+      (λ _. ends_then (learn (suc x.readings.last) (news x.readings.last from values) x) (a.learned (suc x.readings.last) (news x.readings.last from values) (from_commit (suc x.readings.last - from) C) A))
+    where
+      ends_then : (r : Result Course Which) → Then (P Nothing) r → Then Q r
+      ends_then (Ok y) k = done (b.after k.holds)
+      ends_then (Err e) k = record { holds = tt }
+
+  pub leased : {x : Course} (f e last : ℕ) → P Nothing x → Then Q (hear_lease me now f e last x)
+  unfolding hear_lease
+  leased {x = x} f e last A = by_test (not (of_leader f e x) || not (eqb last x.readings.last) || is_some (pending x.readings)) (λ _. ends b A)
+      (λ _. ends b (sends_one b f (body.LeaseAck x.readings.last) tt (arms b timer.Lease (b.peon (record x.state.peon { lease = lease.extended now }) A))))
+
+  -- ---- leaders
+
+  same_found : (x : Course) (o : Option Found) → x.state.leader.found ≡ o → MayFind came x o
+  same_found x None e = tt
+  same_found x (Some found) e = inl e
+
+  noted : {x : Course} (f last : ℕ) (found : Option Found) → MayFind came x found → P Nothing x → P Nothing (note_answer f last found x)
+  noted {x = x} f last found k A = b.finds (record x.state.leader { answered = with_rank x.state.leader.answered f; lasts = slice_set x.state.leader.lasts f last; found = found }) k A
+
+  module _ {f e pn first last from : ℕ} {whole : Bool} {values : List (List Op)} {told : Option Told} (C : HeardFrom came f e (body.Last pn first last whole from values told)) where
+    notes : {x : Course} (t : Option Told) → counts told ≡ t → P Nothing x → Then (P Nothing) (note_pending f last t x)
+    notes {x = x} None is A = done (noted f last x.state.leader.found (same_found x x.state.leader.found refl) A)
+    notes {x = x} (Some t) is A = let new : Found = record { version = suc last; pn = t.pn; value = t.value } in where_fits (P Nothing) which.Version (suc last) _ (λ _. done (noted f last (better x.state.leader.found new)
+        (cond_both (is_newer (suc last) t.pn x.state.leader.found) (Some new) x.state.leader.found (MayFind came x) (λ _. inr (f, e, pn, first, last, whole, from, values, told, t, C, is, refl)) (λ _. same_found x x.state.leader.found refl)) A))
+
+  pub lasts_heard : {x : Course} (f e pn first last : ℕ) (whole : Bool) (from : ℕ) (values : List (List Op)) (told : Option Told) → HeardFrom came f e (body.Last pn first last whole from values told) → P Nothing x → Then Q (hear_last me now f e pn first last whole from values told x)
+  unfolding hear_last
+  lasts_heard {x = x} f e pn first last whole from values told C A =
+      let own = x.readings.last in
+      by_test (not (of_member (phase.Collecting ∷ []) f e x)) (λ _. ends b A) (λ _.
+      by_test (ltb x.state.leader.pn pn) (λ _. a.collects x.state.leader.quorum pn A) (λ _.
+      by_test (ltb pn x.state.leader.pn) (λ _. ends b A) (λ _.
+      by_test (ltb (suc own) first && ltb own last) (λ _. a.bootstraps A) (λ _.
+      and_then (P Nothing) Q (learn (news_from own from) (news own from values) x) _ (a.learned (news_from own from) (news own from values) (from_last (suc own - from) C) A) (λ y B.
+      by_test whole
+      (λ _. and_then (P Nothing) Q (note f last told y) _ (notes C (counts told) refl B) (λ z D. by_test (all_answered me z) (λ _. a.settles D) (λ _. ends b D)))
+      (λ _. a.collects y.state.leader.quorum 0 B))))))
+
+  pub accepted : {x : Course} (f e pn v : ℕ) → P Nothing x → Then Q (hear_accept me now f e pn v x)
+  unfolding hear_accept
+  accepted {x = x} f e pn v A =
+      let B = b.leader (record x.state.leader { accepted = with_rank x.state.leader.accepted f }) A in
+      by_test (not (of_member (phase.Previous ∷ phase.Updating ∷ []) f e x && eqb pn x.state.leader.pn && eqb v (suc x.readings.last))) (λ _. ends b A)
+      (λ _. by_test (all_accepted me (leader_is (record x.state.leader { accepted = with_rank x.state.leader.accepted f }) x)) (λ _. any x.state.leader.value refl B) (λ _. ends b B))
+    where
+      any : {y : Course} (value : Option (List Op)) → y.state.leader.value ≡ value → P Nothing y → Then Q (commit_any me now value y)
+      any None e A = ends b A
+      any (Some value) e A = a.commits value e A
+
+  pub lease_acked : {x : Course} (f e last : ℕ) → P Nothing x → Then Q (hear_lease_ack me f e last x)
+  unfolding hear_lease_ack
+  lease_acked {x = x} f e last A = by_test (not (of_member (phase.Active ∷ []) f e x && eqb last x.readings.last)) (λ _. ends b A)
+      (λ _. ends b (b.timers _ (b.leader (record x.state.leader { acks = with_rank x.state.leader.acks f }) A)))
+
+  pub renewed : {x : Course} → P Nothing x → Then Q (renew me now x)
+  unfolding renew
+  renewed {x = x} A = by_test (not (same_phase x.state.phase phase.Active)) (λ _. ends b A) (λ _. ends b (b.timers _ (a.extends A)))
+
+  -- ---- clients
+
+  proposes : {x : Course} (c : Command) (o : Origin) → P (CommandOf c o) x → Then Q (propose me now c o x)
+  unfolding propose
+  proposes {x = x} c o A = where_fits Q which.Version (suc (service_last x.readings (service_of c))) _ (λ short. by short (value x.readings c (asked_of me o)) refl)
+    where
+      by : suc (service_last x.readings (service_of c)) ≤ 2 ^ 62 → (r : Result (List Op) CommandRefused) → value x.readings c (asked_of me o) ≡ r → Then Q (begin_made me now o r x)
+      by short (Ok ops) e = a.begins stage.Updating ops (Some o) (b.makes_value c o ops short e A)
+      by short (Err y) e = ends b (b.timers _ (b.answers (CommandOf c o) (refusal y) A))
+
+  leader_asked : {x : Course} (c : Command) (o : Origin) → P (CommandOf c o) x → Then Q (at_leader me now c o x)
+  leader_asked {x = x} c o A =
+      by_test (is_too_long c) (λ _. ends b (b.answers (CommandOf c o) (too_long c) A)) (λ _.
+      by_test (may_propose me now x && not (has_queue x)) (λ _. proposes c o A) (λ _.
+      by_test (leb MOST_WAITING (length x.state.clients.queue)) (λ _. ends b (b.answers (CommandOf c o) (reply.Busy MOST_WAITING) A)) (λ _. ends b (b.queues c o A))))
+
+  peon_asked : {x : Course} (c : Command) (u : Session) → P (CommandOf c (origin.Session u)) x → Then Q (at_peon me c u x)
+  peon_asked {x = x} c u A = let h = CommandOf c (origin.Session u) in
+      by_test (is_too_long c) (λ _. ends b (b.answers h (too_long c) A)) (λ _.
+      by_test (leb MOST_WAITING (length x.state.clients.sessions)) (λ _. ends b (b.answers h (reply.Busy MOST_WAITING) A))
+      (λ _. where_fits Q which.Seq x.state.clients.next_seq _ (λ _. ends b (b.forwards x.state.clients.next_seq c u A))))
+
+  asks : {x : Course} (c : Command) (u : Session) → P (CommandOf c (origin.Session u)) x → Then Q (ask me now u c x)
+  unfolding ask
+  asks {x = x} c u A = by_test (is_leading x.state.phase) (λ _. leader_asked c (origin.Session u) A) (λ _. by_test (is_peon x.state.phase) (λ _. peon_asked c u A) (λ _. ends b (b.answers (CommandOf c (origin.Session u)) reply.Unavailable A)))
+
+  pub forwarded : {x : Course} (f e seq : ℕ) (c : Command) → HeardFrom came f e (body.Forward seq c) → P Nothing x → Then Q (hear_forward me now f e seq c x)
+  unfolding hear_forward
+  forwarded {x = x} f e seq c C A =
+      by_test (not (of_member (phase.Collecting ∷ phase.Previous ∷ phase.Active ∷ phase.Updating ∷ []) f e x && ltb (slice_index_or x.state.clients.taken f 0) seq)) (λ _. ends b A)
+      (λ _. leader_asked c (origin.Forwarded f seq) (b.takes_forwarded f e seq c C A))
+
+  pub routed : {x : Course} (f e seq : ℕ) (r : Reply) → P Nothing x → Then Q (hear_route f e seq r x)
+  unfolding hear_route
+  routed {x = x} f e seq r A = by_test (not (of_leader f e x)) (λ _. ends b A) (λ _. ends b (b.routes seq r A))
+
+  pub due : {x : Course} → P Nothing x → Then Q (propose_due me now x)
+  unfolding propose_due propose_next
+  due {x = x} A = by_test (may_propose me now x) (λ _. first x.state.clients.queue refl) (λ _. ends b A)
+    where
+      first : (qs : List Waiting) → x.state.clients.queue ≡ qs → Then Q (propose_first me now qs x)
+      first [] e = ends b A
+      first (q ∷ qs) e = proposes q.command q.origin (b.takes_queued q qs e A)
+
+  reads : {x : Course} (u : Session) (reading : Readings → Reply) → P (ReadOf u) x → Then Q (read me now u reading x)
+  reads {x = x} u reading A =
+      by_test (not (is_member x.state.phase)) (λ _. ends b (b.answers (ReadOf u) reply.Unavailable A)) (λ _.
+      by_test (not (readable x.readings.last me.member.monitors (lease_of x.state) now)) (λ _. ends b (b.answers (ReadOf u) (reply.NotReadable x.readings.last (is_standing me now x.state)) A)) (λ _. ends b (b.answers (ReadOf u) (reading x.readings) A)))
+
+  pub client_asked : {x : Course} (u : Session) (r : Request) → P (asked_by r u) x → Then Q (hear_client me now u r x)
+  unfolding hear_client
+  client_asked u (request.Set key value) A = asks (command.Set key value) u A
+  client_asked u (request.Remove key) A = asks (command.Remove key) u A
+  client_asked u (request.Log text) A = asks (command.Log text) u A
+  client_asked u (request.Show v) A = reads u (λ z. shown z v) A
+  client_asked u (request.Since v n) A = reads u (λ z. since z v n) A
+
+  -- ---- synchronization
+
+  grants : {x : Course} (full : Bool) (f : ℕ) → P Nothing x → Then Q (grant me full f x)
+  grants {x = x} full f A = let n = x.state.provider.next_cookie in let c : Cookie = record { boot = x.readings.boot; seq = n } in where_fits Q which.Cookie n _ (λ _.
+      ends b (sends_one b f (body.Cookie full c x.readings.last) tt (b.provider (record { cookies = slice_set x.state.provider.cookies f (Some c); next_cookie = suc n }) A)))
+
+  pub full_asked : {x : Course} (f : ℕ) → P Nothing x → Then Q (hear_get_cookie_full me f x)
+  unfolding hear_get_cookie_full
+  full_asked {x = x} f A = by_test x.readings.marked (λ _. ends b A) (λ _. grants true f A)
+
+  pub recent_asked : {x : Course} (f last : ℕ) → P Nothing x → Then Q (hear_get_cookie_recent me f last x)
+  unfolding hear_get_cookie_recent
+  recent_asked {x = x} f last A = by_test x.readings.marked (λ _. ends b A) (λ _. by_test (ltb (suc last) x.readings.first) (λ _. ends b (sends_one b f (body.NoCookie no_cookie) tt A)) (λ _. grants false f A))
+
+  pub chunk_asked : {x : Course} (f : ℕ) (c : Cookie) (p : Place) → P Nothing x → Then Q (hear_get_chunk me shared f c p x)
+  unfolding hear_get_chunk
+  chunk_asked {x = x} f c p A =
+      let left = filter (is_after p.key) shared in
+      by_test x.readings.marked (λ _. ends b A) (λ _.
+      by_test (not (is_cookie c (slice_index_or x.state.provider.cookies f None)) || ltb (suc p.version) x.readings.first) (λ _. ends b (sends_one b f (body.NoCookie c) tt A))
+      (λ _. ends b (sends_one b f (chunk x.readings.last c p left me.member.monitors x.readings.record_of) (chunk_told me shared Nothing x c p) A)))
+
+  pub cookie_heard : {x : Course} (f : ℕ) (full : Bool) (c : Cookie) (last : ℕ) → P Nothing x → Then Q (hear_cookie me now f full c last x)
+  unfolding hear_cookie
+  cookie_heard {x = x} f full c last A =
+      let r = x.state.requester in
+      let p = first_place full last x.readings.last in
+      by_test (not (of_provider f x && awaits_cookie r.stage && same_flag full r.full) || (full && ltb last x.readings.floor)) (λ _. ends b A)
+      (λ _. ends b (arms b timer.Sync (sends_one b r.provider (body.GetChunk c p) tt (b.requester (record r { stage = sync.Chunks; cookie = Some c; start = p.version; place = p }) tt A))))
+
+  pub no_cookie_heard : {x : Course} (f : ℕ) (c : Cookie) → P Nothing x → Then Q (hear_no_cookie me now f c x)
+  unfolding hear_no_cookie
+  no_cookie_heard {x = x} f c A =
+      by_test (of_provider f x && (is_cookie c x.state.requester.cookie || (awaits_cookie x.state.requester.stage && not x.state.requester.full && same_cookie c no_cookie))) (λ _. a.bootstraps A) (λ _. ends b A)
+
+  same_stage : (x : Course) (z : SyncStage) → x.state.requester.stage ≡ z → MayReplay came x z
+  same_stage x sync.Cookie e = tt
+  same_stage x sync.Chunks e = tt
+  same_stage x (sync.Replay next end) e = inr (next, e)
+
+  module _ {x : Course} {values : List (List Op)} {entries : List Entry} (L : MayLearn came x Nothing values) (K : MayCopy came values entries) where
+    copied : (full : Bool) (v : ℕ) → P Nothing x → Then (P Nothing) (copy full v values entries x)
+    copied true v A = done (b.copies v values entries K A)
+    copied false v A = a.learned v values L A
+
+    takes : (p : Place) (end : Bool) → P Nothing x → Then (P Nothing) (take p values entries end x)
+    takes p end A = where_fits (P Nothing) which.Version (p.version + length values) _ (λ _.
+        and_then (P Nothing) (P Nothing) (copy x.state.requester.full (suc p.version) values entries x) _ (copied x.state.requester.full (suc p.version) A) (λ y B. done (b.requester _ (same_stage y y.state.requester.stage refl) B)))
+
+  pub chunk_heard : {x : Course} (f e : ℕ) (c : Cookie) (p : Place) (values : List (List Op)) (entries : List Entry) (end : Bool) → HeardFrom came f e (body.Chunk c p values entries end) → P Nothing x → Then Q (hear_chunk me now f c p values entries end x)
+  unfolding hear_chunk
+  chunk_heard {x = x} f e c p values entries end C A = by_test (is_ours f c p x)
+      (λ _. and_then (P Nothing) Q (take p values entries end x) _ (takes (from_chunk C) (copied_chunk C) p end A) (λ y B. ends b (arms b timer.Sync (sends_one b y.state.requester.provider (body.GetChunk c y.state.requester.place) tt B)))) (λ _. ends b A)
+
+  pub last_chunk_heard : {x : Course} (f e : ℕ) (c : Cookie) (p : Place) (values : List (List Op)) (entries : List Entry) (last : ℕ) → HeardFrom came f e (body.LastChunk c p values entries last) → P Nothing x → Then Q (hear_last_chunk me now f c p values entries last x)
+  unfolding hear_last_chunk
+  last_chunk_heard {x = x} f e c p values entries last C A = by_test (is_ours f c p x)
+      (λ _. and_then (P Nothing) Q (take p values entries true x) _ (takes (from_last_chunk C) (copied_last_chunk C) p true A) (λ y B. by_test y.state.requester.full
+      (λ _. where_fits Q which.Version (suc y.state.requester.start) _ (λ _. ends b (arms b timer.Step (disarms b timer.Sync (b.requester (record y.state.requester { stage = sync.Replay (suc y.state.requester.start) last }) (inl (f, e, c, p, values, entries, C)) B)))))
+      (λ _. a.bootstraps B))) (λ _. ends b A)
+
+  replays : {x : Course} (next end : ℕ) (values : Option (List (List Op))) → x.state.requester.stage ≡ sync.Replay next end → step_of x.readings.record_of (suc end - next) next ≡ values → P Nothing x → Then Q (replay_any me now next end values x)
+  replays next end None z e A = a.bootstraps A
+  replays {x = x} next end (Some values) z e A =
+      let B = b.learns next values (replayed (suc end - next) next e) A in
+      by_test (ltb end (next + length values)) (λ _. a.bootstraps (b.writes Unmark tt (b.writes (Last end) (inr (next, z)) B)))
+      (λ _. ends b (arms b timer.Step (b.requester (record x.state.requester { stage = sync.Replay (next + length values) end }) (inr (next, z)) B)))
+
+  pub steps : {x : Course} → P Nothing x → Then Q (replay_step me now x)
+  unfolding replay_step
+  steps {x = x} A = by_test (same_phase x.state.phase phase.Synchronizing) (λ _. at x.state.requester.stage refl) (λ _. ends b A)
+    where
+      at : (z : SyncStage) → x.state.requester.stage ≡ z → Then Q (step_in me now z x)
+      at sync.Cookie e = ends b A
+      at sync.Chunks e = ends b A
+      at (sync.Replay next end) e = replays next end (step_of x.readings.record_of (suc end - next) next) e refl A
+
+  -- ---- pings
+
+  pub pinged : {x : Course} (f : ℕ) (table : Option Scores) → P Nothing x → Then Q (hear_ping me f table x)
+  unfolding hear_ping
+  pinged f None A = ends b A
+  pinged {x = x} f (Some table) A = ends b (sends_one b f (body.PingReply (own_table me (note_table f table x))) tt (b.elector (with_heard f table x.state.elector) A))
+
+  pub ping_answered : {x : Course} (f : ℕ) (table : Option Scores) → P Nothing x → Then Q (hear_ping_reply f table x)
+  unfolding hear_ping_reply
+  ping_answered f None A = ends b A
+  ping_answered {x = x} f (Some table) A = ends b (b.elector (with_heard f table x.state.elector) A)
+
+  pub pings : {x : Course} → P Nothing x → Then Q (ping me now x)
+  unfolding ping
+  pings {x = x} A = let B = b.elector (measure me now x.state.elector) A in ends b (arms b timer.Ping (sends_to b (others me) (body.Ping (own_table me (elector_is (measure me now x.state.elector) x))) tt B))

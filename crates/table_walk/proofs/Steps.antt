@@ -1,0 +1,226 @@
+-- The steps of which the table's rows are made, each with the reason for which a row makes it, and what a law proves of
+-- each. P is what the law says of the event so far and of what is in hand, and Q what it says of the event at its end.
+use Rattle.mon_bytes.specs.declared.command.Command.TheVariants as command
+use Rattle.mon_bytes.specs.declared.command.Command.{Command}
+use Rattle.mon_bytes.specs.declared.entry.Entry.{Entry}
+use Rattle.mon_msg.specs.Protocol.Answers.{last_answer}
+use Rattle.mon_msg.specs.Protocol.Changes.{Boot, Change, Epoch, Last, Numbers, Promise, Unmark, Vote}
+use Rattle.mon_msg.specs.Protocol.Chunks.{copy_changes, record_changes}
+use Rattle.mon_msg.specs.Protocol.Collecting.{collector, missed}
+use Rattle.mon_msg.specs.Protocol.Commands.{queue_up, reply_each, wait_under}
+use Rattle.mon_msg.specs.Protocol.Course.{Course, change, change_all, clients_are, elector_is, forget_clients, in_phase, leader_is, peon_is, prober_is, provider_is, requester_is, say, timers_are, ◌▸◌}
+use Rattle.mon_msg.specs.Protocol.Found.{counts}
+use Rattle.mon_msg.specs.Protocol.Leading.{begin_with}
+use Rattle.mon_msg.specs.Protocol.Learning.{learn_changes}
+use Rattle.mon_msg.specs.Protocol.Peon.{cancel, of_leader}
+use Rattle.mon_msg.specs.Protocol.Phases.{same_phase}
+use Rattle.mon_msg.specs.Protocol.Places.{is_after}
+use Rattle.mon_msg.specs.Protocol.Proposing.{asked_of}
+use Rattle.mon_msg.specs.Protocol.Providing.{chunk}
+use Rattle.mon_msg.specs.Protocol.Readings.{Readings, epoch_of, promise_of}
+use Rattle.mon_msg.specs.Protocol.Replay.{step_of}
+use Rattle.mon_msg.specs.Protocol.Sending.{answer_any, send}
+use Rattle.mon_msg.specs.Protocol.Services.{service_last}
+use Rattle.mon_msg.specs.Protocol.State.{State, quorum_of}
+use Rattle.mon_msg.specs.Protocol.Synchronizing.{full_sync}
+use Rattle.mon_msg.specs.Protocol.Table.{at_rest}
+use Rattle.mon_msg.specs.Protocol.Value.{service_of, value}
+use Rattle.mon_msg.specs.declared.clients.Asked.{Asked}
+use Rattle.mon_msg.specs.declared.clients.Waiting.{Waiting}
+use Rattle.mon_msg.specs.declared.election.Elector.{Elector}
+use Rattle.mon_msg.specs.declared.election.Prober.{Prober}
+use Rattle.mon_msg.specs.declared.input.Input.TheVariants as input
+use Rattle.mon_msg.specs.declared.input.Input.{Input}
+use Rattle.mon_msg.specs.declared.paxos.Found.{Found}
+use Rattle.mon_msg.specs.declared.paxos.Leader.{Leader}
+use Rattle.mon_msg.specs.declared.paxos.LeaderStage.{LeaderStage}
+use Rattle.mon_msg.specs.declared.paxos.Peon.{Peon}
+use Rattle.mon_msg.specs.declared.plan.Origin.TheVariants as origin
+use Rattle.mon_msg.specs.declared.plan.Origin.{Origin}
+use Rattle.mon_msg.specs.declared.plan.Sent.TheVariants as sent
+use Rattle.mon_msg.specs.declared.plan.Sent.{Sent}
+use Rattle.mon_msg.specs.declared.synchronization.Provider.{Provider}
+use Rattle.mon_msg.specs.declared.synchronization.Requester.{Requester}
+use Rattle.mon_msg.specs.declared.synchronization.SyncStage.TheVariants as sync
+use Rattle.mon_msg.specs.declared.synchronization.SyncStage.{SyncStage}
+use Rattle.mon_msg.specs.declared.view.Me.{Me}
+use Rattle.mon_tx.specs.declared.op.Op.{Op}
+use Rattle.mon_wire.specs.declared.body.Body.TheVariants as body
+use Rattle.mon_wire.specs.declared.body.Body.{Body}
+use Rattle.mon_wire.specs.declared.message.Message.{Message}
+use Rattle.mon_wire.specs.declared.parts.Cookie.{Cookie}
+use Rattle.mon_wire.specs.declared.parts.Place.{Place}
+use Rattle.mon_wire.specs.declared.parts.Told.{Told}
+use Rattle.mon_wire.specs.declared.phase.Phase.TheVariants as phase
+use Rattle.mon_wire.specs.declared.phase.Phase.{Phase}
+use Rattle.mon_wire.specs.declared.reply.Reply.{Reply}
+use Rattle.mon_wire.specs.declared.request.Request.TheVariants as request
+use Rattle.mon_wire.specs.declared.request.Request.{Request}
+use Rattle.mon_wire.specs.declared.request.Session.{Session}
+use Rattle.std.proofs.Common.{Bool, List, None, Ok, Option, Some, [], drop, eqb, false, filter, not, slice_set, suc, true, ℕ, ◌&&◌, ◌-◌, ◌<◌, ◌^◌, ◌∷◌, ◌≡◌, ◌≤◌, ◌⊎◌}
+use Rattle.std.specs.List.{AllByRecursion}
+
+-- ---- in hand
+
+-- What was taken from the input or out of the state, and isn't yet kept, sent or answered.
+pub data InHand : Type 0 where
+  Nothing : InHand
+  -- a client's read
+  ReadOf : (u : Session) → InHand
+  -- a command, and who asked for it
+  CommandOf : (c : Command) → (o : Origin) → InHand
+  -- the value that a leader found while it collected
+  FoundOf : (found : Option Found) → InHand
+  -- a value that is to be begun or was accepted, and who waits for it
+  ValueOf : (value : List Op) → (o : Option Origin) → InHand
+
+-- what a client's request brings
+abbrev pub asked_by : Request → Session → InHand
+asked_by (request.Set key value) u = CommandOf (command.Set key value) (origin.Session u)
+asked_by (request.Remove key) u = CommandOf (command.Remove key) (origin.Session u)
+asked_by (request.Log text) u = CommandOf (command.Log text) (origin.Session u)
+asked_by (request.Show v) u = ReadOf u
+asked_by (request.Since v n) u = ReadOf u
+
+-- what an input brings
+abbrev pub brought : Input → InHand
+brought (input.Client u r) = asked_by r u
+brought other = Nothing
+
+-- who waits for an answer to it
+abbrev pub origin_of : InHand → Option Origin
+origin_of Nothing = None
+origin_of (ReadOf u) = Some (origin.Session u)
+origin_of (CommandOf c o) = Some o
+origin_of (FoundOf found) = None
+origin_of (ValueOf value o) = o
+
+-- ---- reasons
+
+-- the input is this message, of this rank in this epoch
+pub record HeardFrom (came : Input) (f e : ℕ) (m : Body) : Type 0 where
+  pub message : Message
+  pub is : came ≡ input.Deliver message
+  pub from : message.from ≡ f
+  pub epoch : message.epoch ≡ e
+  pub says : message.body ≡ m
+
+-- The input is an answer to PROBE whose first version is above the monitor's last one. So the monitor lacks versions that
+-- the sender doesn't keep.
+pub record LacksVersions (w : Readings) (came : Input) : Type 0 where
+  pub message : Message
+  pub is : came ≡ input.Deliver message
+  pub quorum : List Bool
+  pub first : ℕ
+  pub last : ℕ
+  pub says : message.body ≡ body.ProbeReply quorum first last
+  pub above : w.last < first
+  pub some : 1 < first
+
+-- An epoch that is written is counted up, or is that of a message.
+pub data MayEnter (came : Input) : ℕ → Type 0 where
+  counted : {e : ℕ} → e ≤ 2 ^ 62 → MayEnter came e
+  heard : {f e : ℕ} {m : Body} → HeardFrom came f e m → MayEnter came e
+
+-- Values that are learned came with a message, are in the monitor's records, or are accepted by all of the quorum.
+pub data MayLearn (came : Input) (x : Course) : InHand → List (List Op) → Type 0 where
+  from_last : (k : ℕ) {f e pn first last from : ℕ} {whole : Bool} {values : List (List Op)} {told : Option Told} → HeardFrom came f e (body.Last pn first last whole from values told) → MayLearn came x Nothing (drop k values)
+  from_commit : (k : ℕ) {f e from : ℕ} {values : List (List Op)} → HeardFrom came f e (body.Commit from values) → MayLearn came x Nothing (drop k values)
+  from_chunk : {f e : ℕ} {c : Cookie} {p : Place} {values : List (List Op)} {entries : List Entry} {end : Bool} → HeardFrom came f e (body.Chunk c p values entries end) → MayLearn came x Nothing values
+  from_last_chunk : {f e last : ℕ} {c : Cookie} {p : Place} {values : List (List Op)} {entries : List Entry} → HeardFrom came f e (body.LastChunk c p values entries last) → MayLearn came x Nothing values
+  replayed : (left v : ℕ) {values : List (List Op)} → step_of x.readings.record_of left v ≡ Some values → MayLearn came x Nothing values
+  accepted_by_all : {value : List Op} → x.state.leader.value ≡ Some value → MayLearn came x Nothing (value ∷ [])
+  -- by the only monitor of the quorum
+  alone : {value : List Op} {o : Option Origin} → MayLearn came x (ValueOf value o) (value ∷ [])
+
+-- Records and entries that are copied came with a CHUNK or a LAST_CHUNK.
+pub data MayCopy (came : Input) : List (List Op) → List Entry → Type 0 where
+  copied_chunk : {f e : ℕ} {c : Cookie} {p : Place} {values : List (List Op)} {entries : List Entry} {end : Bool} → HeardFrom came f e (body.Chunk c p values entries end) → MayCopy came values entries
+  copied_last_chunk : {f e last : ℕ} {c : Cookie} {p : Place} {values : List (List Op)} {entries : List Entry} → HeardFrom came f e (body.LastChunk c p values entries last) → MayCopy came values entries
+
+-- Why another change is written. Values, copies, votes, marks and starts are steps of their own.
+abbrev pub MayWrite : Input → Course → Change → Type 0
+MayWrite came x (Epoch e) = MayEnter came e
+MayWrite came x (Numbers pn) = pn ≤ 2 ^ 62
+MayWrite came x (Promise pn) = (f : ℕ) × (e : ℕ) × (first : ℕ) × (last : ℕ) × HeardFrom came f e (body.Collect pn first last)
+MayWrite came x (Last v) = (v ≤ 2 ^ 62) ⊎ ((next : ℕ) × (x.state.requester.stage ≡ sync.Replay next v))
+MayWrite came x Unmark = Unit {0}
+MayWrite came x other = ⊥
+
+-- Why a body is sent. Answers to PROBE, BEGIN, ACCEPT, FORWARD and ROUTE are sent in steps of their own.
+abbrev pub MaySay : Me → List Entry → InHand → Course → Body → Type 0
+MaySay me shared h x (body.ProbeReply quorum first last) = ⊥
+MaySay me shared h x (body.Begin pn v value) = ⊥
+MaySay me shared h x (body.Accept pn v) = ⊥
+MaySay me shared h x (body.Route seq r) = ⊥
+MaySay me shared h x (body.Forward seq c) = ⊥
+MaySay me shared h x (body.Collect pn first last) = pn ≡ x.state.leader.pn
+MaySay me shared h x (body.Last pn first last whole from values told) = (v : ℕ) × (body.Last pn first last whole from values told ≡ last_answer me.member.monitors x.readings v)
+MaySay me shared h x (body.Commit from values) = ((value : List Op) × (o : Option Origin) × (h ≡ ValueOf value o) × (values ≡ value ∷ [])) ⊎ (values ≡ missed me.member.monitors x.readings.record_of x.readings.last (from - 1))
+MaySay me shared h x (body.Chunk c p values entries end) = body.Chunk c p values entries end ≡ chunk x.readings.last c p (filter (is_after p.key) shared) me.member.monitors x.readings.record_of
+MaySay me shared h x (body.LastChunk c p values entries last) = body.LastChunk c p values entries last ≡ chunk x.readings.last c p (filter (is_after p.key) shared) me.member.monitors x.readings.record_of
+MaySay me shared h x other = Unit {0}
+
+-- A message is of the monitor's own rank and has the epoch of its store.
+abbrev pub MaySend : Me → List Entry → InHand → Course → Sent → Type 0
+MaySend me shared h x (sent.Message to m) = (m.from ≡ me.member.rank) × (m.epoch ≡ epoch_of x.readings) × MaySay me shared h x m.body
+MaySend me shared h x (sent.Reply to r) = ⊥
+
+-- A replay ends where a LAST_CHUNK said, or where it did before.
+abbrev pub MayReplay : Input → Course → SyncStage → Type 0
+MayReplay came x (sync.Replay next end) = ((f : ℕ) × (e : ℕ) × (c : Cookie) × (p : Place) × (values : List (List Op)) × (entries : List Entry) × HeardFrom came f e (body.LastChunk c p values entries end)) ⊎ ((from : ℕ) × (x.state.requester.stage ≡ sync.Replay from end))
+MayReplay came x other = Unit {0}
+
+-- A value that a leader found is the one that it had found before, or that of a LAST.
+abbrev pub MayFind : Input → Course → Option Found → Type 0
+MayFind came x None = Unit {0}
+MayFind came x (Some found) = (x.state.leader.found ≡ Some found) ⊎ ((f : ℕ) × (e : ℕ) × (pn : ℕ) × (first : ℕ) × (last : ℕ) × (whole : Bool) × (from : ℕ) × (values : List (List Op)) × (told : Option Told) × (t : Told) × HeardFrom came f e (body.Last pn first last whole from values told) × (counts told ≡ Some t) × (found.value ≡ t.value))
+
+-- ---- steps
+
+-- What a law proves of each step: P holds after it if P held before it, and Q holds at the end.
+pub record Steps (me : Me) (now : ℕ) (shared : List Entry) (w : Readings) (s : State) (came : Input) (P : InHand → Course → Type 0) (Q : Course → Type 0) : Type 0 where
+  -- how an event begins and ends; a start begins with the count of starts
+  pub before : (came ≡ input.Start → same_phase s.phase phase.Booting ≡ false) → P (brought came) (at_rest w s)
+  pub boots : came ≡ input.Start → same_phase s.phase phase.Booting ≡ true → suc w.boot ≤ 2 ^ 62 → P Nothing (change (Boot (suc w.boot)) (at_rest w s))
+  pub after : {x : Course} → P Nothing x → Q x
+  -- The last step of an event, when P needn't hold between its parts: the store is marked, PROBE is answered, a leader begins a
+  -- value, and a peon accepts it.
+  pub marks : (f : ℕ) → (w.marked ≡ true) ⊎ LacksVersions w came → P Nothing (at_rest w s) → Q (full_sync me now f (at_rest w s))
+  pub answers_probe : (f : ℕ) → w.marked ≡ false → P Nothing (at_rest w s) → Q (send me f (body.ProbeReply (quorum_of s) w.first w.last) (at_rest w s))
+  pub proposes : {x : Course} (z : LeaderStage) (value : List Op) (o : Option Origin) → suc x.readings.last ≤ 2 ^ 62 → P (ValueOf value o) x → Q (begin_with me now z (suc x.readings.last) value o x)
+  pub votes : {x : Course} (f e pn v : ℕ) (value : List Op) → HeardFrom came f e (body.Begin pn v value) → (of_leader f e x && eqb pn (promise_of x.readings) && eqb v (suc x.readings.last)) ≡ true → P Nothing x
+      → Q (x ▸ change (Vote v pn value) ▸ cancel ▸ send me f (body.Accept pn v))
+  -- what is written
+  pub writes : {h : InHand} {x : Course} (c : Change) → MayWrite came x c → P h x → P h (change c x)
+  pub learns : {h : InHand} {x : Course} (v : ℕ) (values : List (List Op)) → MayLearn came x h values → P h x → P h (change_all (learn_changes v values) x)
+  pub copies : {h : InHand} {x : Course} (v : ℕ) (values : List (List Op)) (entries : List Entry) → MayCopy came values entries → P h x → P h (x ▸ change_all (record_changes v values) ▸ change_all (copy_changes entries))
+  -- what is sent
+  pub sends : {h : InHand} {x : Course} (sends : List Sent) → AllByRecursion (MaySend me shared h x) sends → P h x → P h (say sends x)
+  -- what is remembered
+  pub enters : {h : InHand} {x : Course} (p : Phase) → P h x → P h (in_phase p x)
+  pub timers : {h : InHand} {x : Course} (ts : List (Option ℕ)) → P h x → P h (timers_are ts x)
+  pub elector : {h : InHand} {x : Course} (e : Elector) → P h x → P h (elector_is e x)
+  pub prober : {h : InHand} {x : Course} (p : Prober) → P h x → P h (prober_is p x)
+  pub peon : {h : InHand} {x : Course} (p : Peon) → P h x → P h (peon_is p x)
+  pub provider : {h : InHand} {x : Course} (p : Provider) → P h x → P h (provider_is p x)
+  pub requester : {h : InHand} {x : Course} (q : Requester) → MayReplay came x q.stage → P h x → P h (requester_is q x)
+  -- Of a leader: all but its number, its value and who waits for it; the value that it found; and all, when it collects.
+  pub leader : {h : InHand} {x : Course} (l : Leader) → P h x → P h (leader_is (record l { pn = x.state.leader.pn; found = x.state.leader.found; value = x.state.leader.value; origin = x.state.leader.origin }) x)
+  pub finds : {h : InHand} {x : Course} (l : Leader) → MayFind came x l.found → P h x → P h (leader_is (record l { pn = x.state.leader.pn; value = x.state.leader.value; origin = x.state.leader.origin }) x)
+  pub collects : {x : Course} (q : List Bool) (pn : ℕ) → pn ≤ 2 ^ 62 → P Nothing x → P Nothing (leader_is (collector me q pn x.readings) x)
+  -- all requests are forgotten
+  pub forgets : {h : InHand} {x : Course} → P h x → P h (forget_clients x)
+  -- taken in hand: the first command of the queue, that of a FORWARD, and a leader's values
+  pub takes_queued : {x : Course} (q : Waiting) (qs : List Waiting) → x.state.clients.queue ≡ q ∷ qs → P Nothing x → P (CommandOf q.command q.origin) (clients_are (record x.state.clients { queue = qs }) x)
+  pub takes_forwarded : {x : Course} (f e seq : ℕ) (c : Command) → HeardFrom came f e (body.Forward seq c) → P Nothing x → P (CommandOf c (origin.Forwarded f seq)) (clients_are (record x.state.clients { taken = slice_set x.state.clients.taken f seq }) x)
+  pub takes_found : {x : Course} → P Nothing x → P (FoundOf x.state.leader.found) (leader_is (record x.state.leader { found = None }) x)
+  pub takes_value : {x : Course} (value : List Op) → x.state.leader.value ≡ Some value → P Nothing x → P (ValueOf value x.state.leader.origin) (leader_is (record x.state.leader { value = None; origin = None }) x)
+  -- what becomes of it
+  pub makes_value : {x : Course} (c : Command) (o : Origin) (ops : List Op) → suc (service_last x.readings (service_of c)) ≤ 2 ^ 62 → value x.readings c (asked_of me o) ≡ Ok ops → P (CommandOf c o) x → P (ValueOf ops (Some o)) x
+  pub proposes_found : {x : Course} (found : Found) → P (FoundOf (Some found)) x → P (ValueOf found.value None) x
+  pub drops_found : {x : Course} (found : Option Found) → P (FoundOf found) x → P Nothing x
+  pub queues : {x : Course} (c : Command) (o : Origin) → P (CommandOf c o) x → P Nothing (queue_up c o x)
+  pub forwards : {x : Course} (seq : ℕ) (c : Command) (u : Session) → P (CommandOf c (origin.Session u)) x → P Nothing (x ▸ wait_under seq u ▸ send me x.state.peon.leader (body.Forward seq c))
+  pub routes : {x : Course} (seq : ℕ) (r : Reply) → P Nothing x → P Nothing (x ▸ clients_are (record x.state.clients { sessions = filter (λ (a : Asked). not (eqb a.seq seq)) x.state.clients.sessions }) ▸ reply_each (filter (λ (a : Asked). eqb a.seq seq) x.state.clients.sessions) r)
+  pub answers : {x : Course} (h : InHand) (r : Reply) → P h x → P Nothing (answer_any me (origin_of h) r x)
