@@ -1,6 +1,6 @@
 -- Every event leaves the floors of full synchronizations far below the end of the log.
-use Rattle.log_copies.proofs.Standing.{Agrees}
 use Rattle.log_copies.proofs.Matching.{monitor_keeps, read_last}
+use Rattle.log_copies.proofs.Standing.{Agrees}
 use Rattle.log_model.specs.Windows.{Keeps}
 use Rattle.mon_kv.specs.Readers.{is_marked}
 use Rattle.mon_msg.specs.Joined.{joined}
@@ -8,17 +8,17 @@ use Rattle.mon_msg.specs.Protocol.Changes.{Change, Mark, encoded}
 use Rattle.mon_msg.specs.Protocol.Played.{play, played}
 use Rattle.mon_msg.specs.Protocol.Readings.{Readings, readings_of, shared_entries}
 use Rattle.mon_msg.specs.Protocol.Synchronizing.{floor_of}
-use Rattle.mon_msg.specs.declared.plan.Sent.{Sent}
 use Rattle.mon_msg.specs.declared.plan.Sent.TheVariants as sent
+use Rattle.mon_msg.specs.declared.plan.Sent.{Sent}
 use Rattle.mon_msg.specs.declared.view.Me.{Me}
 use Rattle.mon_tx.specs.Keys.{number, place}
 use Rattle.mon_tx.specs.Map.{Store, apply, number_in, place_cmp}
-use Rattle.mon_tx.specs.declared.key.Area.{Area}
 use Rattle.mon_tx.specs.declared.key.Area.TheVariants as area
-use Rattle.mon_tx.specs.declared.key.Key.{Key}
+use Rattle.mon_tx.specs.declared.key.Area.{Area}
 use Rattle.mon_tx.specs.declared.key.Key.TheVariants as key
-use Rattle.mon_wire.specs.declared.body.Body.{Body}
+use Rattle.mon_tx.specs.declared.key.Key.{Key}
 use Rattle.mon_wire.specs.declared.body.Body.TheVariants as body
+use Rattle.mon_wire.specs.declared.body.Body.{Body}
 use Rattle.quorum_agreement.proofs.Invariant.{EnvelopeMatches, LogHolds, remembers}
 use Rattle.quorum_agreement.proofs.Step.{copy_marked}
 use Rattle.quorum_laws.proofs.Beginning as beginning
@@ -31,17 +31,17 @@ use Rattle.quorum_model.specs.Happens.{happens, kept_only, lost, moved, put_at, 
 use Rattle.quorum_model.specs.Monitors.{Monitors}
 use Rattle.quorum_model.specs.World.{Asked, Envelope, Event, Plain, World, first_world, plain_of}
 use Rattle.quorum_near.proofs.Low.{IsLow, TellsLow, first_low, low_later, low_marked, low_played}
-use Rattle.quorum_near.proofs.PlainActs.{NoMark}
-use Rattle.quorum_near.proofs.PlainTable.{AnswersAs, IsBehind, Marks, SaysAs, Writes, WritesAs, reacts_as}
+use Rattle.quorum_near.proofs.PlainTable.{AnswersAs, Marks, NoMark, SaysAs, Writes, WritesAs, reacts_as}
 use Rattle.quorum_walk.proofs.FineCourses.{Ended, begun}
-use Rattle.quorum_walk.proofs.Lists.{all_append, all_both}
-use Rattle.quorum_walk.proofs.Walk.{Then}
+use Rattle.table_walk.proofs.Lists.{all_append, all_both}
+use Rattle.table_walk.proofs.Walk.{Then}
 use Rattle.std.proofs.Common.{Bool, List, [], ap, arith, cond, eqb, false, inl, inr, length, subst, sym, true, ℕ, ◌++◌, ◌+◌, ◌-◌, ◌<◌, ◌∙◌, ◌∷◌, ◌≡◌, ◌≤◌, ◌⊎◌}
 use Rattle.std.proofs.lemmas.Bool.{cond_both, false≢true, ltb-true}
 use Rattle.std.proofs.lemmas.List.{length-append}
 use Rattle.std.specs.FinMap.{empty, get-empty}
 use Rattle.std.specs.List.{AllByRecursion}
 use Rattle.std.specs.Prelude.{IfOk}
+use Rattle.table_walk.proofs.Steps.{LacksVersions}
 
 abbrev pub EnvelopeLow : Envelope → Type 0
 EnvelopeLow e = TellsLow e.message.body
@@ -148,7 +148,7 @@ module _ (ms : Monitors) (w : World) (H : LogHolds ms w) (L : AllLow w) where
     writes = (subst (Then (WritesAs (readings_of m) d.by.came)) d.is (reacts_as me (shared_entries m) d.by.at (readings_of m) d.by.state d.by.came)).holds
 
     -- the first version that another monitor reported is far below the end of the log
-    told_low : (B : IsBehind (readings_of m) d.by.came) → B.first + 501 ≤ length w.log
+    told_low : (B : LacksVersions (readings_of m) d.by.came) → B.first + 501 ≤ length w.log
     told_low B = by (subst (ToldOf Told rank) B.is d.by.told)
       where
         by : Told (record { to = rank; message = B.message }) → B.first + 501 ≤ length w.log
@@ -166,7 +166,7 @@ module _ (ms : Monitors) (w : World) (H : LogHolds ms w) (L : AllLow w) where
         clear : (readings_of m).marked ≡ true → ((readings_of m).last ≡ 0) × ((readings_of m).pending_v ≡ 0)
         clear = (J.mine rank).disk.kept.clear
 
-        why : (M : Marks (readings_of m) d.by.came d.y.changes) → ((readings_of m).marked ≡ true) ⊎ IsBehind (readings_of m) d.by.came → IsLow (length w.log) (play (Mark (floor_of (readings_of m)) (readings_of m).last_pn (readings_of m).promise) (readings_of m))
+        why : (M : Marks (readings_of m) d.by.came d.y.changes) → ((readings_of m).marked ≡ true) ⊎ LacksVersions (readings_of m) d.by.came → IsLow (length w.log) (play (Mark (floor_of (readings_of m)) (readings_of m).last_pn (readings_of m).promise) (readings_of m))
         why M (inl t) = low_marked (length w.log) (readings_of m) low 0 (inl t) clear (readings_of m).last_pn (readings_of m).promise
         why M (inr B) = low_marked (length w.log) (readings_of m) low B.first (inr (B.above, told_low B)) clear (readings_of m).last_pn (readings_of m).promise
 
