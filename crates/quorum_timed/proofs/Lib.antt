@@ -1,0 +1,9 @@
+pub mod Acts
+pub mod Armed
+pub mod Beginning
+pub mod Events
+pub mod GoingOn
+pub mod Rows
+pub mod Runs
+pub mod Table
+pub mod Worlds

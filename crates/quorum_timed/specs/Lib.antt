@@ -1,0 +1,5 @@
+pub mod Begins
+pub mod Calls
+pub mod Timed
+pub mod Times
+pub mod Waiting
