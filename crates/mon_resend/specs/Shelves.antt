@@ -30,8 +30,11 @@ first_due [] = NEVER
 first_due (k ∷ kept) = min k.note.due (first_due kept)
 
 -- the copies that are to be sent now
+abbrev pub due_kept : Bool → ℕ → List Kept → List Kept
+due_kept again now kept = filter (λ k. is_due again now k.note) kept
+
 abbrev pub due_copies : Bool → ℕ → List Kept → List Outgoing
-due_copies again now kept = map (λ k. k.out) (filter (λ k. is_due again now k.note) kept)
+due_copies again now kept = map (λ k. k.out) (due_kept again now kept)
 
 abbrev pub due_copy_at : Bool → ℕ → Option Kept → List Outgoing
 due_copy_at again now None = []

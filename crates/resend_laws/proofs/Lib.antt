@@ -7,3 +7,4 @@ mod Tried
 mod Lines
 mod Forwards
 mod Released
+mod Leaving

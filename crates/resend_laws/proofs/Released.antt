@@ -16,9 +16,9 @@ use Rattle.resend_laws.proofs.Lines.{is_forward}
 use Rattle.resend_laws.proofs.Unchanged.{header_stays}
 
 -- the copy is due at this time, as if for the first time
-record IsCalled (now : ℕ) (n : Note) : Type 0 where
-  due : n.due ≡ now
-  times : n.times ≡ 0
+pub record IsCalled (now : ℕ) (n : Note) : Type 0 where
+  pub due : n.due ≡ now
+  pub times : n.times ≡ 0
 
 abbrev FirstIsCalled : ℕ → List Kept → Type 0
 FirstIsCalled now kept = (k : Kept) → first_forward kept ≡ Some k → k.note.held ≡ true → IsCalled now k.note
@@ -71,7 +71,7 @@ released_first now kept = if_released (held_forward kept) refl
     if_released None e k is held = absurd (none_held kept (first_forward kept) refl e k is held)
     if_released (Some seq) e k is held = first_called now seq kept e k is held
 
-called_goes : (since now : ℕ) (again : Bool) (n : Note) → IsCalled since n → n.held ≡ true → since ≤ now → is_due again now n ≡ true
+pub called_goes : (since now : ℕ) (again : Bool) (n : Note) → IsCalled since n → n.held ≡ true → since ≤ now → is_due again now n ≡ true
 called_goes since now again n h held le =
     let due : leb n.due now ≡ true = grind (arith, nat_tests, h.due, le) in
     let few : ltb n.times 16 ≡ true = grind (arith, nat_tests, h.times) in

@@ -1,5 +1,5 @@
 -- The FORWARDs that are sent to one monitor, by their numbers.
-use Rattle.std.specs.Prelude.{ℕ, ◌-◌, ◌^◌, ◌≤◌, ◌<◌, ◌&&◌, ◌==◌, List, [], ◌∷◌, ◌++◌, filter, Option, Some, None, if◌then◌else◌}
+use Rattle.std.specs.Prelude.{ℕ, ◌-◌, ◌^◌, ◌≤◌, ◌<◌, ◌&&◌, ◌==◌, List, [], ◌∷◌, ◌++◌, Option, Some, None, if◌then◌else◌}
 use Rattle.std.specs.List.{AllByRecursion, flat_map}
 use Rattle.mon_decode.specs.declared.header.Header.{Header}
 use Rattle.mon_decode.specs.Headers.{same_kind}
@@ -10,7 +10,7 @@ use Rattle.mon_resend.specs.declared.outbox.UnderWay.{UnderWay}
 use Rattle.mon_resend.specs.declared.outbox.UnderWay.TheVariants as under_way
 use Rattle.mon_resend.specs.declared.shelf.Kept.{Kept}
 use Rattle.mon_resend.specs.Datagrams.{part_of}
-use Rattle.mon_resend.specs.Notes.{is_due}
+use Rattle.mon_resend.specs.Shelves.{due_kept}
 use Rattle.mon_resend.specs.World.{box_of, is_sent_now}
 use Rattle.mon_wire.specs.declared.kind.Kind.TheVariants as kind
 use Rattle.resend_laws.specs.Runs.{Step, Sends, Hears, Passes, step, time_of}
@@ -65,7 +65,7 @@ sent_in None u = []
 abbrev pub leave_in : (rank : ℕ) → Step → Copies → List ℕ
 leave_in rank (Sends memory to bytes now) c = if to == rank && is_sent_now to bytes now c then sent_in (part_of bytes) (box_of to c).under_way else []
 leave_in rank (Hears memory from bytes now) c = []
-leave_in rank (Passes again now) c = numbers (filter (λ k. is_due again now k.note) (box_of rank c).shelf)
+leave_in rank (Passes again now) c = numbers (due_kept again now (box_of rank c).shelf)
 
 abbrev pub leave : (rank : ℕ) → List Step → Copies → List ℕ
 leave rank [] c = []

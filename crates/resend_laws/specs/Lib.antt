@@ -1,3 +1,4 @@
 pub mod Copies
 pub mod Forwards
+pub mod Leaving
 pub mod Runs

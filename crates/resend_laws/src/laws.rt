@@ -1,6 +1,6 @@
 //! The laws, over every list of steps.
 
-ghost use Rattle.std.specs.Prelude.{◌≡◌, ℕ, ◌<◌, ◌≤◌, Bool, true, false, List, [], ◌∷◌, ◌++◌, Some, ◌||◌};
+ghost use Rattle.std.specs.Prelude.{◌≡◌, ℕ, ◌<◌, ◌≤◌, min, Bool, true, false, List, [], ◌∷◌, ◌++◌, Some, ◌||◌};
 ghost use Rattle.std.specs.List.{AllByRecursion};
 ghost use Rattle.std.specs.List.Sorted.{IsNonDecreasing};
 ghost use Rattle.mon_decode.specs.Headers.{same_kind};
@@ -8,17 +8,21 @@ ghost use Rattle.mon_decode.specs.declared.header.Header.{Header};
 ghost use Rattle.mon_link.specs.declared.link.Outgoing.{Outgoing};
 ghost use Rattle.mon_resend.specs.declared.copies.Copies.{Copies};
 ghost use Rattle.mon_resend.specs.declared.datagram.Part.TheVariants.{Whole};
+ghost use Rattle.mon_resend.specs.declared.note.Event.TheVariants.{Asked};
+ghost use Rattle.mon_resend.specs.declared.note.Note.{Note};
 ghost use Rattle.mon_resend.specs.declared.outbox.Outbox.{Outbox};
 ghost use Rattle.mon_resend.specs.declared.rows.Way.TheVariants.{ByTime};
 ghost use Rattle.mon_resend.specs.declared.shelf.Kept.{Kept};
 ghost use Rattle.mon_resend.specs.Again.{first_forward, note_of};
+ghost use Rattle.mon_resend.specs.Copied.{IsOneOf};
 ghost use Rattle.mon_resend.specs.Datagrams.{part_of};
-ghost use Rattle.mon_resend.specs.Notes.{is_due};
-ghost use Rattle.mon_resend.specs.Rows.{is_answered, way_of};
-ghost use Rattle.mon_resend.specs.World.{all_passed, arrived, asks, box_of, is_taken};
+ghost use Rattle.mon_resend.specs.Notes.{after, after_sending, is_due};
+ghost use Rattle.mon_resend.specs.Rows.{is_answered, is_asked_again, way_of};
+ghost use Rattle.mon_resend.specs.World.{all_due_copies, all_passed, arrived, asks, box_of, is_taken};
 ghost use Rattle.mon_wire.specs.declared.kind.Kind.TheVariants.{GetChunk};
 ghost use Rattle.resend_laws.specs.Copies.{EachAt, IsNotSent, IsOver, IsTried, IsUpTo, StaysOver};
 ghost use Rattle.resend_laws.specs.Forwards.{IsBeforeEnd, IsLeast, begun, kept_for, leave, leave_in};
+ghost use Rattle.resend_laws.specs.Leaving.{IsDueAgain, IsKept, IsNotEnded, IsUntried, LeavesIn, SomeAt};
 ghost use Rattle.resend_laws.specs.Runs.{IsInOrder, Step, rounds, run};
 
 /// No copy that is sent again by time is kept for ever, unless it is held or a GET_CHUNK. Let each of its waits be at
@@ -35,6 +39,23 @@ pub fn law_dropped()
 pub fn law_tried()
     ensures { (h : Header) (length now : ℕ) (b : Outbox) → way_of h.kind ≡ ByTime → same_kind h.kind GetChunk ≡ false
         → (note_of h length length now b).held ≡ false → IsTried 2000 now (note_of h length length now b) }
+{}
+
+/// Copies leave. Each copy that is due is sent when copies are, and so is an answer whose question arrived again. A copy
+/// that is sent again by time, isn't held and is no GET_CHUNK is then due again after at most `wait` milliseconds, which
+/// are a second or more and no less than its last wait. It leaves in each of the first 16 rounds, each at least `wait`
+/// after the one before, unless something that is sent or arrives ends it. By `law_tried`, `wait` is 2 seconds for a
+/// message in one datagram.
+pub fn law_leaves()
+    ensures due { (c : Copies) (rank : ℕ) (x : Outgoing) (again : Bool) (now : ℕ)
+        → SomeAt rank x (λ n. is_due again now n ≡ true) c → IsOneOf (all_due_copies again now c) x }
+    ensures asked { (n : Note) (h : Header) (again : Bool) (since now : ℕ) → is_asked_again n.header h ≡ true → since ≤ now
+        → is_due again now (after (Asked h) since n) ≡ true }
+    ensures again { (n : Note) (wait now : ℕ) → 1000 ≤ wait → n.every ≤ wait → way_of n.header.kind ≡ ByTime
+        → n.held ≡ false → is_due true now n ≡ true → IsDueAgain wait now n (after_sending now n) }
+    ensures each_round { (c : Copies) (rank : ℕ) (x : Outgoing) (wait since : ℕ) (steps : List Step) → 1000 ≤ wait
+        → EachAt rank x (IsUntried wait since) c → IsKept rank x c → IsNotSent x steps → IsInOrder since steps
+        → IsNotEnded rank x steps c → LeavesIn (min 16 (rounds wait since steps)) x steps c }
 {}
 
 /// A message that was answered isn't sent again, whatever is sent and arrives later, until it is sent anew. The answer has to

@@ -3,4 +3,6 @@
 
 mod laws;
 
-pub use laws::{law_answered, law_dropped, law_forwards, law_next_forward, law_older, law_tried};
+pub use laws::{
+    law_answered, law_dropped, law_forwards, law_leaves, law_next_forward, law_older, law_tried,
+};
