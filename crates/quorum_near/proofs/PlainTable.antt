@@ -114,24 +114,24 @@ module _ (me : Me) (shared : List Entry) (now : ℕ) (w : Readings) (s : State) 
     timers = λ ts A. A;
     elector = λ e A. A;
     prober = λ p A. A;
-    peon = λ p A. A;
+    peon = λ p k A. A;
     provider = λ p A. A;
     requester = λ q k A. A;
     leader = λ l A. A;
     finds = λ l k A. A;
     forgets = λ A. A;
     collects = λ q pn short A. A;
-    takes_queued = λ q qs e A. A;
-    takes_forwarded = λ f e seq c C A. A;
+    takes_queued = λ q qs e due A. A;
+    takes_forwarded = λ f e seq c C new A. A;
     takes_found = λ A. A;
     takes_value = λ value e A. A;
-    makes_value = λ c o ops short e A. A;
+    makes_value = λ c o ops short e active A. A;
     proposes_found = λ found A. A;
     drops_found = λ found A. A;
-    queues = λ c o A. A;
-    forwards = λ {x = x} seq c u A. (A.0, all_append (SaysAs w) x.out (message_to me (epoch_of x.readings) (body.Forward seq c) x.state.peon.leader ∷ []) A.1 (tt, tt));
-    routes = λ {x = x} seq r A. (A.0, all_append (SaysAs w) x.out _ A.1 (all_of (SaysAs w) (λ (a : Asked). sent.Reply a.session r) (λ a. tt) _));
-    answers = λ {x = x} h r A. (A.0, all_append (SaysAs w) x.out (answers_to me (epoch_of x.readings) (origin_of h) r) A.1 (answers_as (epoch_of x.readings) (origin_of h) r));
+    queues = λ c o short A. A;
+    forwards = λ {x = x} c u peon short fits A. (A.0, all_append (SaysAs w) x.out (message_to me (epoch_of x.readings) (body.Forward x.state.clients.next_seq c) x.state.peon.leader ∷ []) A.1 (tt, tt));
+    routes = λ {x = x} f e seq r C k A. (A.0, all_append (SaysAs w) x.out _ A.1 (all_of (SaysAs w) (λ (a : Asked). sent.Reply a.session r) (λ a. tt) _));
+    answers = λ {x = x} h r k A. (A.0, all_append (SaysAs w) x.out (answers_to me (epoch_of x.readings) (origin_of h) r) A.1 (answers_as (epoch_of x.readings) (origin_of h) r));
   }
 
   -- whatever comes

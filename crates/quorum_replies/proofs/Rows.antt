@@ -92,24 +92,24 @@ module _ (me : Me) (now : ℕ) (shared : List Entry) (t : Session) (w : Readings
     timers = λ ts A. A;
     elector = λ e A. A;
     prober = λ p A. A;
-    peon = λ p A. A;
+    peon = λ p k A. A;
     provider = λ p A. A;
     requester = λ q k A. A;
     leader = λ l A. A;
     finds = λ l k A. A;
     forgets = λ A. omega arith;
     collects = λ q pn short A. omega arith;
-    takes_queued = λ q qs e A. let n = ap (queued t) e in omega arith;
-    takes_forwarded = λ f e seq c C A. A;
+    takes_queued = λ q qs e due A. let n = ap (queued t) e in omega arith;
+    takes_forwarded = λ f e seq c C new A. A;
     takes_found = λ A. A;
     takes_value = λ value e A. omega arith;
-    makes_value = λ c o ops short e A. A;
+    makes_value = λ c o ops short e active A. A;
     proposes_found = λ found A. A;
     drops_found = λ found A. A;
-    queues = λ {x = x} c o A. omega (arith, queued_append t x.state.clients.queue (record { command = c; origin = o } ∷ []));
-    forwards = λ {x = x} seq c u A. omega (arith, replies_append t x.out (message_to me (epoch_of x.readings) (body.Forward seq c) x.state.peon.leader ∷ []), waiting_append t x.state.clients.sessions (record { seq = seq; session = u } ∷ []));
-    routes = λ {x = x} seq r A. omega (arith, split t seq r x.state.clients.sessions, replies_append t x.out (map (λ (a : Asked). sent.Reply a.session r) (filter (λ (a : Asked). eqb a.seq seq) x.state.clients.sessions)));
-    answers = λ {x = x} h r A. let o = origin_of h in omega (arith, replies_append t x.out (answers_to me (epoch_of x.readings) o r), answered (epoch_of x.readings) o r);
+    queues = λ {x = x} c o short A. omega (arith, queued_append t x.state.clients.queue (record { command = c; origin = o } ∷ []));
+    forwards = λ {x = x} c u peon short fits A. omega (arith, replies_append t x.out (message_to me (epoch_of x.readings) (body.Forward x.state.clients.next_seq c) x.state.peon.leader ∷ []), waiting_append t x.state.clients.sessions (record { seq = x.state.clients.next_seq; session = u } ∷ []));
+    routes = λ {x = x} f e seq r C k A. omega (arith, split t seq r x.state.clients.sessions, replies_append t x.out (map (λ (a : Asked). sent.Reply a.session r) (filter (λ (a : Asked). eqb a.seq seq) x.state.clients.sessions)));
+    answers = λ {x = x} h r k A. let o = origin_of h in omega (arith, replies_append t x.out (answers_to me (epoch_of x.readings) o r), answered (epoch_of x.readings) o r);
   }
 
 -- what is replied and held after an event was held or asked before it

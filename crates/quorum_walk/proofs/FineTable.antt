@@ -211,24 +211,24 @@ module _ (me : Me) (now : ℕ) (made : Made) (shared : List Entry) (sharing : Al
     timers = λ ts A. A;
     elector = λ e A. A;
     prober = λ p A. A;
-    peon = λ p A. A;
+    peon = λ p k A. A;
     provider = λ p A. A;
     requester = λ {x = x} q k A. (kept x A.0 A.0.state.found A.0.state.value A.0.state.pn (stood x A.0 q.stage k) A.0.state.queue, A.1);
     leader = λ l A. A;
     finds = λ {x = x} l k A. (kept x A.0 (found_one x A.0 l.found k) A.0.state.value A.0.state.pn A.0.state.stage A.0.state.queue, A.1);
     collects = λ {x = x} q pn short A. (kept x A.0 (pending_fine x.readings.record_of A.0.readings.records x.readings.pending_v x.readings.pending_pn x.readings.last) tt short A.0.state.stage A.0.state.queue, tt);
     forgets = λ {x = x} A. (kept x A.0 A.0.state.found A.0.state.value A.0.state.pn A.0.state.stage tt, A.1);
-    takes_queued = λ {x = x} q qs e A. let W = subst (AllByRecursion WaitingFine) e A.0.state.queue in (kept x A.0 A.0.state.found A.0.state.value A.0.state.pn A.0.state.stage W.1, W.0);
-    takes_forwarded = λ f e seq c C A. (A.0, ((came_fine C).2, (came_fine C).0));
+    takes_queued = λ {x = x} q qs e due A. let W = subst (AllByRecursion WaitingFine) e A.0.state.queue in (kept x A.0 A.0.state.found A.0.state.value A.0.state.pn A.0.state.stage W.1, W.0);
+    takes_forwarded = λ f e seq c C new A. (A.0, ((came_fine C).2, (came_fine C).0));
     takes_found = λ {x = x} A. (kept x A.0 tt A.0.state.value A.0.state.pn A.0.state.stage A.0.state.queue, A.0.state.found);
     takes_value = λ {x = x} value e A. (kept x A.0 A.0.state.found tt A.0.state.pn A.0.state.stage A.0.state.queue, subst (λ (o : Option (List Op)). IfSome o Val) e A.0.state.value);
-    makes_value = λ {x = x} c o ops short e A. (A.0, made x.readings (stored_now A.0) c (asked_of me o) ops A.1.0 (asked_rank o A.1.1) A.0.readings.own.last short e);
+    makes_value = λ {x = x} c o ops short e active A. (A.0, made x.readings (stored_now A.0) c (asked_of me o) ops A.1.0 (asked_rank o A.1.1) A.0.readings.own.last short e);
     proposes_found = λ found A. A;
     drops_found = λ found A. (A.0, tt);
-    queues = λ {x = x} c o A. (kept x A.0 A.0.state.found A.0.state.value A.0.state.pn A.0.state.stage (all_append WaitingFine x.state.clients.queue (record { command = c; origin = o } ∷ []) A.0.state.queue (A.1, tt)), tt);
-    forwards = λ {x = x} seq c u A. (tell_fine me (body.Forward seq c) x.state.peon.leader A.0 A.1.0, tt);
-    routes = λ {x = x} seq r A. (more_sent _ A.0 (all_of (SentOwn me) (λ (a : Asked). sent.Reply a.session r) (λ a. tt) (filter (λ (a : Asked). eqb a.seq seq) x.state.clients.sessions)), tt);
-    answers = λ {x = x} h r A. (more_sent (answers_to me (epoch_of x.readings) (origin_of h) r) A.0 (answers_fine me now w0 (epoch_of x.readings) (origin_of h) r A.0.readings.own.epoch), tt);
+    queues = λ {x = x} c o short A. (kept x A.0 A.0.state.found A.0.state.value A.0.state.pn A.0.state.stage (all_append WaitingFine x.state.clients.queue (record { command = c; origin = o } ∷ []) A.0.state.queue (A.1, tt)), tt);
+    forwards = λ {x = x} c u peon short fits A. (tell_fine me (body.Forward x.state.clients.next_seq c) x.state.peon.leader A.0 A.1.0, tt);
+    routes = λ {x = x} f e seq r C k A. (more_sent _ A.0 (all_of (SentOwn me) (λ (a : Asked). sent.Reply a.session r) (λ a. tt) (filter (λ (a : Asked). eqb a.seq seq) x.state.clients.sessions)), tt);
+    answers = λ {x = x} h r k A. (more_sent (answers_to me (epoch_of x.readings) (origin_of h) r) A.0 (answers_fine me now w0 (epoch_of x.readings) (origin_of h) r A.0.readings.own.epoch), tt);
   }
 
   -- what holds when it is over, and how often the monitor was started then

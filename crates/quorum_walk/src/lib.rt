@@ -1,3 +1,3 @@
-//! How proofs walk through each row of the protocol, and what holds of a row whatever happened before. It passes on
-//! only values of commands, its numbers fit, and what its course says is what its transaction writes.
+//! What holds of each event of a monitor, whatever happened before: it passes on only values of commands, its numbers
+//! fit, and what its course says is what its transaction writes.
 #![tactic(auto)]

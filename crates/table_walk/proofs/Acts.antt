@@ -1,15 +1,16 @@
--- The acts, walked once.
+-- The acts of which the table's rows are made, walked once: what a law shows of each step holds of each act.
 use Rattle.election_rules.specs.Ranking.{allows}
 use Rattle.mon_bytes.specs.declared.entry.Entry.{Entry}
 use Rattle.mon_lease.specs.Lease as lease
 use Rattle.mon_msg.specs.Protocol.Changes.{Change, Epoch, Last, Numbers}
 use Rattle.mon_msg.specs.Protocol.Collecting.{begin_found, catch_up, collect, collect_with, commits_to, commits_with, missed, reign, settle}
 use Rattle.mon_msg.specs.Protocol.Course.{Course, arm, change_all, disarm, leads_in}
-use Rattle.mon_msg.specs.Protocol.Elections.{follow}
+use Rattle.mon_msg.specs.Protocol.Elections.{follow, is_allowed, is_whole}
 use Rattle.mon_msg.specs.Protocol.Entering.{adopt, bootstrap, elect, in_next_epoch, in_odd_epoch, is_even, next_even, own_table, win}
+use Rattle.mon_msg.specs.Protocol.Leader.{all_accepted, all_answered, of_member}
 use Rattle.mon_msg.specs.Protocol.Leading.{be_active, begin, begin_alone, commit, extend, is_alone}
 use Rattle.mon_msg.specs.Protocol.Learning.{learn}
-use Rattle.mon_msg.specs.Protocol.Phases.{phase_of}
+use Rattle.mon_msg.specs.Protocol.Phases.{phase_of, same_phase, votes}
 use Rattle.mon_msg.specs.Protocol.Readings.{Readings, epoch_of, or_zero, promise_of}
 use Rattle.mon_msg.specs.Protocol.Sending.{members, message_to, others, send, send_each}
 use Rattle.mon_msg.specs.Protocol.Sets.{only}
@@ -25,34 +26,72 @@ use Rattle.mon_msg.specs.declared.plan.Origin.{Origin}
 use Rattle.mon_msg.specs.declared.view.Me.{Me}
 use Rattle.mon_tx.specs.declared.op.Op.{Op}
 use Rattle.mon_types.specs.Proposal.{next_number}
-use Rattle.mon_types.specs.Ranks.{no_ranks}
+use Rattle.mon_types.specs.Ranks.{is_majority, no_ranks}
 use Rattle.mon_types.specs.declared.names.Which.TheVariants as which
 use Rattle.mon_types.specs.declared.names.Which.{Which}
 use Rattle.mon_wire.specs.declared.body.Body.TheVariants as body
 use Rattle.mon_wire.specs.declared.body.Body.{Body}
+use Rattle.mon_wire.specs.declared.parts.Told.{Told}
 use Rattle.mon_wire.specs.declared.phase.Phase.TheVariants as phase
 use Rattle.mon_wire.specs.declared.phase.Timer.TheVariants as timer
 use Rattle.mon_wire.specs.declared.phase.Timer.{Timer}
 use Rattle.mon_wire.specs.declared.reply.Reply.TheVariants as reply
-use Rattle.table_walk.proofs.Learning.{Same, learns}
-use Rattle.table_walk.proofs.Lists.{all_flat_map, all_of}
-use Rattle.table_walk.proofs.Walk.{Then, and_then, both_then, by_test, done, where_fits}
-use Rattle.std.proofs.Common.{Bool, Err, List, None, Ok, Option, Result, Some, [], ap, append-nil, arith, eqb, false, inl, inr, length, ltb, map, max, not, refl, slice_index_or, subst, suc, sym, true, ℕ, ◌&&◌, ◌+◌, ◌-◌, ◌∙◌, ◌∷◌, ◌≡◌}
+use Rattle.std.proofs.Common.{Bool, Err, List, None, Ok, Option, Result, Some, [], ap, append-nil, arith, eqb, false, inl, inr, length, ltb, map, max, not, refl, slice_index_or, subst, suc, sym, true, ℕ, ◌&&◌, ◌+◌, ◌-◌, ◌||◌, ◌∙◌, ◌∷◌, ◌≡◌}
 use Rattle.std.proofs.lemmas.Bool.{cond_both}
 use Rattle.std.specs.List.{AllByRecursion, flat_map}
-use Rattle.table_walk.proofs.Steps.{Steps, InHand, FoundOf, HeardFrom, ValueOf, MayEnter, MayLearn, MaySend, MaySay, Nothing, accepted_by_all, alone, counted, heard}
+use Rattle.table_walk.proofs.Learning.{Same, learns}
+use Rattle.table_walk.proofs.Lists.{all_flat_map, all_of}
+use Rattle.table_walk.proofs.Steps.{FoundOf, HeardFrom, InHand, MayEnter, MayLearn, MaySay, MaySend, Nothing, Steps, ValueOf, accepted_by_all, alone, counted, heard, learned_value}
+use Rattle.table_walk.proofs.Walk.{Then, and_then, both_then, by_test, done, where_fits}
+
+-- ---- reasons
+
+-- the input is a LAST
+pub record HeardLast (came : Input) : Type 0 where
+  pub sender : ℕ
+  pub epoch : ℕ
+  pub pn : ℕ
+  pub first : ℕ
+  pub last : ℕ
+  pub whole : Bool
+  pub from : ℕ
+  pub values : List (List Op)
+  pub told : Option Told
+  pub said : HeardFrom came sender epoch (body.Last pn first last whole from values told)
+
+-- A leader settles when each member of its quorum answered, the sender as the last one.
+pub record MaySettle (me : Me) (came : Input) (x : Course) : Type 0 where
+  pub heard : HeardLast came
+  pub all : all_answered me x ≡ true
+
+-- A leader commits a value when each member of its quorum accepted it, the sender as the last one.
+pub record MayCommit (me : Me) (came : Input) (x : Course) : Type 0 where
+  pub sender : ℕ
+  pub epoch : ℕ
+  pub pn : ℕ
+  pub v : ℕ
+  pub said : HeardFrom came sender epoch (body.Accept pn v)
+  pub tested : (of_member (phase.Previous ∷ phase.Updating ∷ []) sender epoch x && eqb pn x.state.leader.pn && eqb v (suc x.readings.last)) ≡ true
+  pub all : all_accepted me x ≡ true
+
+-- A candidate wins when all whom it may lead acknowledged it, or when the election is over and a majority did.
+pub data MayWin (me : Me) (x : Course) (q : List Bool) : Type 0 where
+  acked_by_all : (e : ℕ) → (not (votes x.state.phase) || is_even e || ltb e (epoch_of x.readings)) ≡ false → ltb (epoch_of x.readings) e ≡ false → x.state.elector.candidate ≡ true → (is_whole me q && is_allowed me me.member.rank) ≡ true → MayWin me x q
+  acked_by_most : same_phase x.state.phase phase.Electing ≡ true → (x.state.elector.candidate && is_allowed me me.member.rank && is_majority me.member.monitors q) ≡ true → MayWin me x q
+
+-- ---- acts
 
 -- What a law shows of each act. From what it shows of the small steps all of these follow (`acts_of`); a law that fails between two steps of an act shows it of that act itself.
 pub record Acts (me : Me) (now : ℕ) (shared : List Entry) (w : Readings) (s : State) (came : Input) (P : InHand → Course → Type 0) (Q : Course → Type 0) : Type 0 where
   pub learned : {h : InHand} {x : Course} (v : ℕ) (values : List (List Op)) → MayLearn came x h values → P h x → Then (P h) (learn v values x)
   pub extends : {x : Course} → P Nothing x → P Nothing (extend me now x)
-  pub commits : {x : Course} (value : List Op) → x.state.leader.value ≡ Some value → P Nothing x → Then Q (commit me now value x)
+  pub commits : {x : Course} (value : List Op) → x.state.leader.value ≡ Some value → MayCommit me came x → P Nothing x → Then Q (commit me now value x)
   pub begins : {x : Course} (z : LeaderStage) (value : List Op) (o : Option Origin) → P (ValueOf value o) x → Then Q (begin me now z value o x)
-  pub settles : {x : Course} → P Nothing x → Then Q (settle me now x)
-  pub collects : {x : Course} (q : List Bool) (above : ℕ) → P Nothing x → Then Q (collect me now q above x)
+  pub settles : {x : Course} → MaySettle me came x → P Nothing x → Then Q (settle me now x)
+  pub collects : {x : Course} (q : List Bool) (above : ℕ) → HeardLast came → P Nothing x → Then Q (collect me now q above x)
   pub bootstraps : {x : Course} → P Nothing x → Then Q (bootstrap me now x)
   pub elects : {x : Course} → P Nothing x → Then Q (elect me now x)
-  pub wins : {x : Course} (q : List Bool) → P Nothing x → Then Q (win me now q x)
+  pub wins : {x : Course} (q : List Bool) → MayWin me x q → P Nothing x → Then Q (win me now q x)
   pub adopts : {x : Course} (e : ℕ) → MayEnter came e → P Nothing x → P Nothing (adopt now e x)
   pub follows : {x : Course} (f e : ℕ) (q : List Bool) → HeardFrom came f e (body.Victory q) → P Nothing x → P Nothing (follow now f e q x)
   pub recent_syncs : {x : Course} (f : ℕ) → P Nothing x → P Nothing (recent_sync me now f x)
@@ -105,7 +144,7 @@ module _ {me : Me} {now : ℕ} {shared : List Entry} {w : Readings} {s : State} 
       (both_then (P Nothing) (λ y. y.state ≡ x.state) (learn (suc x.readings.last) (value ∷ []) x) (learned (suc x.readings.last) (value ∷ []) (accepted_by_all e) A) (same (learn (suc x.readings.last) (value ∷ []) x) (learns (suc x.readings.last) (value ∷ []) x))) (λ y B.
       let o = y.state.leader.origin in
       let C = sends_to (members me y.state.leader.quorum) (body.Commit (suc x.readings.last) (value ∷ [])) (inl (value, o, refl, refl)) (b.takes_value value (ap (λ (z : State). z.leader.value) B.1 ∙ e) (disarms timer.Accept B.0)) in
-      ends (b.answers (ValueOf value o) (reply.Done (suc x.readings.last)) (active C)))
+      ends (b.answers (ValueOf value o) (reply.Done (suc x.readings.last)) (learned_value (suc x.readings.last)) (active C)))
     where
       same : (r : Result Course Which) → Then (Same x) r → Then (λ y. y.state ≡ x.state) r
       same (Ok y) k = done k.holds.state
@@ -114,7 +153,7 @@ module _ {me : Me} {now : ℕ} {shared : List Entry} {w : Readings} {s : State} 
   pub begins : {x : Course} (z : LeaderStage) (value : List Op) (o : Option Origin) → P (ValueOf value o) x → Then Q (begin me now z value o x)
   unfolding begin begin_alone
   begins {x = x} z value o A = let v = suc x.readings.last in where_fits Q which.Version v _ (λ short. by_test (is_alone me x.state.leader.quorum)
-      (λ _. and_then (P (ValueOf value o)) Q (learn v (value ∷ []) x) _ (learned v (value ∷ []) alone A) (λ y B. ends (b.answers (ValueOf value o) (reply.Done v) (leads_at stage.Active B))))
+      (λ _. and_then (P (ValueOf value o)) Q (learn v (value ∷ []) x) _ (learned v (value ∷ []) alone A) (λ y B. ends (b.answers (ValueOf value o) (reply.Done v) (learned_value v) (leads_at stage.Active B))))
       (λ _. done (b.proposes z value o short A)))
 
   begins_found : {x : Course} (found : Option Found) → P (FoundOf found) x → Then Q (begin_found me now found x)
@@ -180,19 +219,19 @@ module _ {me : Me} {now : ℕ} {shared : List Entry} {w : Readings} {s : State} 
   recent_syncs {x = x} f A = arms timer.Sync (sends_one f (body.GetCookieRecent x.readings.last) tt (b.requester (start_requester f false) tt (b.enters phase.Synchronizing A)))
 
   pub follows : {x : Course} (f e : ℕ) (q : List Bool) → HeardFrom came f e (body.Victory q) → P Nothing x → P Nothing (follow now f e q x)
-  follows f e q C A = arms timer.Lease (b.peon (record { leader = f; quorum = q; lease = None }) (b.enters phase.Peon (b.writes (Epoch e) (heard C) A)))
+  follows f e q C A = arms timer.Lease (b.peon (record { leader = f; quorum = q; lease = None }) (λ t. absurd cc) (b.enters phase.Peon (b.writes (Epoch e) (heard C) A)))
 
   pub acts_of : Acts me now shared w s came P Q
   acts_of = record {
     learned = learned;
     extends = extends;
-    commits = commits;
+    commits = λ value e k A. commits value e A;
     begins = begins;
-    settles = settles;
-    collects = collects;
+    settles = λ k A. settles A;
+    collects = λ q above k A. collects q above A;
     bootstraps = bootstraps;
     elects = elects;
-    wins = wins;
+    wins = λ q k A. wins q A;
     adopts = adopts;
     follows = follows;
     recent_syncs = recent_syncs;

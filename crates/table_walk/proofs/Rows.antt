@@ -59,11 +59,11 @@ use Rattle.mon_wire.specs.declared.reply.Reply.{Reply}
 use Rattle.mon_wire.specs.declared.request.Request.TheVariants as request
 use Rattle.mon_wire.specs.declared.request.Request.{Request}
 use Rattle.mon_wire.specs.declared.request.Session.{Session}
-use Rattle.table_walk.proofs.Walk.{Then, and_then, by_test, done, where_fits}
 use Rattle.std.proofs.Common.{Bool, Err, List, None, Ok, Option, Result, Some, [], eqb, false, filter, inl, inr, is_some, leb, length, ltb, not, refl, slice_index_or, slice_set, suc, true, ℕ, ◌&&◌, ◌+◌, ◌-◌, ◌^◌, ◌||◌, ◌∷◌, ◌≡◌, ◌≤◌}
-use Rattle.std.proofs.lemmas.Bool.{cond_both}
-use Rattle.table_walk.proofs.Acts.{Acts, arms, disarms, ends, keeps, sends_one, sends_to}
-use Rattle.table_walk.proofs.Steps.{CommandOf, Steps, InHand, HeardFrom, MayCopy, MayFind, MayLearn, MayReplay, MaySay, Nothing, ReadOf, asked_by, copied_chunk, heard, from_chunk, from_last_chunk, copied_last_chunk, from_commit, from_last, replayed}
+use Rattle.std.proofs.lemmas.Bool.{and_parts, cond_both}
+use Rattle.table_walk.proofs.Acts.{Acts, HeardLast, MayCommit, acked_by_all, acked_by_most, arms, disarms, ends, keeps, sends_one, sends_to}
+use Rattle.table_walk.proofs.Steps.{CommandOf, HeardFrom, InHand, MayAnswer, MayCopy, MayFind, MayLearn, MayReplay, MaySay, Nothing, ReadOf, Steps, asked_by, busy, copied_chunk, copied_last_chunk, from_chunk, from_commit, from_last, from_last_chunk, heard, not_readable, refused, replayed, shows_map, shows_since, too_much, unavailable}
+use Rattle.table_walk.proofs.Walk.{Then, and_then, and_three, by_test, done, where_fits}
 
 unnot : (t : Bool) → not t ≡ false → t ≡ true
 unnot true e = refl
@@ -115,15 +115,15 @@ module _ {me : Me} {now : ℕ} {shared : List Entry} {w : Readings} {s : State} 
   acked {x = x} f e C A =
       let by = with_rank x.state.elector.acked f in
       let B = b.elector (record x.state.elector { acked = by }) A in
-      by_test (not (votes x.state.phase) || is_even e || ltb e (epoch_of x.readings)) (λ _. ends b A) (λ _.
-      by_test (ltb (epoch_of x.readings) e) (λ _. a.elects (a.adopts e (heard C) A)) (λ _.
-      by_test x.state.elector.candidate (λ _. by_test (is_whole me by && is_allowed me me.member.rank) (λ _. a.wins by B) (λ _. ends b B)) (λ _. ends b A)))
+      by_test (not (votes x.state.phase) || is_even e || ltb e (epoch_of x.readings)) (λ _. ends b A) (λ now.
+      by_test (ltb (epoch_of x.readings) e) (λ _. a.elects (a.adopts e (heard C) A)) (λ low.
+      by_test x.state.elector.candidate (λ candidate. by_test (is_whole me by && is_allowed me me.member.rank) (λ whole. a.wins by (acked_by_all e now low candidate whole) B) (λ _. ends b B)) (λ _. ends b A)))
 
   pub election_over : {x : Course} → P Nothing x → Then Q (election_ends me now x)
   unfolding election_ends
   election_over {x = x} A =
-      by_test (not (same_phase x.state.phase phase.Electing)) (λ _. ends b A) (λ _.
-      by_test (x.state.elector.candidate && is_allowed me me.member.rank && is_majority me.member.monitors x.state.elector.acked) (λ _. a.wins x.state.elector.acked A) (λ _. a.elects A))
+      by_test (not (same_phase x.state.phase phase.Electing)) (λ _. ends b A) (λ electing.
+      by_test (x.state.elector.candidate && is_allowed me me.member.rank && is_majority me.member.monitors x.state.elector.acked) (λ most. a.wins x.state.elector.acked (acked_by_most (unnot _ electing) most) A) (λ _. a.elects A))
 
   pub lost : {x : Course} (f e : ℕ) (q : List Bool) → HeardFrom came f e (body.Victory q) → P Nothing x → Then Q (hear_victory me now f e q x)
   unfolding hear_victory
@@ -143,7 +143,7 @@ module _ {me : Me} {now : ℕ} {shared : List Entry} {w : Readings} {s : State} 
       by false = keeps b A
 
   cancels : {x : Course} → P Nothing x → P Nothing (cancel x)
-  cancels {x = x} A = b.peon (record x.state.peon { lease = None }) A
+  cancels {x = x} A = b.peon (record x.state.peon { lease = None }) (λ t. absurd cc) A
 
   pub collected : {x : Course} (f e pn first last : ℕ) → HeardFrom came f e (body.Collect pn first last) → P Nothing x → Then Q (hear_collect me now f e pn first last x)
   unfolding hear_collect
@@ -167,10 +167,10 @@ module _ {me : Me} {now : ℕ} {shared : List Entry} {w : Readings} {s : State} 
       ends_then (Ok y) k = done (b.after k.holds)
       ends_then (Err e) k = record { holds = tt }
 
-  pub leased : {x : Course} (f e last : ℕ) → P Nothing x → Then Q (hear_lease me now f e last x)
+  pub leased : {x : Course} (f e last : ℕ) → HeardFrom came f e (body.Lease last) → P Nothing x → Then Q (hear_lease me now f e last x)
   unfolding hear_lease
-  leased {x = x} f e last A = by_test (not (of_leader f e x) || not (eqb last x.readings.last) || is_some (pending x.readings)) (λ _. ends b A)
-      (λ _. ends b (sends_one b f (body.LeaseAck x.readings.last) tt (arms b timer.Lease (b.peon (record x.state.peon { lease = lease.extended now }) A))))
+  leased {x = x} f e last C A = by_test (not (of_leader f e x) || not (eqb last x.readings.last) || is_some (pending x.readings)) (λ _. ends b A)
+      (λ t. ends b (sends_one b f (body.LeaseAck x.readings.last) tt (arms b timer.Lease (b.peon (record x.state.peon { lease = lease.extended now }) (λ _. record { leader = f; epoch = e; last = last; said = C; tested = t }) A))))
 
   -- ---- leaders
 
@@ -191,25 +191,27 @@ module _ {me : Me} {now : ℕ} {shared : List Entry} {w : Readings} {s : State} 
   unfolding hear_last
   lasts_heard {x = x} f e pn first last whole from values told C A =
       let own = x.readings.last in
+      let H : HeardLast came = record { sender = f; epoch = e; pn = pn; first = first; last = last; whole = whole; from = from; values = values; told = told; said = C } in
       by_test (not (of_member (phase.Collecting ∷ []) f e x)) (λ _. ends b A) (λ _.
-      by_test (ltb x.state.leader.pn pn) (λ _. a.collects x.state.leader.quorum pn A) (λ _.
+      by_test (ltb x.state.leader.pn pn) (λ _. a.collects x.state.leader.quorum pn H A) (λ _.
       by_test (ltb pn x.state.leader.pn) (λ _. ends b A) (λ _.
       by_test (ltb (suc own) first && ltb own last) (λ _. a.bootstraps A) (λ _.
       and_then (P Nothing) Q (learn (news_from own from) (news own from values) x) _ (a.learned (news_from own from) (news own from values) (from_last (suc own - from) C) A) (λ y B.
       by_test whole
-      (λ _. and_then (P Nothing) Q (note f last told y) _ (notes C (counts told) refl B) (λ z D. by_test (all_answered me z) (λ _. a.settles D) (λ _. ends b D)))
-      (λ _. a.collects y.state.leader.quorum 0 B))))))
+      (λ _. and_then (P Nothing) Q (note f last told y) _ (notes C (counts told) refl B) (λ z D. by_test (all_answered me z) (λ all. a.settles (record { heard = H; all = all }) D) (λ _. ends b D)))
+      (λ _. a.collects y.state.leader.quorum 0 H B))))))
 
-  pub accepted : {x : Course} (f e pn v : ℕ) → P Nothing x → Then Q (hear_accept me now f e pn v x)
+  pub accepted : {x : Course} (f e pn v : ℕ) → HeardFrom came f e (body.Accept pn v) → P Nothing x → Then Q (hear_accept me now f e pn v x)
   unfolding hear_accept
-  accepted {x = x} f e pn v A =
-      let B = b.leader (record x.state.leader { accepted = with_rank x.state.leader.accepted f }) A in
+  accepted {x = x} f e pn v C A =
+      let y : Course = leader_is (record x.state.leader { accepted = with_rank x.state.leader.accepted f }) x in
+      let B : P Nothing y = b.leader (record x.state.leader { accepted = with_rank x.state.leader.accepted f }) A in
       by_test (not (of_member (phase.Previous ∷ phase.Updating ∷ []) f e x && eqb pn x.state.leader.pn && eqb v (suc x.readings.last))) (λ _. ends b A)
-      (λ _. by_test (all_accepted me (leader_is (record x.state.leader { accepted = with_rank x.state.leader.accepted f }) x)) (λ _. any x.state.leader.value refl B) (λ _. ends b B))
+      (λ t. by_test (all_accepted me y) (λ all. any x.state.leader.value refl (record { sender = f; epoch = e; pn = pn; v = v; said = C; tested = unnot _ t; all = all }) B) (λ _. ends b B))
     where
-      any : {y : Course} (value : Option (List Op)) → y.state.leader.value ≡ value → P Nothing y → Then Q (commit_any me now value y)
-      any None e A = ends b A
-      any (Some value) e A = a.commits value e A
+      any : {y : Course} (value : Option (List Op)) → y.state.leader.value ≡ value → MayCommit me came y → P Nothing y → Then Q (commit_any me now value y)
+      any None e k A = ends b A
+      any (Some value) e k A = a.commits value e k A
 
   pub lease_acked : {x : Course} (f e last : ℕ) → P Nothing x → Then Q (hear_lease_ack me f e last x)
   unfolding hear_lease_ack
@@ -222,60 +224,60 @@ module _ {me : Me} {now : ℕ} {shared : List Entry} {w : Readings} {s : State} 
 
   -- ---- clients
 
-  proposes : {x : Course} (c : Command) (o : Origin) → P (CommandOf c o) x → Then Q (propose me now c o x)
+  proposes : {x : Course} (c : Command) (o : Origin) → same_phase x.state.phase phase.Active ≡ true → P (CommandOf c o) x → Then Q (propose me now c o x)
   unfolding propose
-  proposes {x = x} c o A = where_fits Q which.Version (suc (service_last x.readings (service_of c))) _ (λ short. by short (value x.readings c (asked_of me o)) refl)
+  proposes {x = x} c o active A = where_fits Q which.Version (suc (service_last x.readings (service_of c))) _ (λ short. by short (value x.readings c (asked_of me o)) refl)
     where
       by : suc (service_last x.readings (service_of c)) ≤ 2 ^ 62 → (r : Result (List Op) CommandRefused) → value x.readings c (asked_of me o) ≡ r → Then Q (begin_made me now o r x)
-      by short (Ok ops) e = a.begins stage.Updating ops (Some o) (b.makes_value c o ops short e A)
-      by short (Err y) e = ends b (b.timers _ (b.answers (CommandOf c o) (refusal y) A))
+      by short (Ok ops) e = a.begins stage.Updating ops (Some o) (b.makes_value c o ops short e active A)
+      by short (Err y) e = ends b (b.timers _ (b.answers (CommandOf c o) (refusal y) (refused y active short e) A))
 
   leader_asked : {x : Course} (c : Command) (o : Origin) → P (CommandOf c o) x → Then Q (at_leader me now c o x)
   leader_asked {x = x} c o A =
-      by_test (is_too_long c) (λ _. ends b (b.answers (CommandOf c o) (too_long c) A)) (λ _.
-      by_test (may_propose me now x && not (has_queue x)) (λ _. proposes c o A) (λ _.
-      by_test (leb MOST_WAITING (length x.state.clients.queue)) (λ _. ends b (b.answers (CommandOf c o) (reply.Busy MOST_WAITING) A)) (λ _. ends b (b.queues c o A))))
+      by_test (is_too_long c) (λ t. ends b (b.answers (CommandOf c o) (too_long c) (too_much t) A)) (λ short.
+      by_test (may_propose me now x && not (has_queue x)) (λ t. proposes c o (and_three (same_phase x.state.phase phase.Active) (is_standing me now x.state) (not (has_queue x)) t).0 A) (λ _.
+      by_test (leb MOST_WAITING (length x.state.clients.queue)) (λ _. ends b (b.answers (CommandOf c o) (reply.Busy MOST_WAITING) busy A)) (λ _. ends b (b.queues c o short A))))
 
-  peon_asked : {x : Course} (c : Command) (u : Session) → P (CommandOf c (origin.Session u)) x → Then Q (at_peon me c u x)
-  peon_asked {x = x} c u A = let h = CommandOf c (origin.Session u) in
-      by_test (is_too_long c) (λ _. ends b (b.answers h (too_long c) A)) (λ _.
-      by_test (leb MOST_WAITING (length x.state.clients.sessions)) (λ _. ends b (b.answers h (reply.Busy MOST_WAITING) A))
-      (λ _. where_fits Q which.Seq x.state.clients.next_seq _ (λ _. ends b (b.forwards x.state.clients.next_seq c u A))))
+  peon_asked : {x : Course} (c : Command) (u : Session) → is_peon x.state.phase ≡ true → P (CommandOf c (origin.Session u)) x → Then Q (at_peon me c u x)
+  peon_asked {x = x} c u peon A = let h = CommandOf c (origin.Session u) in
+      by_test (is_too_long c) (λ t. ends b (b.answers h (too_long c) (too_much t) A)) (λ short.
+      by_test (leb MOST_WAITING (length x.state.clients.sessions)) (λ _. ends b (b.answers h (reply.Busy MOST_WAITING) busy A))
+      (λ _. where_fits Q which.Seq x.state.clients.next_seq _ (λ fits. ends b (b.forwards c u peon short fits A))))
 
   asks : {x : Course} (c : Command) (u : Session) → P (CommandOf c (origin.Session u)) x → Then Q (ask me now u c x)
   unfolding ask
-  asks {x = x} c u A = by_test (is_leading x.state.phase) (λ _. leader_asked c (origin.Session u) A) (λ _. by_test (is_peon x.state.phase) (λ _. peon_asked c u A) (λ _. ends b (b.answers (CommandOf c (origin.Session u)) reply.Unavailable A)))
+  asks {x = x} c u A = by_test (is_leading x.state.phase) (λ _. leader_asked c (origin.Session u) A) (λ _. by_test (is_peon x.state.phase) (λ peon. peon_asked c u peon A) (λ _. ends b (b.answers (CommandOf c (origin.Session u)) reply.Unavailable unavailable A)))
 
   pub forwarded : {x : Course} (f e seq : ℕ) (c : Command) → HeardFrom came f e (body.Forward seq c) → P Nothing x → Then Q (hear_forward me now f e seq c x)
   unfolding hear_forward
   forwarded {x = x} f e seq c C A =
       by_test (not (of_member (phase.Collecting ∷ phase.Previous ∷ phase.Active ∷ phase.Updating ∷ []) f e x && ltb (slice_index_or x.state.clients.taken f 0) seq)) (λ _. ends b A)
-      (λ _. leader_asked c (origin.Forwarded f seq) (b.takes_forwarded f e seq c C A))
+      (λ t. leader_asked c (origin.Forwarded f seq) (b.takes_forwarded f e seq c C (unnot _ t) A))
 
-  pub routed : {x : Course} (f e seq : ℕ) (r : Reply) → P Nothing x → Then Q (hear_route f e seq r x)
+  pub routed : {x : Course} (f e seq : ℕ) (r : Reply) → HeardFrom came f e (body.Route seq r) → P Nothing x → Then Q (hear_route f e seq r x)
   unfolding hear_route
-  routed {x = x} f e seq r A = by_test (not (of_leader f e x)) (λ _. ends b A) (λ _. ends b (b.routes seq r A))
+  routed {x = x} f e seq r C A = by_test (not (of_leader f e x)) (λ _. ends b A) (λ t. ends b (b.routes f e seq r C (unnot _ t) A))
 
   pub due : {x : Course} → P Nothing x → Then Q (propose_due me now x)
   unfolding propose_due propose_next
-  due {x = x} A = by_test (may_propose me now x) (λ _. first x.state.clients.queue refl) (λ _. ends b A)
+  due {x = x} A = by_test (may_propose me now x) (λ t. first t x.state.clients.queue refl) (λ _. ends b A)
     where
-      first : (qs : List Waiting) → x.state.clients.queue ≡ qs → Then Q (propose_first me now qs x)
-      first [] e = ends b A
-      first (q ∷ qs) e = proposes q.command q.origin (b.takes_queued q qs e A)
+      first : may_propose me now x ≡ true → (qs : List Waiting) → x.state.clients.queue ≡ qs → Then Q (propose_first me now qs x)
+      first t [] e = ends b A
+      first t (q ∷ qs) e = proposes q.command q.origin (and_parts (same_phase x.state.phase phase.Active) (is_standing me now x.state) t).0 (b.takes_queued q qs e t A)
 
-  reads : {x : Course} (u : Session) (reading : Readings → Reply) → P (ReadOf u) x → Then Q (read me now u reading x)
-  reads {x = x} u reading A =
-      by_test (not (is_member x.state.phase)) (λ _. ends b (b.answers (ReadOf u) reply.Unavailable A)) (λ _.
-      by_test (not (readable x.readings.last me.member.monitors (lease_of x.state) now)) (λ _. ends b (b.answers (ReadOf u) (reply.NotReadable x.readings.last (is_standing me now x.state)) A)) (λ _. ends b (b.answers (ReadOf u) (reading x.readings) A)))
+  reads : {x : Course} (u : Session) (reading : Readings → Reply) → (readable x.readings.last me.member.monitors (lease_of x.state) now ≡ true → MayAnswer me now x (ReadOf u) (reading x.readings)) → P (ReadOf u) x → Then Q (read me now u reading x)
+  reads {x = x} u reading k A =
+      by_test (not (is_member x.state.phase)) (λ _. ends b (b.answers (ReadOf u) reply.Unavailable unavailable A)) (λ _.
+      by_test (not (readable x.readings.last me.member.monitors (lease_of x.state) now)) (λ _. ends b (b.answers (ReadOf u) (reply.NotReadable x.readings.last (is_standing me now x.state)) not_readable A)) (λ t. ends b (b.answers (ReadOf u) (reading x.readings) (k (unnot _ t)) A)))
 
   pub client_asked : {x : Course} (u : Session) (r : Request) → P (asked_by r u) x → Then Q (hear_client me now u r x)
   unfolding hear_client
   client_asked u (request.Set key value) A = asks (command.Set key value) u A
   client_asked u (request.Remove key) A = asks (command.Remove key) u A
   client_asked u (request.Log text) A = asks (command.Log text) u A
-  client_asked u (request.Show v) A = reads u (λ z. shown z v) A
-  client_asked u (request.Since v n) A = reads u (λ z. since z v n) A
+  client_asked u (request.Show v) A = reads u (λ z. shown z v) (shows_map v) A
+  client_asked u (request.Since v n) A = reads u (λ z. since z v n) (shows_since v n) A
 
   -- ---- synchronization
 

@@ -2,26 +2,31 @@
 -- each. P is what the law says of the event so far and of what is in hand, and Q what it says of the event at its end.
 use Rattle.mon_bytes.specs.declared.command.Command.TheVariants as command
 use Rattle.mon_bytes.specs.declared.command.Command.{Command}
+use Rattle.mon_bytes.specs.declared.command.CommandRefused.{CommandRefused}
 use Rattle.mon_bytes.specs.declared.entry.Entry.{Entry}
+use Rattle.mon_lease.specs.Lease.{readable}
 use Rattle.mon_msg.specs.Protocol.Answers.{last_answer}
 use Rattle.mon_msg.specs.Protocol.Changes.{Boot, Change, Epoch, Last, Numbers, Promise, Unmark, Vote}
 use Rattle.mon_msg.specs.Protocol.Chunks.{copy_changes, record_changes}
 use Rattle.mon_msg.specs.Protocol.Collecting.{collector, missed}
-use Rattle.mon_msg.specs.Protocol.Commands.{queue_up, reply_each, wait_under}
+use Rattle.mon_msg.specs.Protocol.Commands.{is_too_long, may_propose, queue_up, reply_each, too_long, wait_under}
 use Rattle.mon_msg.specs.Protocol.Course.{Course, change, change_all, clients_are, elector_is, forget_clients, in_phase, leader_is, peon_is, prober_is, provider_is, requester_is, say, timers_are, ◌▸◌}
 use Rattle.mon_msg.specs.Protocol.Found.{counts}
+use Rattle.mon_msg.specs.Protocol.Leader.{of_member}
 use Rattle.mon_msg.specs.Protocol.Leading.{begin_with}
 use Rattle.mon_msg.specs.Protocol.Learning.{learn_changes}
 use Rattle.mon_msg.specs.Protocol.Peon.{cancel, of_leader}
-use Rattle.mon_msg.specs.Protocol.Phases.{same_phase}
+use Rattle.mon_msg.specs.Protocol.Phases.{is_peon, same_phase}
 use Rattle.mon_msg.specs.Protocol.Places.{is_after}
-use Rattle.mon_msg.specs.Protocol.Proposing.{asked_of}
+use Rattle.mon_msg.specs.Protocol.Proposing.{asked_of, refusal}
 use Rattle.mon_msg.specs.Protocol.Providing.{chunk}
 use Rattle.mon_msg.specs.Protocol.Readings.{Readings, epoch_of, promise_of}
+use Rattle.mon_msg.specs.Protocol.Reads.{is_standing, shown, since}
+use Rattle.mon_msg.specs.Protocol.Records.{pending}
 use Rattle.mon_msg.specs.Protocol.Replay.{step_of}
 use Rattle.mon_msg.specs.Protocol.Sending.{answer_any, send}
 use Rattle.mon_msg.specs.Protocol.Services.{service_last}
-use Rattle.mon_msg.specs.Protocol.State.{State, quorum_of}
+use Rattle.mon_msg.specs.Protocol.State.{State, lease_of, quorum_of}
 use Rattle.mon_msg.specs.Protocol.Synchronizing.{full_sync}
 use Rattle.mon_msg.specs.Protocol.Table.{at_rest}
 use Rattle.mon_msg.specs.Protocol.Value.{service_of, value}
@@ -31,6 +36,7 @@ use Rattle.mon_msg.specs.declared.election.Elector.{Elector}
 use Rattle.mon_msg.specs.declared.election.Prober.{Prober}
 use Rattle.mon_msg.specs.declared.input.Input.TheVariants as input
 use Rattle.mon_msg.specs.declared.input.Input.{Input}
+use Rattle.mon_msg.specs.declared.limits.TheConstants.{MOST_WAITING}
 use Rattle.mon_msg.specs.declared.paxos.Found.{Found}
 use Rattle.mon_msg.specs.declared.paxos.Leader.{Leader}
 use Rattle.mon_msg.specs.declared.paxos.LeaderStage.{LeaderStage}
@@ -53,12 +59,18 @@ use Rattle.mon_wire.specs.declared.parts.Place.{Place}
 use Rattle.mon_wire.specs.declared.parts.Told.{Told}
 use Rattle.mon_wire.specs.declared.phase.Phase.TheVariants as phase
 use Rattle.mon_wire.specs.declared.phase.Phase.{Phase}
+use Rattle.mon_wire.specs.declared.reply.Reply.TheVariants as reply
 use Rattle.mon_wire.specs.declared.reply.Reply.{Reply}
 use Rattle.mon_wire.specs.declared.request.Request.TheVariants as request
 use Rattle.mon_wire.specs.declared.request.Request.{Request}
+use Rattle.mon_wire.specs.declared.request.Service.{Service}
 use Rattle.mon_wire.specs.declared.request.Session.{Session}
-use Rattle.std.proofs.Common.{Bool, List, None, Ok, Option, Some, [], drop, eqb, false, filter, not, slice_set, suc, true, ℕ, ◌&&◌, ◌-◌, ◌<◌, ◌^◌, ◌∷◌, ◌≡◌, ◌≤◌, ◌⊎◌}
+use Rattle.std.proofs.Common.{Bool, Err, List, None, Ok, Option, Some, [], drop, eqb, false, filter, is_some, ltb, not, slice_index_or, slice_set, suc, true, ℕ, ◌&&◌, ◌-◌, ◌<◌, ◌^◌, ◌||◌, ◌∷◌, ◌≡◌, ◌≤◌, ◌⊎◌}
 use Rattle.std.specs.List.{AllByRecursion}
+
+-- a monitor that leads, in each of its phases
+abbrev pub leading : List Phase
+leading = phase.Collecting ∷ phase.Previous ∷ phase.Active ∷ phase.Updating ∷ []
 
 -- ---- in hand
 
@@ -176,6 +188,28 @@ abbrev pub MayFind : Input → Course → Option Found → Type 0
 MayFind came x None = Unit {0}
 MayFind came x (Some found) = (x.state.leader.found ≡ Some found) ⊎ ((f : ℕ) × (e : ℕ) × (pn : ℕ) × (first : ℕ) × (last : ℕ) × (whole : Bool) × (from : ℕ) × (values : List (List Op)) × (told : Option Told) × (t : Told) × HeardFrom came f e (body.Last pn first last whole from values told) × (counts told ≡ Some t) × (found.value ≡ t.value))
 
+-- A peon has a lease after a LEASE with its own last version, of its leader.
+pub record MayHold (came : Input) (x : Course) : Type 0 where
+  pub leader : ℕ
+  pub epoch : ℕ
+  pub last : ℕ
+  pub said : HeardFrom came leader epoch (body.Lease last)
+  pub tested : (not (of_leader leader epoch x) || not (eqb last x.readings.last) || is_some (pending x.readings)) ≡ false
+
+-- Why something in hand is answered so.
+pub data MayAnswer (me : Me) (now : ℕ) (x : Course) : InHand → Reply → Type 0 where
+  -- it hasn't started, or is in no quorum
+  unavailable : {h : InHand} → MayAnswer me now x h reply.Unavailable
+  too_much : {c : Command} {o : Origin} → is_too_long c ≡ true → MayAnswer me now x (CommandOf c o) (too_long c)
+  busy : {c : Command} {o : Origin} → MayAnswer me now x (CommandOf c o) (reply.Busy MOST_WAITING)
+  -- the service refuses it over what an active leader's store has
+  refused : {c : Command} {o : Origin} (e : CommandRefused) → same_phase x.state.phase phase.Active ≡ true → suc (service_last x.readings (service_of c)) ≤ 2 ^ 62 → value x.readings c (asked_of me o) ≡ Err e → MayAnswer me now x (CommandOf c o) (refusal e)
+  not_readable : {u : Session} → MayAnswer me now x (ReadOf u) (reply.NotReadable x.readings.last (is_standing me now x.state))
+  shows_map : {u : Session} (v : Service) → readable x.readings.last me.member.monitors (lease_of x.state) now ≡ true → MayAnswer me now x (ReadOf u) (shown x.readings v)
+  shows_since : {u : Session} (v : Service) (n : ℕ) → readable x.readings.last me.member.monitors (lease_of x.state) now ≡ true → MayAnswer me now x (ReadOf u) (since x.readings v n)
+  -- it is learned
+  learned_value : {value : List Op} {o : Option Origin} (v : ℕ) → MayAnswer me now x (ValueOf value o) (reply.Done v)
+
 -- ---- steps
 
 -- What a law proves of each step: P holds after it if P held before it, and Q holds at the end.
@@ -202,7 +236,7 @@ pub record Steps (me : Me) (now : ℕ) (shared : List Entry) (w : Readings) (s :
   pub timers : {h : InHand} {x : Course} (ts : List (Option ℕ)) → P h x → P h (timers_are ts x)
   pub elector : {h : InHand} {x : Course} (e : Elector) → P h x → P h (elector_is e x)
   pub prober : {h : InHand} {x : Course} (p : Prober) → P h x → P h (prober_is p x)
-  pub peon : {h : InHand} {x : Course} (p : Peon) → P h x → P h (peon_is p x)
+  pub peon : {h : InHand} {x : Course} (p : Peon) → (is_some p.lease ≡ true → MayHold came x) → P h x → P h (peon_is p x)
   pub provider : {h : InHand} {x : Course} (p : Provider) → P h x → P h (provider_is p x)
   pub requester : {h : InHand} {x : Course} (q : Requester) → MayReplay came x q.stage → P h x → P h (requester_is q x)
   -- Of a leader: all but its number, its value and who waits for it; the value that it found; and all, when it collects.
@@ -212,15 +246,15 @@ pub record Steps (me : Me) (now : ℕ) (shared : List Entry) (w : Readings) (s :
   -- all requests are forgotten
   pub forgets : {h : InHand} {x : Course} → P h x → P h (forget_clients x)
   -- taken in hand: the first command of the queue, that of a FORWARD, and a leader's values
-  pub takes_queued : {x : Course} (q : Waiting) (qs : List Waiting) → x.state.clients.queue ≡ q ∷ qs → P Nothing x → P (CommandOf q.command q.origin) (clients_are (record x.state.clients { queue = qs }) x)
-  pub takes_forwarded : {x : Course} (f e seq : ℕ) (c : Command) → HeardFrom came f e (body.Forward seq c) → P Nothing x → P (CommandOf c (origin.Forwarded f seq)) (clients_are (record x.state.clients { taken = slice_set x.state.clients.taken f seq }) x)
+  pub takes_queued : {x : Course} (q : Waiting) (qs : List Waiting) → x.state.clients.queue ≡ q ∷ qs → may_propose me now x ≡ true → P Nothing x → P (CommandOf q.command q.origin) (clients_are (record x.state.clients { queue = qs }) x)
+  pub takes_forwarded : {x : Course} (f e seq : ℕ) (c : Command) → HeardFrom came f e (body.Forward seq c) → (of_member leading f e x && ltb (slice_index_or x.state.clients.taken f 0) seq) ≡ true → P Nothing x → P (CommandOf c (origin.Forwarded f seq)) (clients_are (record x.state.clients { taken = slice_set x.state.clients.taken f seq }) x)
   pub takes_found : {x : Course} → P Nothing x → P (FoundOf x.state.leader.found) (leader_is (record x.state.leader { found = None }) x)
   pub takes_value : {x : Course} (value : List Op) → x.state.leader.value ≡ Some value → P Nothing x → P (ValueOf value x.state.leader.origin) (leader_is (record x.state.leader { value = None; origin = None }) x)
   -- what becomes of it
-  pub makes_value : {x : Course} (c : Command) (o : Origin) (ops : List Op) → suc (service_last x.readings (service_of c)) ≤ 2 ^ 62 → value x.readings c (asked_of me o) ≡ Ok ops → P (CommandOf c o) x → P (ValueOf ops (Some o)) x
+  pub makes_value : {x : Course} (c : Command) (o : Origin) (ops : List Op) → suc (service_last x.readings (service_of c)) ≤ 2 ^ 62 → value x.readings c (asked_of me o) ≡ Ok ops → same_phase x.state.phase phase.Active ≡ true → P (CommandOf c o) x → P (ValueOf ops (Some o)) x
   pub proposes_found : {x : Course} (found : Found) → P (FoundOf (Some found)) x → P (ValueOf found.value None) x
   pub drops_found : {x : Course} (found : Option Found) → P (FoundOf found) x → P Nothing x
-  pub queues : {x : Course} (c : Command) (o : Origin) → P (CommandOf c o) x → P Nothing (queue_up c o x)
-  pub forwards : {x : Course} (seq : ℕ) (c : Command) (u : Session) → P (CommandOf c (origin.Session u)) x → P Nothing (x ▸ wait_under seq u ▸ send me x.state.peon.leader (body.Forward seq c))
-  pub routes : {x : Course} (seq : ℕ) (r : Reply) → P Nothing x → P Nothing (x ▸ clients_are (record x.state.clients { sessions = filter (λ (a : Asked). not (eqb a.seq seq)) x.state.clients.sessions }) ▸ reply_each (filter (λ (a : Asked). eqb a.seq seq) x.state.clients.sessions) r)
-  pub answers : {x : Course} (h : InHand) (r : Reply) → P h x → P Nothing (answer_any me (origin_of h) r x)
+  pub queues : {x : Course} (c : Command) (o : Origin) → is_too_long c ≡ false → P (CommandOf c o) x → P Nothing (queue_up c o x)
+  pub forwards : {x : Course} (c : Command) (u : Session) → is_peon x.state.phase ≡ true → is_too_long c ≡ false → x.state.clients.next_seq ≤ 2 ^ 62 → P (CommandOf c (origin.Session u)) x → P Nothing (x ▸ wait_under x.state.clients.next_seq u ▸ send me x.state.peon.leader (body.Forward x.state.clients.next_seq c))
+  pub routes : {x : Course} (f e seq : ℕ) (r : Reply) → HeardFrom came f e (body.Route seq r) → of_leader f e x ≡ true → P Nothing x → P Nothing (x ▸ clients_are (record x.state.clients { sessions = filter (λ (a : Asked). not (eqb a.seq seq)) x.state.clients.sessions }) ▸ reply_each (filter (λ (a : Asked). eqb a.seq seq) x.state.clients.sessions) r)
+  pub answers : {x : Course} (h : InHand) (r : Reply) → MayAnswer me now x h r → P h x → P Nothing (answer_any me (origin_of h) r x)

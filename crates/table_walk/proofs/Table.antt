@@ -24,12 +24,12 @@ use Rattle.mon_wire.specs.declared.phase.Timer.{Timer}
 use Rattle.mon_wire.specs.declared.reply.Reply.TheVariants as reply
 use Rattle.mon_wire.specs.declared.request.Request.TheVariants as request
 use Rattle.mon_wire.specs.declared.request.Request.{Request}
-use Rattle.table_walk.proofs.Walk.{Then, by_test, done, where_fits}
 use Rattle.std.proofs.Common.{Bool, List, Ok, arith, false, inl, inr, is_some, leb, ltb, not, refl, suc, true, ℕ, ◌&&◌, ◌+◌, ◌≡◌}
 use Rattle.std.proofs.lemmas.Bool.{and_parts, ltb-true}
 use Rattle.table_walk.proofs.Acts.{Acts, disarms, ends, keeps}
-use Rattle.table_walk.proofs.Steps.{Steps, InHand, LacksVersions, HeardFrom, Nothing, ReadOf, asked_by, brought, counted}
 use Rattle.table_walk.proofs.Rows.{accepted, acked, begin_heard, chunk_asked, chunk_heard, client_asked, collected, committed, cookie_heard, due, election_over, forwarded, full_asked, last_chunk_heard, lasts_heard, lease_acked, leased, lost, no_cookie_heard, ping_answered, pinged, pings, proposed, recent_asked, renewed, routed, steps}
+use Rattle.table_walk.proofs.Steps.{HeardFrom, InHand, LacksVersions, Nothing, ReadOf, Steps, asked_by, brought, counted, unavailable}
+use Rattle.table_walk.proofs.Walk.{Then, by_test, done, where_fits}
 
 module _ {me : Me} {now : ℕ} {shared : List Entry} {w : Readings} {s : State} {came : Input} {P : InHand → Course → Type 0} {Q : Course → Type 0} (b : Steps me now shared w s came P Q) (a : Acts me now shared w s came P Q) where
   -- ---- the two rows of probing
@@ -62,12 +62,12 @@ module _ {me : Me} {now : ℕ} {shared : List Entry} {w : Readings} {s : State} 
   heard_body f e (body.Collect pn first last) C A = collected b a f e pn first last C A
   heard_body f e (body.Last pn first last whole from values told) C A = lasts_heard b a f e pn first last whole from values told C A
   heard_body f e (body.Begin pn v value) C A = begin_heard b a f e pn v value C A
-  heard_body f e (body.Accept pn v) C A = accepted b a f e pn v A
+  heard_body f e (body.Accept pn v) C A = accepted b a f e pn v C A
   heard_body f e (body.Commit from values) C A = committed b a f e from values C A
-  heard_body f e (body.Lease last) C A = leased b a f e last A
+  heard_body f e (body.Lease last) C A = leased b a f e last C A
   heard_body f e (body.LeaseAck last) C A = lease_acked b a f e last A
   heard_body f e (body.Forward seq c) C A = forwarded b a f e seq c C A
-  heard_body f e (body.Route seq r) C A = routed b a f e seq r A
+  heard_body f e (body.Route seq r) C A = routed b a f e seq r C A
   heard_body f e body.GetCookieFull C A = full_asked b a f A
   heard_body f e (body.GetCookieRecent last) C A = recent_asked b a f last A
   heard_body f e (body.Cookie full c last) C A = cookie_heard b a f full c last A
@@ -108,11 +108,11 @@ module _ {me : Me} {now : ℕ} {shared : List Entry} {w : Readings} {s : State} 
   unstarted (input.Client u r) is boots A = by r (A (λ e. cc))
     where
       by : (r : Request) → P (asked_by r u) (at_rest w s) → Then Q (Ok (reply_to u reply.Unavailable (at_rest w s)))
-      by (request.Set key value) A = ends b (b.answers (asked_by (request.Set key value) u) reply.Unavailable A)
-      by (request.Remove key) A = ends b (b.answers (asked_by (request.Remove key) u) reply.Unavailable A)
-      by (request.Log text) A = ends b (b.answers (asked_by (request.Log text) u) reply.Unavailable A)
-      by (request.Show v) A = ends b (b.answers (ReadOf u) reply.Unavailable A)
-      by (request.Since v n) A = ends b (b.answers (ReadOf u) reply.Unavailable A)
+      by (request.Set key value) A = ends b (b.answers (asked_by (request.Set key value) u) reply.Unavailable unavailable A)
+      by (request.Remove key) A = ends b (b.answers (asked_by (request.Remove key) u) reply.Unavailable unavailable A)
+      by (request.Log text) A = ends b (b.answers (asked_by (request.Log text) u) reply.Unavailable unavailable A)
+      by (request.Show v) A = ends b (b.answers (ReadOf u) reply.Unavailable unavailable A)
+      by (request.Since v n) A = ends b (b.answers (ReadOf u) reply.Unavailable unavailable A)
 
   runs : (c : Input) → came ≡ c → P (brought c) (at_rest w s) → Then Q (running me shared now c (at_rest w s))
   runs input.Start is A = ends b A
