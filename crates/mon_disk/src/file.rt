@@ -15,17 +15,55 @@ use std::io::{Error, ErrorKind};
 use std::os::unix::fs::{FileExt, MetadataExt, OpenOptionsExt};
 use std::path::Path;
 
+/// A file that gets longer ends at a multiple of this many bytes.
+const ROOM: u64 = 262_144;
+
 /// An open file and its identity: while it is open, no other file has its inode on its device.
 #[derive(Drop)]
 struct OpenedFile<F> {
     file: F,
     device: u64,
     inode: u64,
+    /// Its length when it was opened, or the end of a later write if that is greater.
+    held: u64,
+    /// Its length, with the zeros that were added.
+    end: u64,
+}
+
+impl<F: DeviceFile> OpenedFile<F> {
+    /// Writes. After a write past the end it adds zeros, which the next sync keeps too. The writes after that sync find
+    /// their place in the file, and a sync takes less time if it has no new length to keep.
+    fn write(&mut self, alloc: Global, at: u64, bytes: &[u8], end: u64) -> io::Result<()> {
+        self.file.write_all_at(bytes, at)?;
+        self.held = self.held.max(end);
+        if end > self.end {
+            self.end = end;
+            self.add_room(alloc);
+        }
+        Ok(())
+    }
+
+    /// Adds zeros up to the next multiple of `ROOM`, or fewer if the file system or memory is full. It adds none if the
+    /// file's first byte isn't 1: the first file of a store that isn't begun yet has to be short.
+    fn add_room(&mut self, alloc: Global) {
+        let mut first = [0];
+        if self.file.read_exact_at(&mut first, 0).is_err() || first != [1] {
+            return;
+        }
+        let room = ROOM - self.end % ROOM;
+        if let Ok(zeros) = vec![in alloc; 0; room as usize] {
+            let added = self.file.write_at(zeros.as_slice(), self.end).unwrap_or(0);
+            self.end = self.end.saturating_add(added as u64);
+        }
+    }
 }
 
 /// A disk that is the file of a name. The first call locks the file. A sync fails if, after the system's sync, the name
 /// is gone or names another file. After a failed call each later one fails too: the system may have lost earlier writes
 /// and still report success.
+///
+/// A file whose first byte is 1 may end in zeros after what the disk holds. They aren't counted in `len` until the file
+/// is opened again.
 #[derive(Drop)]
 pub struct FileDisk<R: Files + Copy>
 where
@@ -107,7 +145,7 @@ where
     {
         self.open()?;
         match &self.file {
-            Some(opened) => Ok(opened.file.metadata()?.len()),
+            Some(opened) => Ok(opened.file.metadata()?.len().min(opened.held)),
             None => Err(ErrorKind::NotFound.into()),
         }
     }
@@ -125,14 +163,15 @@ where
         }
     }
 
-    fn put(&mut self, at: u64, bytes: &[u8]) -> io::Result<()>
+    fn put(&mut self, at: u64, bytes: &[u8], end: u64) -> io::Result<()>
         ensures known { self.new.known ≡ self.old.known }
         ensures faults { self.new.faults ≡ self.old.faults }
         ensures given_up { IsTrue (is_some self.old.failure) → IsErr result }
     {
         self.open()?;
-        match &self.file {
-            Some(opened) => opened.file.write_all_at(bytes, at),
+        let alloc = *self.path.allocator();
+        match &mut self.file {
+            Some(opened) => opened.write(alloc, at, bytes, end),
             None => Err(ErrorKind::NotFound.into()),
         }
     }
@@ -175,6 +214,8 @@ where
         file,
         device: found.dev(),
         inode: found.ino(),
+        held: found.len(),
+        end: found.len(),
     })
 }
 
@@ -233,7 +274,7 @@ where
         let Some(end) = at.checked_add(bytes.len() as u64) else {
             return Err(self.fail(ErrorKind::FileTooLarge.into()));
         };
-        match self.put(at, bytes) {
+        match self.put(at, bytes, end) {
             Ok(()) => {
                 self.known = self.known.max(end);
                 Ok(())
