@@ -1,6 +1,6 @@
 //! System calls on a file other than reads, writes and syncs: its lock, and its cached pages.
 
-use std::fs::File;
+use std::fs::{File, TryLockError};
 use std::io;
 use std::io::{Error, ErrorKind};
 use std::os::fd::AsRawFd;
@@ -24,10 +24,13 @@ impl DeviceFile for File {
         } else {
             self
         };
-        if file.try_lock().is_err() {
-            return Err(Error::new(ErrorKind::ResourceBusy, "the file is locked"));
+        match file.try_lock() {
+            Ok(()) => Ok(file),
+            Err(TryLockError::WouldBlock) => {
+                Err(Error::new(ErrorKind::ResourceBusy, "the file is locked"))
+            }
+            Err(TryLockError::Error(said)) => Err(said),
         }
-        Ok(file)
     }
 
     fn forget_pages(&self) -> io::Result<()> {
