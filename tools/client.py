@@ -55,8 +55,8 @@ import time
 from typing import Iterator
 
 import quorum_file
-from wire import (HELLO, LOG, MOST_MESSAGE, MOST_NUMBER, REMOVE, SERVICES, SET, SHOW, SINCE, Assembly, Malformed, Reply, datagrams, greeting, hello_of, key_field,
-                  new_number, number_field, reply_of, request_message, service_field, text_field)
+from wire import (LOG, MOST_MESSAGE, MOST_NUMBER, REMOVE, SERVICES, SET, SHOW, SINCE, Assembly, Malformed, Reply, datagrams, greeting, hello_of, is_hello,
+                  key_field, new_number, number_field, reply_of, request_message, service_field, text_field)
 
 # The name in the usage: that of the call, without the folder of an installed command.
 NAME = os.path.basename(sys.argv[0]) if os.path.isabs(sys.argv[0]) else sys.argv[0]
@@ -247,7 +247,7 @@ class Client:
             except OSError:
                 continue
             try:
-                if peer in self.addresses and datagram[:1] == bytes([HELLO]):
+                if peer in self.addresses and is_hello(datagram):
                     self.sizes[self.addresses.index(peer)] = hello_of(datagram).monitors
                     continue
                 message = self.assembly.take(peer, datagram) if peer in self.addresses else None

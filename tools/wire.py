@@ -19,8 +19,8 @@ SET, REMOVE, LOG, SHOW, SINCE = range(1, 6)
 SERVICES = {'kv': 1, 'log': 2}
 # The most incomplete messages that are kept.
 MOST_PARTIAL = 16
-# The first bytes of a framed datagram and of a hello; the bytes of a frame; and the most bytes of a quorum's name and of a program's version.
-FRAME, HELLO = 3, 4
+# The first bytes of a framed datagram, of a hello and of the answer to one; the bytes of a frame; and the most bytes of a quorum's name and of a program's version.
+FRAME, HELLO, HELLO_ANSWER = 3, 4, 6
 FRAME_HEADER = 9
 MOST_QUORUM_NAME, MOST_VERSION, MOST_MONITORS = 255, 32, 15
 RULES = ['classic', 'disallow', 'connectivity']
@@ -173,9 +173,9 @@ class Hello(NamedTuple):
     rank: int
     addresses: list[tuple[str, int]]
 
-    def encode(self) -> bytes:
+    def encode(self, mark: int = HELLO) -> bytes:
         version = encoded(self.version)
-        head = bytes([HELLO, len(version)]) + version + quorum_field(self.name, self.monitors, self.rule) + bytes([self.rank])
+        head = bytes([mark, len(version)]) + version + quorum_field(self.name, self.monitors, self.rule) + bytes([self.rank])
         return head + b''.join(socket.inet_aton(host) + struct.pack('<H', port) for host, port in self.addresses)
 
 
@@ -195,10 +195,15 @@ def rule_of(reader: Reader) -> str:
     return f'{kind}={ranks}' if ranks else kind
 
 
+def is_hello(datagram: bytes) -> bool:
+    """Whether a datagram begins as a hello or the answer to one does."""
+    return datagram[:1] in (bytes([HELLO]), bytes([HELLO_ANSWER]))
+
+
 def hello_of(datagram: bytes) -> Hello:
-    """The hello that is this datagram. Raises Malformed if it is none."""
+    """The hello that is this datagram, which may be an answer. Raises Malformed if it is none."""
     reader = Reader(datagram)
-    if reader.take(1) != bytes([HELLO]):
+    if not is_hello(reader.take(1)):
         raise Malformed('no hello')
     version, octets = reader.key(), reader.take(reader.unsigned(1))
     name = reader.decoded(octets, 'utf-8')

@@ -3,9 +3,9 @@ use Rattle.std.proofs.Common.{◌≡◌, ℕ, zero, suc, ◌+◌, ◌-◌, ◌<�
 use Rattle.mon_link.specs.Links.{LinkState, count_after}
 use Rattle.mon_link.specs.declared.link.Got.{Got}
 use Rattle.mon_link.specs.declared.link.Outgoing.{Outgoing}
-use Rattle.mon_types.specs.declared.member.Member.{Member}
 use Rattle.mon_types.specs.declared.names.Stop.{Stop}
 use Rattle.mon_types.specs.declared.names.Stop.TheVariants.{Failed, OutOfMemory}
+use Rattle.mon_hello.specs.declared.own.Own.{Own}
 use Rattle.mon_hello.specs.Greets.{AsksOnce, Follows, Passes, Rounds, SendsAll, handed, hellos, round, to_other}
 
 pub sends_then : (xs ys : List Outgoing) (r : Result (Unit {0}) Stop) (a b c : LinkState) → SendsAll xs (Ok tt) a b → SendsAll ys r b c → SendsAll (xs ++ ys) r a c
@@ -74,14 +74,14 @@ counted xs got (Ok u) a b p = faults_stay xs (Ok u) a b p
 counted xs got (Err Failed) a b p = absurd (never_failed xs a b p)
 counted xs got (Err OutOfMemory) a b p = faults_stay xs (Err OutOfMemory) a b p
 
-after_gave : (member : Member) (bytes : List ℕ) (gave result : Result Got Stop) (r after_it : Rounds) (old a b : LinkState) → a.faults ≡ count_after gave old.faults → Passes member bytes gave result r after_it a b → b.faults ≡ count_after result old.faults
-after_gave member bytes (Err e) result r after_it old a b f p =
+after_gave : (own : Own) (gave result : Result Got Stop) (r after_it : Rounds) (old a b : LinkState) → a.faults ≡ count_after gave old.faults → Passes own gave result r after_it a b → b.faults ≡ count_after result old.faults
+after_gave own (Err e) result r after_it old a b f p =
     subst (λ (x : Result Got Stop). b.faults ≡ count_after x old.faults) (sym p.0) (ap (λ (s : LinkState). s.faults) p.2 ∙ f)
-after_gave member bytes (Ok got) result r after_it old a b f (inl g) =
+after_gave own (Ok got) result r after_it old a b f (inl g) =
     subst (λ (x : Result Got Stop). b.faults ≡ count_after x old.faults) (sym g.hands)
-    (counted (hellos member bytes r g.now got) got g.went a b g.sends ∙ ap (count_after (handed got g.went)) f)
-after_gave member bytes (Ok got) result r after_it old a b f (inr n) =
+    (counted (hellos own r g.now got) got g.went a b g.sends ∙ ap (count_after (handed got g.went)) f)
+after_gave own (Ok got) result r after_it old a b f (inr n) =
     subst (λ (x : Result Got Stop). b.faults ≡ count_after x old.faults) (sym n.answer) (ap (λ (s : LinkState). s.faults) n.below ∙ f)
 
-pub faults_after : (member : Member) (bytes : List ℕ) (wait : ℕ) (result : Result Got Stop) (r after_it : Rounds) (old new : LinkState) → AsksOnce member bytes wait result r after_it old new → new.faults ≡ count_after result old.faults
-faults_after member bytes wait result r after_it old new p = after_gave member bytes p.gave result r after_it old p.between new p.asks.faults p.passes
+pub faults_after : (own : Own) (wait : ℕ) (result : Result Got Stop) (r after_it : Rounds) (old new : LinkState) → AsksOnce own wait result r after_it old new → new.faults ≡ count_after result old.faults
+faults_after own wait result r after_it old new p = after_gave own p.gave result r after_it old p.between new p.asks.faults p.passes

@@ -1,6 +1,6 @@
 -- A hello is read from its encoding alone.
-use Rattle.std.proofs.Common.{◌≡◌, ℕ, ltb, eqb, List, [], Ok, refl, sym, ap, ◌∙◌}
-use Rattle.std.proofs.lemmas.Bool.{eqb-true}
+use Rattle.std.proofs.Common.{◌≡◌, ℕ, ltb, eqb, Bool, true, false, IsTrue, List, [], Ok, None, refl, sym, ap, ◌∙◌, arith}
+use Rattle.std.proofs.lemmas.Bool.Decides.{nat_tests}
 use Rattle.std.proofs.lemmas.List.{append-nil}
 use Rattle.mon_bytes.specs.Reading.{IsBytes, Reading}
 use Rattle.mon_bytes.specs.Format.{IsLawful, ◌⊗◌, dependent}
@@ -9,11 +9,14 @@ use Rattle.mon_bytes.specs.Texts.{is_word}
 use Rattle.mon_bytes.proofs.Fields.{ok_is}
 use Rattle.mon_bytes.proofs.Formats.{dependent-lawful, seen_as-lawful, as_parts-lawful}
 use Rattle.mon_bytes.proofs.Forms.{whole_takes, whole_again}
+use Rattle.mon_link.specs.declared.link.Got.TheVariants.{Datagram}
+use Rattle.mon_link.specs.declared.link.Peer.TheVariants.{Client}
 use Rattle.mon_hello.specs.declared.hello.Hello.{Hello}
-use Rattle.mon_hello.specs.declared.hello.TheConstants.{MARK, MOST_VERSION}
+use Rattle.mon_hello.specs.declared.hello.TheConstants.{ANSWER_MARK, MOST_VERSION}
 use Rattle.mon_hello.specs.declared.identity.Identity.{Identity}
 use Rattle.mon_hello.specs.Names.{is_quorum_name}
-use Rattle.mon_hello.specs.Formats.{byte, counted, is_count, a_rule, identity_of, identity_parts, an_identity, mark, members, all_addresses, hello_from, hello_parts, a_hello, hello_of}
+use Rattle.mon_hello.specs.Formats.{byte, counted, is_count, a_rule, identity_of, identity_parts, an_identity, answering, is_mark, mark, mark_of, members, all_addresses, hello_from, hello_parts, a_hello, hello_of}
+use Rattle.mon_hello.specs.Greets.{asker}
 use Rattle.mon_hello.proofs.Fields.{byte-lawful, counted-lawful, rule-lawful, addresses-lawful}
 
 sized-lawful : IsLawful (byte is_count ⊗ a_rule)
@@ -24,10 +27,17 @@ identity_is_lawful =
     as_parts-lawful (counted is_quorum_name ⊗ byte is_count ⊗ a_rule) identity_of identity_parts
     (dependent-lawful (counted is_quorum_name) (λ x. byte is_count ⊗ a_rule) (counted-lawful is_quorum_name) (λ x. sized-lawful)) (λ x. refl) (λ y. refl)
 
+mark_back : (n : ℕ) → IsTrue (is_mark n) → mark_of (eqb n ANSWER_MARK) ≡ n
+mark_back n form = grind (arith, nat_tests)
+
+mark_again : (answers : Bool) → (eqb (mark_of answers) ANSWER_MARK ≡ answers) × IsTrue (is_mark (mark_of answers))
+mark_again true = (refl, refl)
+mark_again false = (refl, refl)
+
 mark-lawful : IsLawful mark
 mark-lawful =
-    seen_as-lawful (byte (λ n. eqb n MARK)) (λ n. tt) (λ u. MARK) (λ u. Unit {0}) (byte-lawful (λ n. eqb n MARK))
-    (λ x form. (sym (eqb-true x MARK form), tt)) (λ y form. (refl, refl))
+    seen_as-lawful (byte is_mark) (λ n. eqb n ANSWER_MARK) mark_of (λ answers. Unit {0}) (byte-lawful is_mark)
+    (λ n form. (mark_back n form, tt)) (λ answers form. mark_again answers)
 
 members-lawful : (n : ℕ) → IsLawful (members n)
 members-lawful n = dependent-lawful (byte (λ rank. ltb rank n)) (λ x. all_addresses n) (byte-lawful (λ rank. ltb rank n)) (λ x. addresses-lawful n)
@@ -49,6 +59,9 @@ hello_is_whole bytes = refl
 
 pub hello_again : (h : Hello) → a_hello.Form h → hello_of (a_hello.text h) ≡ Ok h
 hello_again h form = whole_again a_hello hello_is_lawful h form
+
+pub answer_ends : (h : Hello) (c : ℕ) → a_hello.Form h → asker (Datagram (Client c) (a_hello.text (answering h))) ≡ None
+answer_ends h c form = rw (hello_again (answering h) form) refl
 
 pub hello_only : (bytes : List ℕ) (h : Hello) → IsBytes bytes → hello_of bytes ≡ Ok h → a_hello.Form h × (bytes ≡ a_hello.text h)
 hello_only bytes h fits e = whole_takes a_hello hello_is_lawful bytes h fits e

@@ -1,5 +1,5 @@
 -- How an identity, which names a quorum, and a hello are encoded.
-use Rattle.std.specs.Prelude.{◌≡◌, ℕ, ◌^◌, ◌<◌, Bool, ◌&&◌, List, [], ◌∷◌, ◌++◌, length, take, Result, Ok, Err, IsTrue, nat_lt, nat_le, ◌==◌, if◌then◌else◌}
+use Rattle.std.specs.Prelude.{◌≡◌, ℕ, ◌^◌, ◌<◌, Bool, true, ◌&&◌, ◌||◌, List, [], ◌∷◌, ◌++◌, length, take, Result, Ok, Err, IsTrue, nat_lt, nat_le, ◌==◌, if◌then◌else◌}
 use Rattle.std.specs.List.{flat_map, AllByRecursion}
 use Rattle.byteorder.specs.Endian.{little_number}
 use Rattle.sha2.specs.Sha256.{sha256}
@@ -14,7 +14,7 @@ use Rattle.election_rules.specs.declared.rule.Rule.{Rule}
 use Rattle.election_rules.specs.declared.rule.Rule.TheVariants as rule
 use Rattle.mon_link.specs.declared.udp.Address.{Address}
 use Rattle.mon_hello.specs.declared.hello.Hello.{Hello}
-use Rattle.mon_hello.specs.declared.hello.TheConstants.{MARK, MOST_VERSION}
+use Rattle.mon_hello.specs.declared.hello.TheConstants.{ANSWER_MARK, MARK, MOST_VERSION}
 use Rattle.mon_hello.specs.declared.identity.Identity.{Identity}
 use Rattle.mon_hello.specs.Names.{is_quorum_name}
 
@@ -108,22 +108,32 @@ tag_of i = little_number 8 (take 8 (sha256 (an_identity.text i)))
 
 -- ---- a hello
 
--- the byte 04
-abbrev pub mark : Format MapRefused (Unit {0})
-mark = seen_as (byte (λ n. n == MARK)) (λ n. tt) (λ u. MARK) (λ u. Unit {0})
+-- the byte 06 if it answers another hello, and else 04
+abbrev pub is_mark : ℕ → Bool
+is_mark n = n == MARK || n == ANSWER_MARK
+
+abbrev pub mark_of : (answers : Bool) → ℕ
+mark_of answers = if answers then ANSWER_MARK else MARK
+
+abbrev pub mark : Format MapRefused Bool
+mark = seen_as (byte is_mark) (λ n. n == ANSWER_MARK) mark_of (λ answers. Unit {0})
 
 -- what follows the quorum: the sender's rank, and the addresses of all monitors
 abbrev pub members : ℕ → Format MapRefused (ℕ × List Address)
 members n = byte (λ rank. nat_lt rank n) ⊗ all_addresses n
 
-abbrev pub hello_parts : Hello → Unit {0} × (List ℕ × (Identity × (ℕ × List Address)))
-hello_parts h = (tt, (h.version, (h.identity, (h.rank, h.addresses))))
+abbrev pub hello_parts : Hello → Bool × (List ℕ × (Identity × (ℕ × List Address)))
+hello_parts h = (h.answers, (h.version, (h.identity, (h.rank, h.addresses))))
 
-abbrev pub hello_from : Unit {0} × (List ℕ × (Identity × (ℕ × List Address))) → Hello
-hello_from p = record { version = p.1.0; identity = p.1.1.0; rank = p.1.1.1.0; addresses = p.1.1.1.1 }
+abbrev pub hello_from : Bool × (List ℕ × (Identity × (ℕ × List Address))) → Hello
+hello_from p = record { answers = p.0; version = p.1.0; identity = p.1.1.0; rank = p.1.1.1.0; addresses = p.1.1.1.1 }
 
 abbrev pub a_hello : Format MapRefused Hello
 a_hello = as_parts (mark ⊗ counted (is_word MOST_VERSION) ⊗ dependent an_identity (λ i. members i.monitors)) hello_from hello_parts
+
+-- the same hello, as an answer
+abbrev pub answering : Hello → Hello
+answering h = record h { answers = true }
 
 -- the hello that all of the bytes encode
 abbrev pub hello_of : List ℕ → Result Hello MapRefused

@@ -1,5 +1,6 @@
 -- What a link that greets asks of the link below, and what it hands up.
 use Rattle.std.specs.Prelude.{◌≡◌, ◌⊎◌, ℕ, zero, suc, ◌+◌, nat_le, ◌==◌, Bool, false, List, [], ◌∷◌, ◌++◌, Option, Some, None, IfSome, option_map, Result, Ok, Err, if◌then◌else◌}
+use Rattle.answer_times.specs.Times.{after_asking, is_answered}
 use Rattle.mon_link.specs.Clocks.{Readings, reading, after}
 use Rattle.mon_link.specs.Links.{LinkState, CallsNext, CallsSend}
 use Rattle.mon_link.specs.declared.link.Got.{Got}
@@ -7,19 +8,18 @@ use Rattle.mon_link.specs.declared.link.Got.TheVariants.{Datagram, Idle, Closed}
 use Rattle.mon_link.specs.declared.link.Outgoing.{Outgoing}
 use Rattle.mon_link.specs.declared.link.Peer.{Peer}
 use Rattle.mon_link.specs.declared.link.Peer.TheVariants.{Monitor, Client}
-use Rattle.mon_types.specs.declared.member.Member.{Member}
 use Rattle.mon_types.specs.declared.names.Stop.{Stop}
 use Rattle.mon_types.specs.declared.names.Stop.TheVariants.{Failed, OutOfMemory}
 use Rattle.mon_bytes.specs.declared.command.MapRefused.{MapRefused}
 use Rattle.mon_hello.specs.declared.hello.Hello.{Hello}
-use Rattle.mon_hello.specs.declared.hello.TheConstants.{MARK}
 use Rattle.mon_hello.specs.declared.greeting.TheConstants.{INTERVAL}
-use Rattle.mon_hello.specs.Formats.{hello_of}
+use Rattle.mon_hello.specs.declared.own.Own.{Own}
+use Rattle.mon_hello.specs.Formats.{hello_of, is_mark}
 
--- a hello begins with the byte 04
+-- a hello begins with the byte 04, or with 06 if it answers another one
 abbrev pub is_hello : List ℕ → Bool
 is_hello [] = false
-is_hello (b ∷ bytes) = b == MARK
+is_hello (b ∷ bytes) = is_mark b
 
 -- what is handed up: Idle in place of a hello
 abbrev pub passed : Got → Got
@@ -29,16 +29,26 @@ passed Closed = Closed
 
 -- ---- what is sent
 
+-- an answer isn't answered
 abbrev pub asked_by : ℕ → Result Hello MapRefused → Option ℕ
-asked_by c (Ok h) = Some c
+asked_by c (Ok h) = if h.answers then None else Some c
 asked_by c (Err e) = None
 
--- the client that sent a hello
+-- the client that sent a hello that is no answer
 abbrev pub asker : Got → Option ℕ
 asker (Datagram (Client c) bytes) = asked_by c (hello_of bytes)
 asker (Datagram (Monitor j) bytes) = None
 asker Idle = None
 asker Closed = None
+
+-- of the client that asked, what the table of times says: whether it is answered now, and the times that follow
+abbrev pub admitted : (now : ℕ) → (untils : List ℕ) → Option ℕ → Option ℕ
+admitted now untils None = None
+admitted now untils (Some c) = if is_answered c now untils then Some c else None
+
+abbrev pub untils_after : (now : ℕ) → Option ℕ → (untils : List ℕ) → List ℕ
+untils_after now None untils = untils
+untils_after now (Some c) untils = after_asking c now untils
 
 abbrev pub outgoing : Peer → List ℕ → Outgoing
 outgoing to bytes = record { to = to; bytes = bytes }
@@ -55,23 +65,26 @@ abbrev pub round : ℕ → ℕ → List ℕ → List Outgoing
 round own zero bytes = []
 round own (suc k) bytes = round own k bytes ++ to_other own k bytes
 
--- When the next round of hellos is due, and the readings of the clock to come, if they are known.
+-- When the next round of hellos is due, until when each client waits for an answer, and the readings of the clock to
+-- come, if they are known.
 pub record Rounds : Type 0 where
   pub due : ℕ
+  pub untils : List ℕ
   pub left : Option Readings
 
-abbrev pub rounds : ℕ → Option Readings → Rounds
-rounds due left = record { due = due; left = left }
+abbrev pub rounds : ℕ → List ℕ → Option Readings → Rounds
+rounds due untils left = record { due = due; untils = untils; left = left }
 
 -- whether a round is due at this time
 abbrev pub is_due : ℕ → Rounds → Bool
 is_due now r = nat_le r.due now
 
--- The hellos that are sent after the link below gave something at this time: an answer to a client that sent one, and
--- one to each other monitor if a round is due.
-abbrev pub hellos : Member → List ℕ → Rounds → (now : ℕ) → Got → List Outgoing
-hellos member bytes r now got =
-    answer bytes (asker got) ++ (if is_due now r then round member.rank member.monitors bytes else [])
+-- The hellos that are sent after the link below gave something at this time: an answer to a client that sent one and
+-- doesn't wait, and one to each other monitor if a round is due.
+abbrev pub hellos : Own → Rounds → (now : ℕ) → Got → List Outgoing
+hellos own r now got =
+    answer own.answer (admitted now r.untils (asker got))
+    ++ (if is_due now r then round own.member.rank own.member.monitors own.datagram else [])
 
 -- A datagram that failed is followed by the next one. Once memory ran out nothing more is sent, and that is the result.
 abbrev pub Follows : (answered : Result (Unit {0}) Stop) → (Result (Unit {0}) Stop → LinkState → LinkState → Type 0)
@@ -100,35 +113,37 @@ due_after (Ok x) r now = if is_due now r then now + INTERVAL else r.due
 due_after (Err e) r now = r.due
 
 -- The link below gave `got`. The clock is read once, and the hellos that are due at that time are sent.
-pub record Greets (member : Member) (bytes : List ℕ) (got : Got) (result : Result Got Stop) (r after_it : Rounds)
+pub record Greets (own : Own) (got : Got) (result : Result Got Stop) (r after_it : Rounds)
     (old new : LinkState) : Type 0 where
   pub now : ℕ
   pub shows : IfSome r.left (λ left. now ≡ reading left)
   pub reads : after_it.left ≡ option_map after r.left
   pub went : Result (Unit {0}) Stop
-  pub sends : SendsAll (hellos member bytes r now got) went old new
+  pub sends : SendsAll (hellos own r now got) went old new
   pub hands : result ≡ handed got went
   pub due : after_it.due ≡ due_after went r now
+  pub untils : after_it.untils ≡ untils_after now (asker got) r.untils
 
 -- Memory ran out before any hello was sent, which may happen whatever the link below gave. A due round stays due.
 pub record FindsNoMemory (result : Result Got Stop) (r after_it : Rounds) (old new : LinkState) : Type 0 where
   pub reads : after_it.left ≡ option_map after r.left
   pub answer : result ≡ Err OutOfMemory
   pub due : after_it.due ≡ r.due
+  pub untils : after_it.untils ≡ r.untils
   pub below : new ≡ old
 
 -- After the link below gave something, hellos are sent and it is handed up. An error is returned as it is, and nothing
 -- is done.
-abbrev pub Passes : Member → List ℕ → (gave result : Result Got Stop) → (r after_it : Rounds) → (old new : LinkState)
+abbrev pub Passes : Own → (gave result : Result Got Stop) → (r after_it : Rounds) → (old new : LinkState)
     → Type 0
-Passes member bytes (Err e) result r after_it old new = (result ≡ Err e) × (after_it ≡ r) × (new ≡ old)
-Passes member bytes (Ok got) result r after_it old new =
-    Greets member bytes got result r after_it old new ⊎ FindsNoMemory result r after_it old new
+Passes own (Err e) result r after_it old new = (result ≡ Err e) × (after_it ≡ r) × (new ≡ old)
+Passes own (Ok got) result r after_it old new =
+    Greets own got result r after_it old new ⊎ FindsNoMemory result r after_it old new
 
 -- The link below was asked once, with the same wait, and then only to send hellos.
-pub record AsksOnce (member : Member) (bytes : List ℕ) (wait : ℕ) (result : Result Got Stop) (r after_it : Rounds)
+pub record AsksOnce (own : Own) (wait : ℕ) (result : Result Got Stop) (r after_it : Rounds)
     (old new : LinkState) : Type 0 where
   pub gave : Result Got Stop
   pub between : LinkState
   pub asks : CallsNext wait gave old between
-  pub passes : Passes member bytes gave result r after_it between new
+  pub passes : Passes own gave result r after_it between new

@@ -1,9 +1,9 @@
 //! Writing what names a quorum, and hellos.
 
 ghost use Rattle.std.specs.Prelude.{◌≡◌, ◌++◌, ◌∷◌, length, OnOk};
-ghost use Rattle.mon_hello.specs.Formats.{a_hello, a_rule, address_text, all_addresses, an_identity, set_bytes};
+ghost use Rattle.mon_hello.specs.Formats.{a_hello, a_rule, address_text, all_addresses, an_identity, mark_of, set_bytes};
 
-use crate::hello::{Hello, MARK};
+use crate::hello::{ANSWER_MARK, Hello, MARK};
 use crate::identity::Identity;
 use election_rules::Rule;
 use mon_bytes::{Items, Out, OutOfMemory};
@@ -59,11 +59,18 @@ fn put_addresses(out: &mut Out, addresses: &Items<Address>) -> Result<(), OutOfM
     Ok(())
 }
 
+/// The byte with which a hello begins.
+fn mark_of(answers: bool) -> u8
+    ensures { result ≡ mark_of answers }
+{
+    if answers { ANSWER_MARK } else { MARK }
+}
+
 /// Appends a hello.
 pub(crate) fn put_hello(out: &mut Out, hello: &Hello) -> Result<(), OutOfMemory>
     ensures { OnOk result (out.new ≡ out.old ++ a_hello.text hello.now) }
 {
-    out.put_u8(MARK)?;
+    out.put_u8(mark_of(hello.answers))?;
     out.put_word(hello.version.as_slice())?;
     put_identity(out, &hello.identity)?;
     out.put_u8(hello.rank.get())?;

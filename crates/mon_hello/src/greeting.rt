@@ -15,8 +15,9 @@ use mon_types::Stop;
 /// The time from one round of hellos to the next, in milliseconds.
 pub const INTERVAL: u64 = 10_000;
 
-/// A link that sends its monitor's hello to each other monitor, at the first call of `next` and then every 10 s, and to
-/// each client that sent one. It takes the hellos of others, and writes lines about how they differ.
+/// A link that sends its monitor's hello to each other monitor, at the first call of `next` and then every 10 s. It answers
+/// the hello of a client, unless that is an answer or the client was answered less than a second ago. It takes the hellos
+/// of others, and writes lines about how they differ.
 #[derive(Drop)]
 pub struct Greeting<L: Link + Drop, C: Clock + Drop, S: Say + Drop> {
     pub inner: L,
@@ -51,6 +52,7 @@ impl<L: Link + Drop, C: Clock + Drop, S: Say + Drop> Greeting<L, C, S> {
         ensures inner { result.inner ≡ inner }
         ensures clock { result.clock ≡ clock }
         ensures own { result.own ≡ own }
+        ensures heard { result.heard.answered ≡ heard.answered }
         ensures due { result.due ≡ 0 }
         ensures losses { result.losses ≡ 0 }
     {
@@ -71,21 +73,24 @@ impl<L: Link + Drop, C: Clock + Drop, S: Say + Drop> Link for Greeting<L, C, S> 
 
     ghost state = { λ r. record { observed = None; faults = (L.state r.inner).faults; losses = r.losses } };
 
-    /// Asks the link below once, with the same wait. Then it answers a client that sent a hello, and greets each other
-    /// monitor if a round is due. A hello whose send fails is left out. If memory runs out, that is the error, what was
+    /// Asks the link below once, with the same wait. Then it answers a client that sent a hello and doesn't wait, and
+    /// greets each other monitor if a round is due. A hello whose send fails is left out. If memory runs out, that is the error, what was
     /// received is dropped, and a due round stays due.
     fn next(&mut self, wait: u64) -> Result<Got, Stop>
-        ensures asks { AsksOnce self.old.own.member self.old.own.datagram wait result
-            (rounds self.old.due (C.left self.old.clock)) (rounds self.new.due (C.left self.new.clock))
+        ensures asks { AsksOnce self.old.own wait result
+            (rounds self.old.due self.old.heard.answered (C.left self.old.clock))
+            (rounds self.new.due self.new.heard.answered (C.left self.new.clock))
             (L.state self.old.inner) (L.state self.new.inner) }
         ensures own { self.new.own ≡ self.old.own }
         ensures losses { self.new.losses ≡ self.old.losses }
     {
         let got = self.inner.next(wait)?;
-        let now = self.clock.now().get();
+        let moment = self.clock.now();
+        let now = moment.get();
         let Ok(asker) = self.heard.takes(&self.own, &got, now, &mut self.say) else {
             return Err(Stop::OutOfMemory);
         };
+        let asker = self.heard.admits(asker, moment);
         let due = self.due <= now;
         greet(&mut self.inner, &self.own, asker, due)?;
         if due {

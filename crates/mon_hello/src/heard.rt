@@ -1,13 +1,15 @@
 ghost use Rattle.std.specs.Prelude.{◌≡◌, IfOk};
-ghost use Rattle.mon_hello.specs.Greets.{asked_by, asker};
+ghost use Rattle.answer_times.specs.Times.{no_answers};
+ghost use Rattle.mon_hello.specs.Greets.{admitted, asked_by, asker, untils_after};
 ghost use Rattle.mon_hello.specs.Formats.{hello_of};
 
 use crate::hello::{Hello, is_hello};
 use crate::lines::{Reason, Say, line_of, unnamed_line};
 use crate::own::Own;
+use answer_times::AnswerTimes;
 use mon_bytes::{Bytes, Decode, MapRefused, OutOfMemory};
 use mon_link::{Got, Peer};
-use mon_types::Rank;
+use mon_types::{Moment, Rank};
 use std::alloc::Global;
 
 /// How many lines are said in an interval at most, and how long it is, in milliseconds.
@@ -26,10 +28,12 @@ pub struct Known {
     said: [bool; 6],
 }
 
-/// What other monitors said of themselves, in order of rank, and which lines were said about them.
+/// What other monitors said of themselves, in order of rank, which lines were said about them, and until when clients
+/// wait for an answer.
 #[derive(Drop)]
 pub struct Heard {
     pub known: Vec<Known>,
+    pub answered: AnswerTimes,
     /// The bytes with which each framed datagram of one's own quorum begins.
     frame: Bytes,
     /// How many lines were said in the current interval, and when it began.
@@ -41,7 +45,9 @@ pub struct Heard {
 impl Heard {
     /// The state before any of this many monitors is heard. `frame` is an empty datagram in the frame of one's own
     /// quorum, and so the beginning of each datagram of it.
-    pub fn new(alloc: Global, monitors: u8, frame: Bytes) -> Result<Heard, OutOfMemory> {
+    pub fn new(alloc: Global, monitors: u8, frame: Bytes) -> Result<Heard, OutOfMemory>
+        ensures { IfOk result (λ heard. heard.answered ≡ no_answers) }
+    {
         let mut known = Vec::new(alloc);
         for _ in 0..monitors {
             known.push(Known {
@@ -52,6 +58,7 @@ impl Heard {
         }
         Ok(Heard {
             known,
+            answered: AnswerTimes::new(alloc)?,
             frame,
             lines: 0,
             begun: 0,
@@ -60,7 +67,9 @@ impl Heard {
     }
 
     /// Counts a line. Returns whether it may be said in this interval.
-    fn admit_line(&mut self, now: u64) -> bool {
+    fn admit_line(&mut self, now: u64) -> bool
+        ensures { self.new.answered ≡ self.old.answered }
+    {
         if now >= self.begun.saturating_add(LINES_INTERVAL) {
             self.begun = now;
             self.lines = 0;
@@ -81,7 +90,9 @@ impl Heard {
         }
     }
 
-    fn set_said(&mut self, from: Rank, reason: Reason, said: bool) {
+    fn set_said(&mut self, from: Rank, reason: Reason, said: bool)
+        ensures { self.new.answered ≡ self.old.answered }
+    {
         if let Some(known) = self.known.get_mut(usize::from(from.get())) {
             known.said[reason.place()] = said;
         }
@@ -89,7 +100,9 @@ impl Heard {
 
     /// Says a line, unless it was said since the monitor last agreed, or too many were said. An empty line means that
     /// the monitor agrees.
-    fn says<S: Say>(&mut self, from: Rank, reason: Reason, line: &str, now: u64, say: &mut S) {
+    fn says<S: Say>(&mut self, from: Rank, reason: Reason, line: &str, now: u64, say: &mut S)
+        ensures { self.new.answered ≡ self.old.answered }
+    {
         if line.is_empty() {
             self.set_said(from, reason, false);
         } else if !self.was_said(from, reason) && self.admit_line(now) {
@@ -98,14 +111,9 @@ impl Heard {
         }
     }
 
-    fn compares<S: Say>(
-        &mut self,
-        from: Rank,
-        theirs: &Hello,
-        ours: &Hello,
-        now: u64,
-        say: &mut S,
-    ) {
+    fn compares<S: Say>(&mut self, from: Rank, theirs: &Hello, ours: &Hello, now: u64, say: &mut S)
+        ensures { self.new.answered ≡ self.old.answered }
+    {
         for reason in Reason::IN_HELLO {
             if let Ok(line) = line_of(self.alloc, reason, from, theirs, ours) {
                 self.says(from, reason, line.as_str(), now, say);
@@ -114,7 +122,9 @@ impl Heard {
     }
 
     /// Takes a monitor's hello, and says how it differs from one's own.
-    fn hears<S: Say>(&mut self, from: Rank, theirs: Hello, ours: &Hello, now: u64, say: &mut S) {
+    fn hears<S: Say>(&mut self, from: Rank, theirs: Hello, ours: &Hello, now: u64, say: &mut S)
+        ensures { self.new.answered ≡ self.old.answered }
+    {
         self.compares(from, &theirs, ours, now, say);
         if let Some(known) = self.known.get_mut(usize::from(from.get())) {
             known.hello = Some(theirs);
@@ -123,7 +133,9 @@ impl Heard {
     }
 
     /// Notes whether a monitor's datagram was in the frame of one's own quorum, and says a line if it wasn't.
-    fn frames<S: Say>(&mut self, from: Rank, framed: bool, now: u64, say: &mut S) {
+    fn frames<S: Say>(&mut self, from: Rank, framed: bool, now: u64, say: &mut S)
+        ensures { self.new.answered ≡ self.old.answered }
+    {
         if framed {
             self.set_said(from, Reason::Unnamed, false);
         } else if !self.was_said(from, Reason::Unnamed)
@@ -141,7 +153,9 @@ impl Heard {
         bytes: &[u8],
         now: u64,
         say: &mut S,
-    ) -> Result<(), OutOfMemory> {
+    ) -> Result<(), OutOfMemory>
+        ensures { self.new.answered ≡ self.old.answered }
+    {
         if !is_hello(bytes) {
             let framed = bytes.starts_with(self.frame.as_slice());
             self.frames(from, framed, now, say);
@@ -157,8 +171,21 @@ impl Heard {
         }
     }
 
-    /// Takes what the link below gave, and says how its sender differs. Returns the client that sent a hello, if one
-    /// did.
+    /// The client, if one asked that is answered now.
+    pub(crate) fn admits(&mut self, asker: Option<u32>, now: Moment) -> Option<u32>
+        ensures admitted { result ≡ admitted now self.old.answered asker }
+        ensures after { self.new.answered ≡ untils_after now asker self.old.answered }
+    {
+        let client = asker?;
+        if self.answered.admit(client, now) {
+            Some(client)
+        } else {
+            None
+        }
+    }
+
+    /// Takes what the link below gave, and says how its sender differs. Returns the client that sent a hello that is no
+    /// answer, if one did.
     pub(crate) fn takes<S: Say>(
         &mut self,
         own: &Own,
@@ -166,7 +193,8 @@ impl Heard {
         now: u64,
         say: &mut S,
     ) -> Result<Option<u32>, OutOfMemory>
-        ensures { IfOk result (λ x. x ≡ asker got.now) }
+        ensures asker { IfOk result (λ x. x ≡ asker got.now) }
+        ensures answered { self.new.answered ≡ self.old.answered }
     {
         match got {
             Got::Datagram { from, bytes } => match from {
@@ -181,14 +209,15 @@ impl Heard {
     }
 }
 
-/// The client, if what it sent is a hello.
+/// The client, if what it sent is a hello that is no answer.
 fn asked(alloc: Global, client: u32, bytes: &[u8]) -> Result<Option<u32>, OutOfMemory>
     ensures { IfOk result (λ x. x ≡ asked_by client (hello_of bytes.now)) }
 {
     match Hello::decode(alloc, bytes) {
         Ok(hello) => {
+            let answers = hello.answers;
             drop(hello);
-            Ok(Some(client))
+            if answers { Ok(None) } else { Ok(Some(client)) }
         }
         Err(MapRefused::Form { .. }) => Ok(None),
         Err(MapRefused::OutOfMemory) => Err(OutOfMemory),

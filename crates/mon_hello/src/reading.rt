@@ -7,7 +7,7 @@ ghost use Rattle.mon_bytes.specs.Texts.{is_word};
 ghost use Rattle.mon_hello.specs.Names.{is_quorum_name};
 ghost use Rattle.mon_hello.specs.Formats.{address_at, byte_at, counted_at, an_identity, is_count, mark, members, rule_at, set_at};
 
-use crate::hello::{Hello, MARK, MOST_VERSION};
+use crate::hello::{ANSWER_MARK, Hello, MOST_VERSION, is_mark};
 use crate::identity::Identity;
 use crate::name::QuorumName;
 use election_rules::Rule;
@@ -16,17 +16,17 @@ use mon_link::Address;
 use mon_types::{Rank, RankSet};
 use std::alloc::Global;
 
-/// The byte with which a hello begins.
+/// The byte with which a hello begins: whether it answers another one.
 #[tactic(auto, unfolding(crate::specs::Formats::byte_at))]
-fn read_mark(cursor: &mut Cursor<'_>) -> Result<(), MapRefused>
+fn read_mark(cursor: &mut Cursor<'_>) -> Result<bool, MapRefused>
     ensures { Reads (λ x. x) result cursor.new (mark.read cursor.old) }
 {
     let at = cursor.at();
     let byte = cursor.take_u8()?;
-    if byte != MARK {
+    if !is_mark(byte) {
         return Err(MapRefused::Form { at });
     }
-    Ok(())
+    Ok(byte == ANSWER_MARK)
 }
 
 #[tactic(auto, unfolding(crate::specs::Formats::counted_at))]
@@ -157,12 +157,13 @@ impl Decode for Hello {
 
     #[tactic(auto, using(crate::proofs::Whole::hello_is_lawful, crate::proofs::Whole::hello_is_whole))]
     fn read(alloc: Global, cursor: &mut Cursor<'_>) -> Result<Hello, MapRefused> {
-        read_mark(cursor)?;
+        let answers = read_mark(cursor)?;
         let version = read_version(alloc, cursor)?;
         let identity = read_identity(alloc, cursor)?;
         let rank = read_rank(identity.monitors, cursor)?;
         let addresses = read_addresses(alloc, identity.monitors, cursor)?;
         Ok(Hello {
+            answers,
             version,
             identity,
             rank,

@@ -58,7 +58,7 @@ fn greet_if<L: Link>(link: &mut L, own: &Own, due: bool) -> Result<(), Stop>
     }
 }
 
-/// Answers a client, if one asked, and greets each other monitor, if a round is due. The only error is that memory ran
+/// Answers a client, if one asked that is answered now, and greets each other monitor, if a round is due. The only error is that memory ran
 /// out.
 pub(crate) fn greet<L: Link>(
     link: &mut L,
@@ -67,10 +67,10 @@ pub(crate) fn greet<L: Link>(
     due: bool,
 ) -> Result<(), Stop>
     ensures { SendsAll
-        (answer own.now.datagram asker
+        (answer own.now.answer asker
         ++ (if due then round own.now.member.rank own.now.member.monitors own.now.datagram else []))
         result (L.state link.old) (L.state link.new) }
 {
-    answer_one(link, asker, own.datagram.as_slice())?;
+    answer_one(link, asker, own.answer.as_slice())?;
     greet_if(link, own, due)
 }

@@ -4,5 +4,5 @@ use Rattle.mon_hello.proofs.greeting.GreetingLink.TheImpl.Goals as goal
 
 pub next-tells : goal.next-tells
 next-tells g c =
-    let counted = faults_after _ _ _ _ _ _ _ _ c.ensures.asks in
+    let counted = faults_after _ _ _ _ _ _ _ c.ensures.asks in
     search (rules, counted)
