@@ -16,7 +16,6 @@ use Rattle.mon_msg.specs.declared.plan.Origin.{Origin}
 use Rattle.mon_msg.specs.declared.plan.Sent.TheVariants as sent
 use Rattle.mon_msg.specs.declared.plan.Sent.{Sent}
 use Rattle.mon_msg.specs.declared.view.Me.{Me}
-use Rattle.mon_types.specs.Sides.{other}
 use Rattle.mon_wire.specs.declared.body.Body.TheVariants as body
 use Rattle.mon_wire.specs.declared.body.Body.{Body}
 use Rattle.mon_wire.specs.declared.reply.Reply.{Reply}
@@ -79,16 +78,17 @@ module _ (me : Me) (now : ℕ) (shared : List Entry) (t : Session) (w : Readings
     before = λ no. let e = asked_now t came in omega arith;
     boots = λ is boots short. omega arith;
     after = λ A. omega arith;
-    marks = λ f why A. omega arith;
+    marks = λ f C why A. omega arith;
     answers_probe = λ f e A. omega arith;
-    proposes = λ {x = x} z value o short A. let sends = map (message_to me (epoch_of x.readings) (body.Begin x.state.leader.pn (suc x.readings.last) value)) (members me x.state.leader.quorum) in
+    proposes = λ {x = x} z value o short leads A. let sends = map (message_to me (epoch_of x.readings) (body.Begin x.state.leader.pn (suc x.readings.last) value)) (members me x.state.leader.quorum) in
         omega (arith, replies_append t x.out sends, messages (epoch_of x.readings) (body.Begin x.state.leader.pn (suc x.readings.last) value) (members me x.state.leader.quorum));
     votes = λ {x = x} f e pn v value C k A. omega (arith, replies_append t x.out (message_to me (epoch_of x.readings) (body.Accept pn v) f ∷ []));
     writes = λ c k A. A;
-    learns = λ v values k A. A;
+    learns = λ v value values k short A. A;
+    replays = λ left v end values t z e A. A;
     copies = λ v values entries k A. A;
     sends = λ {h = h} {x = x} sends k A. omega (arith, replies_append t x.out sends, unsaid h x sends k);
-    enters = λ p A. A;
+    enters = λ p k A. A;
     timers = λ ts A. A;
     elector = λ e A. A;
     prober = λ p A. A;
@@ -97,18 +97,18 @@ module _ (me : Me) (now : ℕ) (shared : List Entry) (t : Session) (w : Readings
     requester = λ q k A. A;
     leader = λ l A. A;
     finds = λ l k A. A;
-    forgets = λ A. omega arith;
+    forgets = λ k A. omega arith;
     collects = λ q pn short A. omega arith;
-    takes_queued = λ q qs e due A. let n = ap (queued t) e in omega arith;
+    takes_queued = λ q qs e is due A. let n = ap (queued t) e in omega arith;
     takes_forwarded = λ f e seq c C new A. A;
-    takes_found = λ A. A;
-    takes_value = λ value e A. omega arith;
+    takes_found = λ how A. A;
+    takes_value = λ value C e A. omega arith;
     makes_value = λ c o ops short e active A. A;
     proposes_found = λ found A. A;
     drops_found = λ found A. A;
     queues = λ {x = x} c o short A. omega (arith, queued_append t x.state.clients.queue (record { command = c; origin = o } ∷ []));
     forwards = λ {x = x} c u peon short fits A. omega (arith, replies_append t x.out (message_to me (epoch_of x.readings) (body.Forward x.state.clients.next_seq c) x.state.peon.leader ∷ []), waiting_append t x.state.clients.sessions (record { seq = x.state.clients.next_seq; session = u } ∷ []));
-    routes = λ {x = x} f e seq r C k A. omega (arith, split t seq r x.state.clients.sessions, replies_append t x.out (map (λ (a : Asked). sent.Reply a.session r) (filter (λ (a : Asked). eqb a.seq seq) x.state.clients.sessions)));
+    routes = λ f e seq r C k A. omega (arith, split t seq r s.clients.sessions, replies_append t [] (map (λ (a : Asked). sent.Reply a.session r) (filter (λ (a : Asked). eqb a.seq seq) s.clients.sessions)));
     answers = λ {x = x} h r k A. let o = origin_of h in omega (arith, replies_append t x.out (answers_to me (epoch_of x.readings) o r), answered (epoch_of x.readings) o r);
   }
 

@@ -38,11 +38,11 @@ use Rattle.quorum_walk.proofs.FineCourses.{Base, BodyFine, Calm, Ended, EntryFin
 use Rattle.quorum_walk.proofs.FineReading.{all_spare, copied_calm, copied_cells, copied_fits, entries_spare, learned_calm, learned_cells, learned_fits, longest_fine, pending_fine, recorded_calm, recorded_cells, recorded_fits, run_fine, step_of_fine}
 use Rattle.quorum_walk.proofs.FineSteps.{answer_fine, answers_fine, chunk_fine, counts_fine, epoch_fine, full_sync_fine, vote_readings}
 use Rattle.quorum_walk.proofs.Sparing.{Own, copied_own, learned_own, own_of, records_own}
-use Rattle.std.proofs.Common.{Bool, IfSome, List, None, Option, Some, [], ap, arith, cond, eqb, false, filter, inl, inr, refl, subst, suc, sym, ℕ, ◌-◌, ◌^◌, ◌∙◌, ◌∷◌, ◌≡◌, ◌≤◌, ◌⊎◌}
+use Rattle.std.proofs.Common.{Bool, IfSome, List, None, Option, Some, [], ap, arith, cond, eqb, false, filter, inl, inr, length, refl, subst, suc, sym, ℕ, ◌+◌, ◌-◌, ◌∙◌, ◌∷◌, ◌≡◌, ◌≤◌}
 use Rattle.std.specs.List.{AllByRecursion}
 use Rattle.table_walk.proofs.Acts.{acts_of}
 use Rattle.table_walk.proofs.Lists.{all_append, all_drop, all_filter, all_map, all_of}
-use Rattle.table_walk.proofs.Steps.{CommandOf, FoundOf, HeardFrom, InHand, MayCopy, MayEnter, MayFind, MayLearn, MayReplay, MaySay, MaySend, MayWrite, Steps, ValueOf, accepted_by_all, alone, brought, copied_chunk, copied_last_chunk, counted, from_chunk, from_commit, from_last, from_last_chunk, heard, origin_of, replayed}
+use Rattle.table_walk.proofs.Steps.{CommandOf, FoundOf, HeardFrom, InHand, MayCopy, MayEnter, MayFind, MayLearn, MayReplay, MaySay, MaySend, MayWrite, Steps, ValueOf, accepted_by_all, alone, brought, copied_chunk, copied_last_chunk, counted, from_chunk, from_commit, from_last, from_last_chunk, heard, origin_of}
 use Rattle.table_walk.proofs.Table.{walked}
 use Rattle.table_walk.proofs.Walk.{Then}
 
@@ -70,7 +70,7 @@ module _ (me : Me) (now : ℕ) (made : Made) (shared : List Entry) (sharing : Al
 
   -- ---- reasons
 
-  came_fine : {f e : ℕ} {m : Body} → HeardFrom came f e m → (f ≤ 14) × IsShort e × BodyFine m
+  came_fine : {f e : ℕ} {m : Body} → HeardFrom me came f e m → (f ≤ 14) × IsShort e × BodyFine m
   came_fine C = let k = subst (ComesFine me now w made shared sharing) C.is comes in
       (subst (λ (n : ℕ). n ≤ 14) C.from k.0, subst IsShort C.epoch k.1.0, subst BodyFine C.says k.1.1)
 
@@ -98,32 +98,32 @@ module _ (me : Me) (now : ℕ) (made : Made) (shared : List Entry) (sharing : Al
     abbrev O : OwnFine (own_of x.readings)
     O = A.readings.own
 
-    written : (c : Change) → MayWrite came x c → Fine w0 (change c x)
+    written : (c : Change) → MayWrite me s came c → Fine w0 (change c x)
     written (Epoch e) k = epoch_fine me now w0 e x (by k) A
       where
-        by : MayEnter came e → IsShort e
+        by : MayEnter me came e → IsShort e
         by (counted short) = short
         by (heard C) = (came_fine C).1
     written (Numbers pn) k = number_fine (Numbers pn) A tt k refl refl (record { epoch = O.epoch; last_pn = k; promise = k; pending = O.pending; last = O.last; floor = O.floor })
     written (Promise pn) k = let short = (came_fine k.4).2 in number_fine (Promise pn) A tt short refl refl (record { epoch = O.epoch; last_pn = O.last_pn; promise = short; pending = O.pending; last = O.last; floor = O.floor })
-    written (Last v) k = let short = by k in number_fine (Last v) A tt short refl refl (record { epoch = O.epoch; last_pn = O.last_pn; promise = O.promise; pending = O.pending; last = short; floor = O.floor })
-      where
-        by : (v ≤ 2 ^ 62) ⊎ ((next : ℕ) × (x.state.requester.stage ≡ sync.Replay next v)) → IsShort v
-        by (inl short) = short
-        by (inr e) = subst StageFine e.1 A.state.stage
+    written (Last v) k = let short = subst StageFine k.1.1 rest.state.stage in number_fine (Last v) A tt short refl refl (record { epoch = O.epoch; last_pn = O.last_pn; promise = O.promise; pending = O.pending; last = short; floor = O.floor })
     written Unmark k = number_fine Unmark A tt tt refl refl (record { epoch = O.epoch; last_pn = O.last_pn; promise = O.promise; pending = O.pending; last = O.last; floor = omega arith })
     written other k = absurd k
 
-    learnt : {h : InHand} (values : List (List Op)) → HandFine h → MayLearn came x h values → AllByRecursion Val values
+    learnt : {h : InHand} (values : List (List Op)) → HandFine h → MayLearn me came x h values → AllByRecursion Val values
     learnt values k (from_last n C) = all_drop Val n _ (came_fine C).2.0
     learnt values k (from_commit n C) = all_drop Val n _ (came_fine C).2
     learnt values k (from_chunk C) = (came_fine C).2.0
     learnt values k (from_last_chunk C) = (came_fine C).2.0
-    learnt values k (replayed left v e) = subst (λ (o : Option (List (List Op))). IfSome o (AllByRecursion Val)) e (step_of_fine x.readings.record_of A.readings.records left v)
-    learnt values k (accepted_by_all e) = (subst (λ (o : Option (List Op)). IfSome o Val) e A.state.value, tt)
+    learnt values k (accepted_by_all e m) = (subst (λ (o : Option (List Op)). IfSome o Val) e A.state.value, tt)
     learnt values k alone = (k, tt)
 
-    copied : (v : ℕ) (values : List (List Op)) (entries : List Entry) → MayCopy came values entries → Fine w0 (x ▸ change_all (record_changes v values) ▸ change_all (copy_changes entries))
+    learns_fine : (v : ℕ) (values : List (List Op)) → AllByRecursion Val values → Fine w0 (change_all (learn_changes v values) x)
+    learns_fine v values V =
+        let same = learned_own v values x.readings (all_spare values V) in
+        changes_fine (learn_changes v values) A (learned_calm v values) (learned_fits v values V) (record { own = subst OwnFine (sym same) O; records = learned_cells v values x.readings V A.readings.records }) (ap (λ (o : Own). o.boot) same)
+
+    copied : (v : ℕ) (values : List (List Op)) (entries : List Entry) → MayCopy me came values entries → Fine w0 (x ▸ change_all (record_changes v values) ▸ change_all (copy_changes entries))
     copied v values entries K =
         let F = by K in
         let V = F.0 in
@@ -132,7 +132,7 @@ module _ (me : Me) (now : ℕ) (made : Made) (shared : List Entry) (sharing : Al
         let B = changes_fine (record_changes v values) A (recorded_calm v values) (recorded_fits v values) (record { own = subst OwnFine (sym (records_own v values x.readings)) O; records = recorded_cells v values x.readings V A.readings.records }) (ap (λ (o : Own). o.boot) (records_own v values x.readings)) in
         changes_fine (copy_changes entries) B (copied_calm entries) (copied_fits entries E) (record { own = subst OwnFine (sym (copied_own entries z (entries_spare entries E))) B.readings.own; records = copied_cells entries z E B.readings.records }) (ap (λ (o : Own). o.boot) (copied_own entries z (entries_spare entries E)))
       where
-        by : MayCopy came values entries → AllByRecursion Val values × AllByRecursion EntryFine entries
+        by : MayCopy me came values entries → AllByRecursion Val values × AllByRecursion EntryFine entries
         by (copied_chunk C) = (came_fine C).2
         by (copied_last_chunk C) = ((came_fine C).2.0, (came_fine C).2.1)
 
@@ -158,13 +158,13 @@ module _ (me : Me) (now : ℕ) (made : Made) (shared : List Entry) (sharing : Al
     said_fine h k (sent.Message to m) t = ((subst IsShort (sym t.1) O.epoch, body_fine h m.body k t.2), t.0)
     said_fine h k (sent.Reply to r) t = tt
 
-    stood : (z : SyncStage) → MayReplay came x z → StageFine z
+    stood : (z : SyncStage) → MayReplay me came x z → StageFine z
     stood sync.Cookie k = tt
     stood sync.Chunks k = tt
     stood (sync.Replay next end) (inl k) = (came_fine k.6).2.2
     stood (sync.Replay next end) (inr k) = subst StageFine k.1 A.state.stage
 
-    found_one : (o : Option Found) → MayFind came x o → FoundFine o
+    found_one : (o : Option Found) → MayFind me came x o → FoundFine o
     found_one None k = tt
     found_one (Some f) (inl e) = subst FoundFine e A.state.found
     found_one (Some f) (inr k) = subst Val (sym k.12) (counts_fine k.8 k.9 (came_fine k.10).2.1 k.11)
@@ -193,9 +193,9 @@ module _ (me : Me) (now : ℕ) (made : Made) (shared : List Entry) (sharing : Al
       tt,
     );
     after = λ A. ended_at A.0;
-    marks = λ f why A. full_sync_fine me now w0 f (at_rest w s) A.0;
+    marks = λ f C why A. full_sync_fine me now w0 f (at_rest w s) A.0;
     answers_probe = λ f e A. ended_at (tell_fine me (body.ProbeReply (quorum_of s) w.first w.last) f A.0 tt);
-    proposes = λ {x = x} z value o short A.
+    proposes = λ {x = x} z value o short leads A.
         let pn = x.state.leader.pn in
         let v = suc x.readings.last in
         let B = vote_fine v pn value A.0 (short, A.0.state.pn) (vote_readings me now w0 v pn value x.readings short A.1 A.0.readings) in
@@ -203,11 +203,14 @@ module _ (me : Me) (now : ℕ) (made : Made) (shared : List Entry) (sharing : Al
         tells_fine me (body.Begin pn v value) (members me x.state.leader.quorum) (state_fine x.state.leader.found (Some value) pn x.state.requester.stage x.state.clients.queue B S) (A.0.state.pn, short, A.1);
     votes = λ {x = x} f e pn v value C t A. let k = (came_fine C).2 in tell_fine me (body.Accept pn v) f (vote_fine v pn value A.0 (k.1, k.0) (vote_readings me now w0 v pn value x.readings k.1 k.2 A.0.readings)) tt;
     writes = λ {x = x} c k A. (written x A.0 c k, A.1);
-    learns = λ {x = x} v values L A. let V = learnt x A.0 values A.1 L in let same = learned_own v values x.readings (all_spare values V) in
-        (changes_fine (learn_changes v values) A.0 (learned_calm v values) (learned_fits v values V) (record { own = subst OwnFine (sym same) A.0.readings.own; records = learned_cells v values x.readings V A.0.readings.records }) (ap (λ (o : Own). o.boot) same), A.1);
+    learns = λ {x = x} v value values L short A.
+        let B = learns_fine x A.0 v (value ∷ values) (learnt x A.0 (value ∷ values) A.1 L) in
+        let O = B.readings.own in
+        (number_fine (Last (v + length values)) B tt short refl refl (record { epoch = O.epoch; last_pn = O.last_pn; promise = O.promise; pending = O.pending; last = short; floor = O.floor }), A.1);
+    replays = λ {x = x} left v end values t z e A. (learns_fine x A.0 v values (subst (λ (o : Option (List (List Op))). IfSome o (AllByRecursion Val)) e (step_of_fine x.readings.record_of A.0.readings.records left v)), tt);
     copies = λ {x = x} v values entries K A. (copied x A.0 v values entries K, A.1);
     sends = λ {h = h} {x = x} sends k A. (more_sent sends A.0 (all_map (MaySend me shared h x) (SentOwn me) (said_fine x A.0 h A.1) sends k), A.1);
-    enters = λ p A. A;
+    enters = λ p k A. A;
     timers = λ ts A. A;
     elector = λ e A. A;
     prober = λ p A. A;
@@ -217,17 +220,17 @@ module _ (me : Me) (now : ℕ) (made : Made) (shared : List Entry) (sharing : Al
     leader = λ l A. A;
     finds = λ {x = x} l k A. (kept x A.0 (found_one x A.0 l.found k) A.0.state.value A.0.state.pn A.0.state.stage A.0.state.queue, A.1);
     collects = λ {x = x} q pn short A. (kept x A.0 (pending_fine x.readings.record_of A.0.readings.records x.readings.pending_v x.readings.pending_pn x.readings.last) tt short A.0.state.stage A.0.state.queue, tt);
-    forgets = λ {x = x} A. (kept x A.0 A.0.state.found A.0.state.value A.0.state.pn A.0.state.stage tt, A.1);
-    takes_queued = λ {x = x} q qs e due A. let W = subst (AllByRecursion WaitingFine) e A.0.state.queue in (kept x A.0 A.0.state.found A.0.state.value A.0.state.pn A.0.state.stage W.1, W.0);
+    forgets = λ {x = x} k A. (kept x A.0 A.0.state.found A.0.state.value A.0.state.pn A.0.state.stage tt, A.1);
+    takes_queued = λ {x = x} q qs e is due A. let W = subst (AllByRecursion WaitingFine) e A.0.state.queue in (kept x A.0 A.0.state.found A.0.state.value A.0.state.pn A.0.state.stage W.1, W.0);
     takes_forwarded = λ f e seq c C new A. (A.0, ((came_fine C).2, (came_fine C).0));
-    takes_found = λ {x = x} A. (kept x A.0 tt A.0.state.value A.0.state.pn A.0.state.stage A.0.state.queue, A.0.state.found);
-    takes_value = λ {x = x} value e A. (kept x A.0 A.0.state.found tt A.0.state.pn A.0.state.stage A.0.state.queue, subst (λ (o : Option (List Op)). IfSome o Val) e A.0.state.value);
+    takes_found = λ {x = x} how A. (kept x A.0 tt A.0.state.value A.0.state.pn A.0.state.stage A.0.state.queue, A.0.state.found);
+    takes_value = λ {x = x} value C e A. (kept x A.0 A.0.state.found tt A.0.state.pn A.0.state.stage A.0.state.queue, subst (λ (o : Option (List Op)). IfSome o Val) e A.0.state.value);
     makes_value = λ {x = x} c o ops short e active A. (A.0, made x.readings (stored_now A.0) c (asked_of me o) ops A.1.0 (asked_rank o A.1.1) A.0.readings.own.last short e);
     proposes_found = λ found A. A;
     drops_found = λ found A. (A.0, tt);
     queues = λ {x = x} c o short A. (kept x A.0 A.0.state.found A.0.state.value A.0.state.pn A.0.state.stage (all_append WaitingFine x.state.clients.queue (record { command = c; origin = o } ∷ []) A.0.state.queue (A.1, tt)), tt);
     forwards = λ {x = x} c u peon short fits A. (tell_fine me (body.Forward x.state.clients.next_seq c) x.state.peon.leader A.0 A.1.0, tt);
-    routes = λ {x = x} f e seq r C k A. (more_sent _ A.0 (all_of (SentOwn me) (λ (a : Asked). sent.Reply a.session r) (λ a. tt) (filter (λ (a : Asked). eqb a.seq seq) x.state.clients.sessions)), tt);
+    routes = λ f e seq r C k A. (more_sent _ A.0 (all_of (SentOwn me) (λ (a : Asked). sent.Reply a.session r) (λ a. tt) (filter (λ (a : Asked). eqb a.seq seq) s.clients.sessions)), tt);
     answers = λ {x = x} h r k A. (more_sent (answers_to me (epoch_of x.readings) (origin_of h) r) A.0 (answers_fine me now w0 (epoch_of x.readings) (origin_of h) r A.0.readings.own.epoch), tt);
   }
 

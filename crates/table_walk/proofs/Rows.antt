@@ -11,12 +11,12 @@ use Rattle.mon_msg.specs.Protocol.Changes.{Epoch, Last, Promise, Unmark}
 use Rattle.mon_msg.specs.Protocol.Chunks.{copy, hear_chunk, hear_last_chunk, is_ours, take}
 use Rattle.mon_msg.specs.Protocol.Commands.{ask, at_leader, at_peon, hear_forward, hear_route, is_too_long, may_propose, propose_due, too_long}
 use Rattle.mon_msg.specs.Protocol.Copying.{awaits_cookie, first_place, hear_cookie, hear_no_cookie, of_provider, same_flag}
-use Rattle.mon_msg.specs.Protocol.Course.{Course, change_if, elector_is, leader_is, ◌▸◌}
+use Rattle.mon_msg.specs.Protocol.Course.{Course, change_if, disarm, elector_is, leader_is, ◌▸◌}
 use Rattle.mon_msg.specs.Protocol.Elections.{election_ends, hear_ack, hear_propose, hear_victory, is_allowed, is_whole, may_defer, merge, merged_if_sent, stands_before, table_or, weigh}
 use Rattle.mon_msg.specs.Protocol.Entering.{is_even, own_table}
 use Rattle.mon_msg.specs.Protocol.Found.{better, counts, is_newer}
 use Rattle.mon_msg.specs.Protocol.Hearing.{hear_client}
-use Rattle.mon_msg.specs.Protocol.Leader.{all_accepted, all_answered, commit_any, hear_accept, hear_last, hear_lease_ack, note, note_answer, note_pending, of_member, renew}
+use Rattle.mon_msg.specs.Protocol.Leader.{all_accepted, all_answered, commit_any, hear_accept, hear_last, hear_lease_ack, is_one_of, note, note_answer, note_pending, of_member, renew}
 use Rattle.mon_msg.specs.Protocol.Leading.{has_queue}
 use Rattle.mon_msg.specs.Protocol.Learning.{learn, news, news_from}
 use Rattle.mon_msg.specs.Protocol.Peon.{cancel, hear_begin, hear_collect, hear_commit, hear_lease, of_leader, promise}
@@ -32,8 +32,10 @@ use Rattle.mon_msg.specs.Protocol.Replay.{replay_any, replay_step, step_in, step
 use Rattle.mon_msg.specs.Protocol.Sending.{others}
 use Rattle.mon_msg.specs.Protocol.Services.{service_last}
 use Rattle.mon_msg.specs.Protocol.State.{State, lease_of, quorum_of}
+use Rattle.mon_msg.specs.Protocol.Table.{at_rest}
 use Rattle.mon_msg.specs.Protocol.Value.{service_of, value}
 use Rattle.mon_msg.specs.declared.clients.Waiting.{Waiting}
+use Rattle.mon_msg.specs.declared.input.Input.TheVariants as input
 use Rattle.mon_msg.specs.declared.input.Input.{Input}
 use Rattle.mon_msg.specs.declared.limits.TheConstants.{MOST_WAITING}
 use Rattle.mon_msg.specs.declared.paxos.Found.{Found}
@@ -59,15 +61,12 @@ use Rattle.mon_wire.specs.declared.reply.Reply.{Reply}
 use Rattle.mon_wire.specs.declared.request.Request.TheVariants as request
 use Rattle.mon_wire.specs.declared.request.Request.{Request}
 use Rattle.mon_wire.specs.declared.request.Session.{Session}
-use Rattle.std.proofs.Common.{Bool, Err, List, None, Ok, Option, Result, Some, [], eqb, false, filter, inl, inr, is_some, leb, length, ltb, not, refl, slice_index_or, slice_set, suc, true, ℕ, ◌&&◌, ◌+◌, ◌-◌, ◌^◌, ◌||◌, ◌∷◌, ◌≡◌, ◌≤◌}
-use Rattle.std.proofs.lemmas.Bool.{and_parts, cond_both}
-use Rattle.table_walk.proofs.Acts.{Acts, HeardLast, MayCommit, acked_by_all, acked_by_most, arms, disarms, ends, keeps, sends_one, sends_to}
-use Rattle.table_walk.proofs.Steps.{CommandOf, HeardFrom, InHand, MayAnswer, MayCopy, MayFind, MayLearn, MayReplay, MaySay, Nothing, ReadOf, Steps, asked_by, busy, copied_chunk, copied_last_chunk, from_chunk, from_commit, from_last, from_last_chunk, heard, not_readable, refused, replayed, shows_map, shows_since, too_much, unavailable}
-use Rattle.table_walk.proofs.Walk.{Then, and_then, and_three, by_test, done, where_fits}
-
-unnot : (t : Bool) → not t ≡ false → t ≡ true
-unnot true e = refl
-unnot false e = absurd cc
+use Rattle.std.proofs.Common.{Bool, Err, List, None, Ok, Option, Result, Some, [], ap, eqb, false, filter, inl, inr, is_some, leb, length, ltb, not, refl, slice_index_or, slice_set, suc, true, ℕ, ◌&&◌, ◌+◌, ◌-◌, ◌^◌, ◌||◌, ◌∙◌, ◌∷◌, ◌≡◌, ◌≤◌}
+use Rattle.std.proofs.lemmas.Bool.{and_parts, cond_both, not-false}
+use Rattle.table_walk.proofs.Acts.{Acts, acked_by_all, acked_by_most, active_leads, arms, collecting_leads, disarms, ends, keeps, same_state, sends_one, sends_to}
+use Rattle.table_walk.proofs.Learning.{learns}
+use Rattle.table_walk.proofs.Steps.{CommandOf, HeardFrom, HeardLast, InHand, MayAnswer, MayCommit, MayCopy, MayFind, MayLearn, MayReplay, MaySay, Nothing, ReadOf, Steps, asked_by, busy, copied_chunk, copied_last_chunk, from_chunk, from_commit, from_last, from_last_chunk, heard, not_readable, refused, shows_map, shows_since, too_much, unread, unserved}
+use Rattle.table_walk.proofs.Walk.{Then, and_then, and_three, both_then, by_test, done, where_fits}
 
 module _ (me : Me) (shared : List Entry) (h : InHand) (x : Course) where
   answer_told : (v : ℕ) → MaySay me shared h x (last_answer me.member.monitors x.readings v)
@@ -103,29 +102,31 @@ module _ {me : Me} {now : ℕ} {shared : List Entry} {w : Readings} {s : State} 
   merged_in : {x : Course} (table : Option Scores) → P Nothing x → P Nothing (merge table x)
   merged_in {x = x} table A = b.elector (record x.state.elector { scores = merged_if_sent table x.state.elector.scores }) A
 
-  pub proposed : {x : Course} (f e : ℕ) (table : Option Scores) → HeardFrom came f e (body.Propose table) → P Nothing x → Then Q (hear_propose me now f e table x)
+  pub proposed : {x : Course} (f e : ℕ) (table : Option Scores) → HeardFrom me came f e (body.Propose table) → P Nothing x → Then Q (hear_propose me now f e table x)
   unfolding hear_propose
   proposed {x = x} f e table C A =
       by_test (not (votes x.state.phase) || is_even e) (λ _. ends b A) (λ _.
       by_test (ltb e (epoch_of x.readings)) (λ _. by_test (is_even (epoch_of x.readings) && not (has (quorum_of x.state) f)) (λ _. a.elects A) (λ _. ends b A)) (λ _.
       by_test (ltb (epoch_of x.readings) e) (λ _. weighed (table_or table x.state.elector.scores) f (merged_in table (a.adopts e (heard C) A))) (λ _. weighed (table_or table x.state.elector.scores) f (merged_in table A))))
 
-  pub acked : {x : Course} (f e : ℕ) → HeardFrom came f e body.Ack → P Nothing x → Then Q (hear_ack me now f e x)
+  pub acked : (f e : ℕ) → HeardFrom me came f e body.Ack → P Nothing (at_rest w s) → Then Q (hear_ack me now f e (at_rest w s))
   unfolding hear_ack
-  acked {x = x} f e C A =
+  acked f e C A =
+      let x = at_rest w s in
       let by = with_rank x.state.elector.acked f in
       let B = b.elector (record x.state.elector { acked = by }) A in
       by_test (not (votes x.state.phase) || is_even e || ltb e (epoch_of x.readings)) (λ _. ends b A) (λ now.
       by_test (ltb (epoch_of x.readings) e) (λ _. a.elects (a.adopts e (heard C) A)) (λ low.
       by_test x.state.elector.candidate (λ candidate. by_test (is_whole me by && is_allowed me me.member.rank) (λ whole. a.wins by (acked_by_all e now low candidate whole) B) (λ _. ends b B)) (λ _. ends b A)))
 
-  pub election_over : {x : Course} → P Nothing x → Then Q (election_ends me now x)
+  pub election_over : P Nothing (disarm timer.Election (at_rest w s)) → Then Q (election_ends me now (disarm timer.Election (at_rest w s)))
   unfolding election_ends
-  election_over {x = x} A =
+  election_over A =
+      let x = disarm timer.Election (at_rest w s) in
       by_test (not (same_phase x.state.phase phase.Electing)) (λ _. ends b A) (λ electing.
-      by_test (x.state.elector.candidate && is_allowed me me.member.rank && is_majority me.member.monitors x.state.elector.acked) (λ most. a.wins x.state.elector.acked (acked_by_most (unnot _ electing) most) A) (λ _. a.elects A))
+      by_test (x.state.elector.candidate && is_allowed me me.member.rank && is_majority me.member.monitors x.state.elector.acked) (λ most. a.wins x.state.elector.acked (acked_by_most (not-false _ electing) most) A) (λ _. a.elects A))
 
-  pub lost : {x : Course} (f e : ℕ) (q : List Bool) → HeardFrom came f e (body.Victory q) → P Nothing x → Then Q (hear_victory me now f e q x)
+  pub lost : {x : Course} (f e : ℕ) (q : List Bool) → HeardFrom me came f e (body.Victory q) → P Nothing x → Then Q (hear_victory me now f e q x)
   unfolding hear_victory
   lost {x = x} f e q C A =
       by_test (not (votes x.state.phase) || not (is_even e) || leb e (epoch_of x.readings)) (λ _. ends b A) (λ _.
@@ -135,7 +136,7 @@ module _ {me : Me} {now : ℕ} {shared : List Entry} {w : Readings} {s : State} 
 
   -- ---- peons
 
-  promised : {x : Course} (f e pn first last : ℕ) → HeardFrom came f e (body.Collect pn first last) → P Nothing x → P Nothing (promise pn x)
+  promised : {x : Course} (f e pn first last : ℕ) → HeardFrom me came f e (body.Collect pn first last) → P Nothing x → P Nothing (promise pn x)
   promised {x = x} f e pn first last C A = by (ltb (promise_of x.readings) pn)
     where
       by : (t : Bool) → P Nothing (change_if t (Promise pn) x)
@@ -145,7 +146,7 @@ module _ {me : Me} {now : ℕ} {shared : List Entry} {w : Readings} {s : State} 
   cancels : {x : Course} → P Nothing x → P Nothing (cancel x)
   cancels {x = x} A = b.peon (record x.state.peon { lease = None }) (λ t. absurd cc) A
 
-  pub collected : {x : Course} (f e pn first last : ℕ) → HeardFrom came f e (body.Collect pn first last) → P Nothing x → Then Q (hear_collect me now f e pn first last x)
+  pub collected : {x : Course} (f e pn first last : ℕ) → HeardFrom me came f e (body.Collect pn first last) → P Nothing x → Then Q (hear_collect me now f e pn first last x)
   unfolding hear_collect
   collected {x = x} f e pn first last C A =
       let y : Course = x ▸ cancel ▸ promise pn in
@@ -153,12 +154,12 @@ module _ {me : Me} {now : ℕ} {shared : List Entry} {w : Readings} {s : State} 
       by_test (ltb (suc x.readings.last) first) (λ _. a.bootstraps A) (λ _.
       where_fits Q which.Version (suc last) _ (λ _. ends b (sends_one b f (last_answer me.member.monitors y.readings (suc last)) (answer_told me shared Nothing y (suc last)) (promised f e pn first last C (cancels A))))))
 
-  pub begin_heard : {x : Course} (f e pn v : ℕ) (value : List Op) → HeardFrom came f e (body.Begin pn v value) → P Nothing x → Then Q (hear_begin me f e pn v value x)
+  pub begin_heard : {x : Course} (f e pn v : ℕ) (value : List Op) → HeardFrom me came f e (body.Begin pn v value) → P Nothing x → Then Q (hear_begin me f e pn v value x)
   unfolding hear_begin
   begin_heard {x = x} f e pn v value C A = let t = of_leader f e x && eqb pn (promise_of x.readings) && eqb v (suc x.readings.last) in
-      by_test (not t) (λ _. ends b A) (λ k. done (b.votes f e pn v value C (unnot t k) A))
+      by_test (not t) (λ _. ends b A) (λ k. done (b.votes f e pn v value C (not-false t k) A))
 
-  pub committed : {x : Course} (f e from : ℕ) (values : List (List Op)) → HeardFrom came f e (body.Commit from values) → P Nothing x → Then Q (hear_commit f e from values x)
+  pub committed : {x : Course} (f e from : ℕ) (values : List (List Op)) → HeardFrom me came f e (body.Commit from values) → P Nothing x → Then Q (hear_commit f e from values x)
   unfolding hear_commit
   committed {x = x} f e from values C A = by_test (not (of_leader f e x) || ltb (suc x.readings.last) from) (λ _. ends b A)
       (λ _. ends_then (learn (suc x.readings.last) (news x.readings.last from values) x) (a.learned (suc x.readings.last) (news x.readings.last from values) (from_commit (suc x.readings.last - from) C) A))
@@ -167,47 +168,53 @@ module _ {me : Me} {now : ℕ} {shared : List Entry} {w : Readings} {s : State} 
       ends_then (Ok y) k = done (b.after k.holds)
       ends_then (Err e) k = record { holds = tt }
 
-  pub leased : {x : Course} (f e last : ℕ) → HeardFrom came f e (body.Lease last) → P Nothing x → Then Q (hear_lease me now f e last x)
+  pub leased : {x : Course} (f e last : ℕ) → HeardFrom me came f e (body.Lease last) → P Nothing x → Then Q (hear_lease me now f e last x)
   unfolding hear_lease
   leased {x = x} f e last C A = by_test (not (of_leader f e x) || not (eqb last x.readings.last) || is_some (pending x.readings)) (λ _. ends b A)
       (λ t. ends b (sends_one b f (body.LeaseAck x.readings.last) tt (arms b timer.Lease (b.peon (record x.state.peon { lease = lease.extended now }) (λ _. record { leader = f; epoch = e; last = last; said = C; tested = t }) A))))
 
   -- ---- leaders
 
-  same_found : (x : Course) (o : Option Found) → x.state.leader.found ≡ o → MayFind came x o
+  same_found : (x : Course) (o : Option Found) → x.state.leader.found ≡ o → MayFind me came x o
   same_found x None e = tt
   same_found x (Some found) e = inl e
 
-  noted : {x : Course} (f last : ℕ) (found : Option Found) → MayFind came x found → P Nothing x → P Nothing (note_answer f last found x)
+  noted : {x : Course} (f last : ℕ) (found : Option Found) → MayFind me came x found → P Nothing x → P Nothing (note_answer f last found x)
   noted {x = x} f last found k A = b.finds (record x.state.leader { answered = with_rank x.state.leader.answered f; lasts = slice_set x.state.leader.lasts f last; found = found }) k A
 
-  module _ {f e pn first last from : ℕ} {whole : Bool} {values : List (List Op)} {told : Option Told} (C : HeardFrom came f e (body.Last pn first last whole from values told)) where
-    notes : {x : Course} (t : Option Told) → counts told ≡ t → P Nothing x → Then (P Nothing) (note_pending f last t x)
-    notes {x = x} None is A = done (noted f last x.state.leader.found (same_found x x.state.leader.found refl) A)
-    notes {x = x} (Some t) is A = let new : Found = record { version = suc last; pn = t.pn; value = t.value } in where_fits (P Nothing) which.Version (suc last) _ (λ _. done (noted f last (better x.state.leader.found new)
-        (cond_both (is_newer (suc last) t.pn x.state.leader.found) (Some new) x.state.leader.found (MayFind came x) (λ _. inr (f, e, pn, first, last, whole, from, values, told, t, C, is, refl)) (λ _. same_found x x.state.leader.found refl)) A))
+  module _ {f e pn first last from : ℕ} {whole : Bool} {values : List (List Op)} {told : Option Told} (C : HeardFrom me came f e (body.Last pn first last whole from values told)) where
+    notes : {x : Course} (t : Option Told) → counts told ≡ t → P Nothing x → Then (λ y. P Nothing y × (y.state.phase ≡ x.state.phase)) (note_pending f last t x)
+    notes {x = x} None is A = done (noted f last x.state.leader.found (same_found x x.state.leader.found refl) A, refl)
+    notes {x = x} (Some t) is A = let new : Found = record { version = suc last; pn = t.pn; value = t.value } in where_fits (λ y. P Nothing y × (y.state.phase ≡ x.state.phase)) which.Version (suc last) _ (λ _. done (
+      noted f last (better x.state.leader.found new)
+          (cond_both (is_newer (suc last) t.pn x.state.leader.found) (Some new) x.state.leader.found (MayFind me came x) (λ _. inr (f, e, pn, first, last, whole, from, values, told, t, C, is, refl)) (λ _. same_found x x.state.leader.found refl)) A,
+      refl,
+    ))
 
-  pub lasts_heard : {x : Course} (f e pn first last : ℕ) (whole : Bool) (from : ℕ) (values : List (List Op)) (told : Option Told) → HeardFrom came f e (body.Last pn first last whole from values told) → P Nothing x → Then Q (hear_last me now f e pn first last whole from values told x)
+  pub lasts_heard : {x : Course} (f e pn first last : ℕ) (whole : Bool) (from : ℕ) (values : List (List Op)) (told : Option Told) → HeardFrom me came f e (body.Last pn first last whole from values told) → P Nothing x → Then Q (hear_last me now f e pn first last whole from values told x)
   unfolding hear_last
   lasts_heard {x = x} f e pn first last whole from values told C A =
       let own = x.readings.last in
-      let H : HeardLast came = record { sender = f; epoch = e; pn = pn; first = first; last = last; whole = whole; from = from; values = values; told = told; said = C } in
-      by_test (not (of_member (phase.Collecting ∷ []) f e x)) (λ _. ends b A) (λ _.
-      by_test (ltb x.state.leader.pn pn) (λ _. a.collects x.state.leader.quorum pn H A) (λ _.
+      let H : HeardLast me came = record { sender = f; epoch = e; pn = pn; first = first; last = last; whole = whole; from = from; values = values; told = told; said = C } in
+      by_test (not (of_member (phase.Collecting ∷ []) f e x)) (λ _. ends b A) (λ member.
+      let leads = collecting_leads x.state.phase (and_three (is_one_of (phase.Collecting ∷ []) x.state.phase) (eqb e (epoch_of x.readings)) (has x.state.leader.quorum f) (not-false _ member)).0 in
+      by_test (ltb x.state.leader.pn pn) (λ _. a.collects x.state.leader.quorum pn H leads A) (λ _.
       by_test (ltb pn x.state.leader.pn) (λ _. ends b A) (λ _.
       by_test (ltb (suc own) first && ltb own last) (λ _. a.bootstraps A) (λ _.
-      and_then (P Nothing) Q (learn (news_from own from) (news own from values) x) _ (a.learned (news_from own from) (news own from values) (from_last (suc own - from) C) A) (λ y B.
+      and_then (λ y. P Nothing y × (y.state ≡ x.state)) Q (learn (news_from own from) (news own from values) x) _
+      (both_then (P Nothing) (λ y. y.state ≡ x.state) (learn (news_from own from) (news own from values) x) (a.learned (news_from own from) (news own from values) (from_last (suc own - from) C) A) (same_state x (learn (news_from own from) (news own from values) x) (learns (news_from own from) (news own from values) x))) (λ y B.
+      let still = ap (λ (q : State). is_leading q.phase) B.1 ∙ leads in
       by_test whole
-      (λ _. and_then (P Nothing) Q (note f last told y) _ (notes C (counts told) refl B) (λ z D. by_test (all_answered me z) (λ all. a.settles (record { heard = H; all = all }) D) (λ _. ends b D)))
-      (λ _. a.collects y.state.leader.quorum 0 H B))))))
+      (λ _. and_then (λ z. P Nothing z × (z.state.phase ≡ y.state.phase)) Q (note f last told y) _ (notes C (counts told) refl B.0) (λ z D. by_test (all_answered me z) (λ all. a.settles (record { heard = H; leads = ap is_leading D.1 ∙ still; all = all }) D.0) (λ _. ends b D.0)))
+      (λ _. a.collects y.state.leader.quorum 0 H still B.0))))))
 
-  pub accepted : {x : Course} (f e pn v : ℕ) → HeardFrom came f e (body.Accept pn v) → P Nothing x → Then Q (hear_accept me now f e pn v x)
+  pub accepted : {x : Course} (f e pn v : ℕ) → HeardFrom me came f e (body.Accept pn v) → P Nothing x → Then Q (hear_accept me now f e pn v x)
   unfolding hear_accept
   accepted {x = x} f e pn v C A =
       let y : Course = leader_is (record x.state.leader { accepted = with_rank x.state.leader.accepted f }) x in
       let B : P Nothing y = b.leader (record x.state.leader { accepted = with_rank x.state.leader.accepted f }) A in
       by_test (not (of_member (phase.Previous ∷ phase.Updating ∷ []) f e x && eqb pn x.state.leader.pn && eqb v (suc x.readings.last))) (λ _. ends b A)
-      (λ t. by_test (all_accepted me y) (λ all. any x.state.leader.value refl (record { sender = f; epoch = e; pn = pn; v = v; said = C; tested = unnot _ t; all = all }) B) (λ _. ends b B))
+      (λ t. by_test (all_accepted me y) (λ all. any x.state.leader.value refl (record { sender = f; epoch = e; pn = pn; v = v; said = C; tested = not-false _ t; all = all }) B) (λ _. ends b B))
     where
       any : {y : Course} (value : Option (List Op)) → y.state.leader.value ≡ value → MayCommit me came y → P Nothing y → Then Q (commit_any me now value y)
       any None e k A = ends b A
@@ -229,7 +236,7 @@ module _ {me : Me} {now : ℕ} {shared : List Entry} {w : Readings} {s : State} 
   proposes {x = x} c o active A = where_fits Q which.Version (suc (service_last x.readings (service_of c))) _ (λ short. by short (value x.readings c (asked_of me o)) refl)
     where
       by : suc (service_last x.readings (service_of c)) ≤ 2 ^ 62 → (r : Result (List Op) CommandRefused) → value x.readings c (asked_of me o) ≡ r → Then Q (begin_made me now o r x)
-      by short (Ok ops) e = a.begins stage.Updating ops (Some o) (b.makes_value c o ops short e active A)
+      by short (Ok ops) e = a.begins stage.Updating ops (Some o) (active_leads x.state.phase active) (b.makes_value c o ops short e active A)
       by short (Err y) e = ends b (b.timers _ (b.answers (CommandOf c o) (refusal y) (refused y active short e) A))
 
   leader_asked : {x : Course} (c : Command) (o : Origin) → P (CommandOf c o) x → Then Q (at_leader me now c o x)
@@ -246,30 +253,30 @@ module _ {me : Me} {now : ℕ} {shared : List Entry} {w : Readings} {s : State} 
 
   asks : {x : Course} (c : Command) (u : Session) → P (CommandOf c (origin.Session u)) x → Then Q (ask me now u c x)
   unfolding ask
-  asks {x = x} c u A = by_test (is_leading x.state.phase) (λ _. leader_asked c (origin.Session u) A) (λ _. by_test (is_peon x.state.phase) (λ peon. peon_asked c u peon A) (λ _. ends b (b.answers (CommandOf c (origin.Session u)) reply.Unavailable unavailable A)))
+  asks {x = x} c u A = by_test (is_leading x.state.phase) (λ _. leader_asked c (origin.Session u) A) (λ _. by_test (is_peon x.state.phase) (λ peon. peon_asked c u peon A) (λ _. ends b (b.answers (CommandOf c (origin.Session u)) reply.Unavailable unserved A)))
 
-  pub forwarded : {x : Course} (f e seq : ℕ) (c : Command) → HeardFrom came f e (body.Forward seq c) → P Nothing x → Then Q (hear_forward me now f e seq c x)
+  pub forwarded : {x : Course} (f e seq : ℕ) (c : Command) → HeardFrom me came f e (body.Forward seq c) → P Nothing x → Then Q (hear_forward me now f e seq c x)
   unfolding hear_forward
   forwarded {x = x} f e seq c C A =
       by_test (not (of_member (phase.Collecting ∷ phase.Previous ∷ phase.Active ∷ phase.Updating ∷ []) f e x && ltb (slice_index_or x.state.clients.taken f 0) seq)) (λ _. ends b A)
-      (λ t. leader_asked c (origin.Forwarded f seq) (b.takes_forwarded f e seq c C (unnot _ t) A))
+      (λ t. leader_asked c (origin.Forwarded f seq) (b.takes_forwarded f e seq c C (not-false _ t) A))
 
-  pub routed : {x : Course} (f e seq : ℕ) (r : Reply) → HeardFrom came f e (body.Route seq r) → P Nothing x → Then Q (hear_route f e seq r x)
+  pub routed : (f e seq : ℕ) (r : Reply) → HeardFrom me came f e (body.Route seq r) → P Nothing (at_rest w s) → Then Q (hear_route f e seq r (at_rest w s))
   unfolding hear_route
-  routed {x = x} f e seq r C A = by_test (not (of_leader f e x)) (λ _. ends b A) (λ t. ends b (b.routes f e seq r C (unnot _ t) A))
+  routed f e seq r C A = by_test (not (of_leader f e (at_rest w s))) (λ _. ends b A) (λ t. ends b (b.routes f e seq r C (not-false _ t) A))
 
-  pub due : {x : Course} → P Nothing x → Then Q (propose_due me now x)
+  pub due : {x : Course} → came ≡ input.Timer timer.Propose → P Nothing x → Then Q (propose_due me now x)
   unfolding propose_due propose_next
-  due {x = x} A = by_test (may_propose me now x) (λ t. first t x.state.clients.queue refl) (λ _. ends b A)
+  due {x = x} is A = by_test (may_propose me now x) (λ t. first t x.state.clients.queue refl) (λ _. ends b A)
     where
       first : may_propose me now x ≡ true → (qs : List Waiting) → x.state.clients.queue ≡ qs → Then Q (propose_first me now qs x)
       first t [] e = ends b A
-      first t (q ∷ qs) e = proposes q.command q.origin (and_parts (same_phase x.state.phase phase.Active) (is_standing me now x.state) t).0 (b.takes_queued q qs e t A)
+      first t (q ∷ qs) e = proposes q.command q.origin (and_parts (same_phase x.state.phase phase.Active) (is_standing me now x.state) t).0 (b.takes_queued q qs e is t A)
 
   reads : {x : Course} (u : Session) (reading : Readings → Reply) → (readable x.readings.last me.member.monitors (lease_of x.state) now ≡ true → MayAnswer me now x (ReadOf u) (reading x.readings)) → P (ReadOf u) x → Then Q (read me now u reading x)
   reads {x = x} u reading k A =
-      by_test (not (is_member x.state.phase)) (λ _. ends b (b.answers (ReadOf u) reply.Unavailable unavailable A)) (λ _.
-      by_test (not (readable x.readings.last me.member.monitors (lease_of x.state) now)) (λ _. ends b (b.answers (ReadOf u) (reply.NotReadable x.readings.last (is_standing me now x.state)) not_readable A)) (λ t. ends b (b.answers (ReadOf u) (reading x.readings) (k (unnot _ t)) A)))
+      by_test (not (is_member x.state.phase)) (λ _. ends b (b.answers (ReadOf u) reply.Unavailable unread A)) (λ _.
+      by_test (not (readable x.readings.last me.member.monitors (lease_of x.state) now)) (λ _. ends b (b.answers (ReadOf u) (reply.NotReadable x.readings.last (is_standing me now x.state)) not_readable A)) (λ t. ends b (b.answers (ReadOf u) (reading x.readings) (k (not-false _ t)) A)))
 
   pub client_asked : {x : Course} (u : Session) (r : Request) → P (asked_by r u) x → Then Q (hear_client me now u r x)
   unfolding hear_client
@@ -314,12 +321,12 @@ module _ {me : Me} {now : ℕ} {shared : List Entry} {w : Readings} {s : State} 
   no_cookie_heard {x = x} f c A =
       by_test (of_provider f x && (is_cookie c x.state.requester.cookie || (awaits_cookie x.state.requester.stage && not x.state.requester.full && same_cookie c no_cookie))) (λ _. a.bootstraps A) (λ _. ends b A)
 
-  same_stage : (x : Course) (z : SyncStage) → x.state.requester.stage ≡ z → MayReplay came x z
+  same_stage : (x : Course) (z : SyncStage) → x.state.requester.stage ≡ z → MayReplay me came x z
   same_stage x sync.Cookie e = tt
   same_stage x sync.Chunks e = tt
   same_stage x (sync.Replay next end) e = inr (next, e)
 
-  module _ {x : Course} {values : List (List Op)} {entries : List Entry} (L : MayLearn came x Nothing values) (K : MayCopy came values entries) where
+  module _ {x : Course} {values : List (List Op)} {entries : List Entry} (L : MayLearn me came x Nothing values) (K : MayCopy me came values entries) where
     copied : (full : Bool) (v : ℕ) → P Nothing x → Then (P Nothing) (copy full v values entries x)
     copied true v A = done (b.copies v values entries K A)
     copied false v A = a.learned v values L A
@@ -328,33 +335,33 @@ module _ {me : Me} {now : ℕ} {shared : List Entry} {w : Readings} {s : State} 
     takes p end A = where_fits (P Nothing) which.Version (p.version + length values) _ (λ _.
         and_then (P Nothing) (P Nothing) (copy x.state.requester.full (suc p.version) values entries x) _ (copied x.state.requester.full (suc p.version) A) (λ y B. done (b.requester _ (same_stage y y.state.requester.stage refl) B)))
 
-  pub chunk_heard : {x : Course} (f e : ℕ) (c : Cookie) (p : Place) (values : List (List Op)) (entries : List Entry) (end : Bool) → HeardFrom came f e (body.Chunk c p values entries end) → P Nothing x → Then Q (hear_chunk me now f c p values entries end x)
+  pub chunk_heard : {x : Course} (f e : ℕ) (c : Cookie) (p : Place) (values : List (List Op)) (entries : List Entry) (end : Bool) → HeardFrom me came f e (body.Chunk c p values entries end) → P Nothing x → Then Q (hear_chunk me now f c p values entries end x)
   unfolding hear_chunk
   chunk_heard {x = x} f e c p values entries end C A = by_test (is_ours f c p x)
       (λ _. and_then (P Nothing) Q (take p values entries end x) _ (takes (from_chunk C) (copied_chunk C) p end A) (λ y B. ends b (arms b timer.Sync (sends_one b y.state.requester.provider (body.GetChunk c y.state.requester.place) tt B)))) (λ _. ends b A)
 
-  pub last_chunk_heard : {x : Course} (f e : ℕ) (c : Cookie) (p : Place) (values : List (List Op)) (entries : List Entry) (last : ℕ) → HeardFrom came f e (body.LastChunk c p values entries last) → P Nothing x → Then Q (hear_last_chunk me now f c p values entries last x)
+  pub last_chunk_heard : {x : Course} (f e : ℕ) (c : Cookie) (p : Place) (values : List (List Op)) (entries : List Entry) (last : ℕ) → HeardFrom me came f e (body.LastChunk c p values entries last) → P Nothing x → Then Q (hear_last_chunk me now f c p values entries last x)
   unfolding hear_last_chunk
   last_chunk_heard {x = x} f e c p values entries last C A = by_test (is_ours f c p x)
       (λ _. and_then (P Nothing) Q (take p values entries true x) _ (takes (from_last_chunk C) (copied_last_chunk C) p true A) (λ y B. by_test y.state.requester.full
       (λ _. where_fits Q which.Version (suc y.state.requester.start) _ (λ _. ends b (arms b timer.Step (disarms b timer.Sync (b.requester (record y.state.requester { stage = sync.Replay (suc y.state.requester.start) last }) (inl (f, e, c, p, values, entries, C)) B)))))
       (λ _. a.bootstraps B))) (λ _. ends b A)
 
-  replays : {x : Course} (next end : ℕ) (values : Option (List (List Op))) → x.state.requester.stage ≡ sync.Replay next end → step_of x.readings.record_of (suc end - next) next ≡ values → P Nothing x → Then Q (replay_any me now next end values x)
-  replays next end None z e A = a.bootstraps A
-  replays {x = x} next end (Some values) z e A =
-      let B = b.learns next values (replayed (suc end - next) next e) A in
-      by_test (ltb end (next + length values)) (λ _. a.bootstraps (b.writes Unmark tt (b.writes (Last end) (inr (next, z)) B)))
+  replays : {x : Course} (next end : ℕ) (values : Option (List (List Op))) → same_phase s.phase phase.Synchronizing ≡ true → s.requester.stage ≡ sync.Replay next end → x.state.requester.stage ≡ sync.Replay next end → step_of x.readings.record_of (suc end - next) next ≡ values → P Nothing x → Then Q (replay_any me now next end values x)
+  replays next end None t o z e A = a.bootstraps A
+  replays {x = x} next end (Some values) t o z e A =
+      let B = b.replays (suc end - next) next end values t o e A in
+      by_test (ltb end (next + length values)) (λ _. a.bootstraps (b.writes Unmark tt (b.writes (Last end) (t, (next, o)) B)))
       (λ _. ends b (arms b timer.Step (b.requester (record x.state.requester { stage = sync.Replay (next + length values) end }) (inr (next, z)) B)))
 
-  pub steps : {x : Course} → P Nothing x → Then Q (replay_step me now x)
+  pub steps : P Nothing (disarm timer.Step (at_rest w s)) → Then Q (replay_step me now (disarm timer.Step (at_rest w s)))
   unfolding replay_step
-  steps {x = x} A = by_test (same_phase x.state.phase phase.Synchronizing) (λ _. at x.state.requester.stage refl) (λ _. ends b A)
+  steps A = by_test (same_phase s.phase phase.Synchronizing) (λ t. at t s.requester.stage refl) (λ _. ends b A)
     where
-      at : (z : SyncStage) → x.state.requester.stage ≡ z → Then Q (step_in me now z x)
-      at sync.Cookie e = ends b A
-      at sync.Chunks e = ends b A
-      at (sync.Replay next end) e = replays next end (step_of x.readings.record_of (suc end - next) next) e refl A
+      at : same_phase s.phase phase.Synchronizing ≡ true → (z : SyncStage) → s.requester.stage ≡ z → Then Q (step_in me now z (disarm timer.Step (at_rest w s)))
+      at t sync.Cookie e = ends b A
+      at t sync.Chunks e = ends b A
+      at t (sync.Replay next end) e = replays next end (step_of w.record_of (suc end - next) next) t e e refl A
 
   -- ---- pings
 

@@ -11,12 +11,14 @@ use Rattle.mon_msg.specs.Protocol.Chunks.{copy_changes, record_changes}
 use Rattle.mon_msg.specs.Protocol.Collecting.{collector, missed}
 use Rattle.mon_msg.specs.Protocol.Commands.{is_too_long, may_propose, queue_up, reply_each, too_long, wait_under}
 use Rattle.mon_msg.specs.Protocol.Course.{Course, change, change_all, clients_are, elector_is, forget_clients, in_phase, leader_is, peon_is, prober_is, provider_is, requester_is, say, timers_are, ◌▸◌}
+use Rattle.mon_msg.specs.Protocol.Entering.{is_even}
 use Rattle.mon_msg.specs.Protocol.Found.{counts}
-use Rattle.mon_msg.specs.Protocol.Leader.{of_member}
+use Rattle.mon_msg.specs.Protocol.Hearing.{is_heard}
+use Rattle.mon_msg.specs.Protocol.Leader.{all_accepted, of_member}
 use Rattle.mon_msg.specs.Protocol.Leading.{begin_with}
 use Rattle.mon_msg.specs.Protocol.Learning.{learn_changes}
 use Rattle.mon_msg.specs.Protocol.Peon.{cancel, of_leader}
-use Rattle.mon_msg.specs.Protocol.Phases.{is_peon, same_phase}
+use Rattle.mon_msg.specs.Protocol.Phases.{is_leading, is_peon, same_phase, votes}
 use Rattle.mon_msg.specs.Protocol.Places.{is_after}
 use Rattle.mon_msg.specs.Protocol.Proposing.{asked_of, refusal}
 use Rattle.mon_msg.specs.Protocol.Providing.{chunk}
@@ -59,13 +61,14 @@ use Rattle.mon_wire.specs.declared.parts.Place.{Place}
 use Rattle.mon_wire.specs.declared.parts.Told.{Told}
 use Rattle.mon_wire.specs.declared.phase.Phase.TheVariants as phase
 use Rattle.mon_wire.specs.declared.phase.Phase.{Phase}
+use Rattle.mon_wire.specs.declared.phase.Timer.TheVariants as timer
 use Rattle.mon_wire.specs.declared.reply.Reply.TheVariants as reply
 use Rattle.mon_wire.specs.declared.reply.Reply.{Reply}
 use Rattle.mon_wire.specs.declared.request.Request.TheVariants as request
 use Rattle.mon_wire.specs.declared.request.Request.{Request}
 use Rattle.mon_wire.specs.declared.request.Service.{Service}
 use Rattle.mon_wire.specs.declared.request.Session.{Session}
-use Rattle.std.proofs.Common.{Bool, Err, List, None, Ok, Option, Some, [], drop, eqb, false, filter, is_some, ltb, not, slice_index_or, slice_set, suc, true, ℕ, ◌&&◌, ◌-◌, ◌<◌, ◌^◌, ◌||◌, ◌∷◌, ◌≡◌, ◌≤◌, ◌⊎◌}
+use Rattle.std.proofs.Common.{Bool, Err, List, None, Ok, Option, Some, [], drop, eqb, false, filter, is_some, length, ltb, not, slice_index_or, slice_set, suc, true, ℕ, ◌&&◌, ◌+◌, ◌-◌, ◌<◌, ◌^◌, ◌||◌, ◌∷◌, ◌≡◌, ◌≤◌, ◌⊎◌}
 use Rattle.std.specs.List.{AllByRecursion}
 
 -- a monitor that leads, in each of its phases
@@ -109,13 +112,14 @@ origin_of (ValueOf value o) = o
 
 -- ---- reasons
 
--- the input is this message, of this rank in this epoch
-pub record HeardFrom (came : Input) (f e : ℕ) (m : Body) : Type 0 where
+-- the input is this message, of this rank in this epoch, and the monitor hears it
+pub record HeardFrom (me : Me) (came : Input) (f e : ℕ) (m : Body) : Type 0 where
   pub message : Message
   pub is : came ≡ input.Deliver message
   pub from : message.from ≡ f
   pub epoch : message.epoch ≡ e
   pub says : message.body ≡ m
+  pub heard : is_heard me message ≡ true
 
 -- The input is an answer to PROBE whose first version is above the monitor's last one. So the monitor lacks versions that
 -- the sender doesn't keep.
@@ -130,34 +134,64 @@ pub record LacksVersions (w : Readings) (came : Input) : Type 0 where
   pub some : 1 < first
 
 -- An epoch that is written is counted up, or is that of a message.
-pub data MayEnter (came : Input) : ℕ → Type 0 where
-  counted : {e : ℕ} → e ≤ 2 ^ 62 → MayEnter came e
-  heard : {f e : ℕ} {m : Body} → HeardFrom came f e m → MayEnter came e
+pub data MayEnter (me : Me) (came : Input) : ℕ → Type 0 where
+  counted : {e : ℕ} → e ≤ 2 ^ 62 → MayEnter me came e
+  heard : {f e : ℕ} {m : Body} → HeardFrom me came f e m → MayEnter me came e
 
--- Values that are learned came with a message, are in the monitor's records, or are accepted by all of the quorum.
-pub data MayLearn (came : Input) (x : Course) : InHand → List (List Op) → Type 0 where
-  from_last : (k : ℕ) {f e pn first last from : ℕ} {whole : Bool} {values : List (List Op)} {told : Option Told} → HeardFrom came f e (body.Last pn first last whole from values told) → MayLearn came x Nothing (drop k values)
-  from_commit : (k : ℕ) {f e from : ℕ} {values : List (List Op)} → HeardFrom came f e (body.Commit from values) → MayLearn came x Nothing (drop k values)
-  from_chunk : {f e : ℕ} {c : Cookie} {p : Place} {values : List (List Op)} {entries : List Entry} {end : Bool} → HeardFrom came f e (body.Chunk c p values entries end) → MayLearn came x Nothing values
-  from_last_chunk : {f e last : ℕ} {c : Cookie} {p : Place} {values : List (List Op)} {entries : List Entry} → HeardFrom came f e (body.LastChunk c p values entries last) → MayLearn came x Nothing values
-  replayed : (left v : ℕ) {values : List (List Op)} → step_of x.readings.record_of left v ≡ Some values → MayLearn came x Nothing values
-  accepted_by_all : {value : List Op} → x.state.leader.value ≡ Some value → MayLearn came x Nothing (value ∷ [])
+-- the input is a LAST
+pub record HeardLast (me : Me) (came : Input) : Type 0 where
+  pub sender : ℕ
+  pub epoch : ℕ
+  pub pn : ℕ
+  pub first : ℕ
+  pub last : ℕ
+  pub whole : Bool
+  pub from : ℕ
+  pub values : List (List Op)
+  pub told : Option Told
+  pub said : HeardFrom me came sender epoch (body.Last pn first last whole from values told)
+
+-- A leader commits a value when each member of its quorum accepted it, the sender as the last one.
+pub record MayCommit (me : Me) (came : Input) (x : Course) : Type 0 where
+  pub sender : ℕ
+  pub epoch : ℕ
+  pub pn : ℕ
+  pub v : ℕ
+  pub said : HeardFrom me came sender epoch (body.Accept pn v)
+  pub tested : (of_member (phase.Previous ∷ phase.Updating ∷ []) sender epoch x && eqb pn x.state.leader.pn && eqb v (suc x.readings.last)) ≡ true
+  pub all : all_accepted me x ≡ true
+
+-- Values that are learned came with a message, or are accepted by all of the quorum.
+pub data MayLearn (me : Me) (came : Input) (x : Course) : InHand → List (List Op) → Type 0 where
+  from_last : (k : ℕ) {f e pn first last from : ℕ} {whole : Bool} {values : List (List Op)} {told : Option Told} → HeardFrom me came f e (body.Last pn first last whole from values told) → MayLearn me came x Nothing (drop k values)
+  from_commit : (k : ℕ) {f e from : ℕ} {values : List (List Op)} → HeardFrom me came f e (body.Commit from values) → MayLearn me came x Nothing (drop k values)
+  from_chunk : {f e : ℕ} {c : Cookie} {p : Place} {values : List (List Op)} {entries : List Entry} {end : Bool} → HeardFrom me came f e (body.Chunk c p values entries end) → MayLearn me came x Nothing values
+  from_last_chunk : {f e last : ℕ} {c : Cookie} {p : Place} {values : List (List Op)} {entries : List Entry} → HeardFrom me came f e (body.LastChunk c p values entries last) → MayLearn me came x Nothing values
+  accepted_by_all : {value : List Op} → x.state.leader.value ≡ Some value → MayCommit me came x → MayLearn me came x Nothing (value ∷ [])
   -- by the only monitor of the quorum
-  alone : {value : List Op} {o : Option Origin} → MayLearn came x (ValueOf value o) (value ∷ [])
+  alone : {value : List Op} {o : Option Origin} → MayLearn me came x (ValueOf value o) (value ∷ [])
 
 -- Records and entries that are copied came with a CHUNK or a LAST_CHUNK.
-pub data MayCopy (came : Input) : List (List Op) → List Entry → Type 0 where
-  copied_chunk : {f e : ℕ} {c : Cookie} {p : Place} {values : List (List Op)} {entries : List Entry} {end : Bool} → HeardFrom came f e (body.Chunk c p values entries end) → MayCopy came values entries
-  copied_last_chunk : {f e last : ℕ} {c : Cookie} {p : Place} {values : List (List Op)} {entries : List Entry} → HeardFrom came f e (body.LastChunk c p values entries last) → MayCopy came values entries
+pub data MayCopy (me : Me) (came : Input) : List (List Op) → List Entry → Type 0 where
+  copied_chunk : {f e : ℕ} {c : Cookie} {p : Place} {values : List (List Op)} {entries : List Entry} {end : Bool} → HeardFrom me came f e (body.Chunk c p values entries end) → MayCopy me came values entries
+  copied_last_chunk : {f e last : ℕ} {c : Cookie} {p : Place} {values : List (List Op)} {entries : List Entry} → HeardFrom me came f e (body.LastChunk c p values entries last) → MayCopy me came values entries
+
+-- A monitor leads if it led before, was elected, or is the only one.
+pub data MayLead (me : Me) (w : Readings) (s : State) (x : Course) : Type 0 where
+  leads_still : is_leading x.state.phase ≡ true → MayLead me w s x
+  -- by those whom it may lead, or by a majority when the election was over
+  chosen : votes s.phase ≡ true → is_even (epoch_of w) ≡ false → MayLead me w s x
+  stood : same_phase s.phase phase.Electing ≡ true → MayLead me w s x
+  only_member : ltb 1 me.member.monitors ≡ false → MayLead me w s x
 
 -- Why another change is written. Values, copies, votes, marks and starts are steps of their own.
-abbrev pub MayWrite : Input → Course → Change → Type 0
-MayWrite came x (Epoch e) = MayEnter came e
-MayWrite came x (Numbers pn) = pn ≤ 2 ^ 62
-MayWrite came x (Promise pn) = (f : ℕ) × (e : ℕ) × (first : ℕ) × (last : ℕ) × HeardFrom came f e (body.Collect pn first last)
-MayWrite came x (Last v) = (v ≤ 2 ^ 62) ⊎ ((next : ℕ) × (x.state.requester.stage ≡ sync.Replay next v))
-MayWrite came x Unmark = Unit {0}
-MayWrite came x other = ⊥
+abbrev pub MayWrite : Me → State → Input → Change → Type 0
+MayWrite me s came (Epoch e) = MayEnter me came e
+MayWrite me s came (Numbers pn) = pn ≤ 2 ^ 62
+MayWrite me s came (Promise pn) = (f : ℕ) × (e : ℕ) × (first : ℕ) × (last : ℕ) × HeardFrom me came f e (body.Collect pn first last)
+MayWrite me s came (Last v) = (same_phase s.phase phase.Synchronizing ≡ true) × ((next : ℕ) × (s.requester.stage ≡ sync.Replay next v))
+MayWrite me s came Unmark = Unit {0}
+MayWrite me s came other = ⊥
 
 -- Why a body is sent. Answers to PROBE, BEGIN, ACCEPT, FORWARD and ROUTE are sent in steps of their own.
 abbrev pub MaySay : Me → List Entry → InHand → Course → Body → Type 0
@@ -179,27 +213,28 @@ MaySend me shared h x (sent.Message to m) = (m.from ≡ me.member.rank) × (m.ep
 MaySend me shared h x (sent.Reply to r) = ⊥
 
 -- A replay ends where a LAST_CHUNK said, or where it did before.
-abbrev pub MayReplay : Input → Course → SyncStage → Type 0
-MayReplay came x (sync.Replay next end) = ((f : ℕ) × (e : ℕ) × (c : Cookie) × (p : Place) × (values : List (List Op)) × (entries : List Entry) × HeardFrom came f e (body.LastChunk c p values entries end)) ⊎ ((from : ℕ) × (x.state.requester.stage ≡ sync.Replay from end))
-MayReplay came x other = Unit {0}
+abbrev pub MayReplay : Me → Input → Course → SyncStage → Type 0
+MayReplay me came x (sync.Replay next end) = ((f : ℕ) × (e : ℕ) × (c : Cookie) × (p : Place) × (values : List (List Op)) × (entries : List Entry) × HeardFrom me came f e (body.LastChunk c p values entries end)) ⊎ ((from : ℕ) × (x.state.requester.stage ≡ sync.Replay from end))
+MayReplay me came x other = Unit {0}
 
 -- A value that a leader found is the one that it had found before, or that of a LAST.
-abbrev pub MayFind : Input → Course → Option Found → Type 0
-MayFind came x None = Unit {0}
-MayFind came x (Some found) = (x.state.leader.found ≡ Some found) ⊎ ((f : ℕ) × (e : ℕ) × (pn : ℕ) × (first : ℕ) × (last : ℕ) × (whole : Bool) × (from : ℕ) × (values : List (List Op)) × (told : Option Told) × (t : Told) × HeardFrom came f e (body.Last pn first last whole from values told) × (counts told ≡ Some t) × (found.value ≡ t.value))
+abbrev pub MayFind : Me → Input → Course → Option Found → Type 0
+MayFind me came x None = Unit {0}
+MayFind me came x (Some found) = (x.state.leader.found ≡ Some found) ⊎ ((f : ℕ) × (e : ℕ) × (pn : ℕ) × (first : ℕ) × (last : ℕ) × (whole : Bool) × (from : ℕ) × (values : List (List Op)) × (told : Option Told) × (t : Told) × HeardFrom me came f e (body.Last pn first last whole from values told) × (counts told ≡ Some t) × (found.value ≡ t.value))
 
 -- A peon has a lease after a LEASE with its own last version, of its leader.
-pub record MayHold (came : Input) (x : Course) : Type 0 where
+pub record MayHold (me : Me) (came : Input) (x : Course) : Type 0 where
   pub leader : ℕ
   pub epoch : ℕ
   pub last : ℕ
-  pub said : HeardFrom came leader epoch (body.Lease last)
+  pub said : HeardFrom me came leader epoch (body.Lease last)
   pub tested : (not (of_leader leader epoch x) || not (eqb last x.readings.last) || is_some (pending x.readings)) ≡ false
 
 -- Why something in hand is answered so.
 pub data MayAnswer (me : Me) (now : ℕ) (x : Course) : InHand → Reply → Type 0 where
   -- it hasn't started, or is in no quorum
-  unavailable : {h : InHand} → MayAnswer me now x h reply.Unavailable
+  unserved : {c : Command} {o : Origin} → MayAnswer me now x (CommandOf c o) reply.Unavailable
+  unread : {u : Session} → MayAnswer me now x (ReadOf u) reply.Unavailable
   too_much : {c : Command} {o : Origin} → is_too_long c ≡ true → MayAnswer me now x (CommandOf c o) (too_long c)
   busy : {c : Command} {o : Origin} → MayAnswer me now x (CommandOf c o) (reply.Busy MOST_WAITING)
   -- the service refuses it over what an active leader's store has
@@ -220,41 +255,43 @@ pub record Steps (me : Me) (now : ℕ) (shared : List Entry) (w : Readings) (s :
   pub after : {x : Course} → P Nothing x → Q x
   -- The last step of an event, when P needn't hold between its parts: the store is marked, PROBE is answered, a leader begins a
   -- value, and a peon accepts it.
-  pub marks : (f : ℕ) → (w.marked ≡ true) ⊎ LacksVersions w came → P Nothing (at_rest w s) → Q (full_sync me now f (at_rest w s))
+  pub marks : {e first last : ℕ} {q : List Bool} (f : ℕ) → HeardFrom me came f e (body.ProbeReply q first last) → (w.marked ≡ true) ⊎ LacksVersions w came → P Nothing (at_rest w s) → Q (full_sync me now f (at_rest w s))
   pub answers_probe : (f : ℕ) → w.marked ≡ false → P Nothing (at_rest w s) → Q (send me f (body.ProbeReply (quorum_of s) w.first w.last) (at_rest w s))
-  pub proposes : {x : Course} (z : LeaderStage) (value : List Op) (o : Option Origin) → suc x.readings.last ≤ 2 ^ 62 → P (ValueOf value o) x → Q (begin_with me now z (suc x.readings.last) value o x)
-  pub votes : {x : Course} (f e pn v : ℕ) (value : List Op) → HeardFrom came f e (body.Begin pn v value) → (of_leader f e x && eqb pn (promise_of x.readings) && eqb v (suc x.readings.last)) ≡ true → P Nothing x
+  pub proposes : {x : Course} (z : LeaderStage) (value : List Op) (o : Option Origin) → suc x.readings.last ≤ 2 ^ 62 → is_leading x.state.phase ≡ true → P (ValueOf value o) x → Q (begin_with me now z (suc x.readings.last) value o x)
+  pub votes : {x : Course} (f e pn v : ℕ) (value : List Op) → HeardFrom me came f e (body.Begin pn v value) → (of_leader f e x && eqb pn (promise_of x.readings) && eqb v (suc x.readings.last)) ≡ true → P Nothing x
       → Q (x ▸ change (Vote v pn value) ▸ cancel ▸ send me f (body.Accept pn v))
   -- what is written
-  pub writes : {h : InHand} {x : Course} (c : Change) → MayWrite came x c → P h x → P h (change c x)
-  pub learns : {h : InHand} {x : Course} (v : ℕ) (values : List (List Op)) → MayLearn came x h values → P h x → P h (change_all (learn_changes v values) x)
-  pub copies : {h : InHand} {x : Course} (v : ℕ) (values : List (List Op)) (entries : List Entry) → MayCopy came values entries → P h x → P h (x ▸ change_all (record_changes v values) ▸ change_all (copy_changes entries))
+  pub writes : {h : InHand} {x : Course} (c : Change) → MayWrite me s came c → P h x → P h (change c x)
+  pub learns : {h : InHand} {x : Course} (v : ℕ) (value : List Op) (values : List (List Op)) → MayLearn me came x h (value ∷ values) → v + length values ≤ 2 ^ 62 → P h x → P h (change (Last (v + length values)) (change_all (learn_changes v (value ∷ values)) x))
+  pub replays : {x : Course} (left v end : ℕ) (values : List (List Op)) → same_phase s.phase phase.Synchronizing ≡ true → s.requester.stage ≡ sync.Replay v end → step_of x.readings.record_of left v ≡ Some values → P Nothing x → P Nothing (change_all (learn_changes v values) x)
+  pub copies : {h : InHand} {x : Course} (v : ℕ) (values : List (List Op)) (entries : List Entry) → MayCopy me came values entries → P h x → P h (x ▸ change_all (record_changes v values) ▸ change_all (copy_changes entries))
   -- what is sent
   pub sends : {h : InHand} {x : Course} (sends : List Sent) → AllByRecursion (MaySend me shared h x) sends → P h x → P h (say sends x)
   -- what is remembered
-  pub enters : {h : InHand} {x : Course} (p : Phase) → P h x → P h (in_phase p x)
+  pub enters : {h : InHand} {x : Course} (p : Phase) → (is_leading p ≡ true → MayLead me w s x) → P h x → P h (in_phase p x)
   pub timers : {h : InHand} {x : Course} (ts : List (Option ℕ)) → P h x → P h (timers_are ts x)
   pub elector : {h : InHand} {x : Course} (e : Elector) → P h x → P h (elector_is e x)
   pub prober : {h : InHand} {x : Course} (p : Prober) → P h x → P h (prober_is p x)
-  pub peon : {h : InHand} {x : Course} (p : Peon) → (is_some p.lease ≡ true → MayHold came x) → P h x → P h (peon_is p x)
+  pub peon : {h : InHand} {x : Course} (p : Peon) → (is_some p.lease ≡ true → MayHold me came x) → P h x → P h (peon_is p x)
   pub provider : {h : InHand} {x : Course} (p : Provider) → P h x → P h (provider_is p x)
-  pub requester : {h : InHand} {x : Course} (q : Requester) → MayReplay came x q.stage → P h x → P h (requester_is q x)
+  pub requester : {h : InHand} {x : Course} (q : Requester) → MayReplay me came x q.stage → P h x → P h (requester_is q x)
   -- Of a leader: all but its number, its value and who waits for it; the value that it found; and all, when it collects.
   pub leader : {h : InHand} {x : Course} (l : Leader) → P h x → P h (leader_is (record l { pn = x.state.leader.pn; found = x.state.leader.found; value = x.state.leader.value; origin = x.state.leader.origin }) x)
-  pub finds : {h : InHand} {x : Course} (l : Leader) → MayFind came x l.found → P h x → P h (leader_is (record l { pn = x.state.leader.pn; value = x.state.leader.value; origin = x.state.leader.origin }) x)
+  pub finds : {h : InHand} {x : Course} (l : Leader) → MayFind me came x l.found → P h x → P h (leader_is (record l { pn = x.state.leader.pn; value = x.state.leader.value; origin = x.state.leader.origin }) x)
   pub collects : {x : Course} (q : List Bool) (pn : ℕ) → pn ≤ 2 ^ 62 → P Nothing x → P Nothing (leader_is (collector me q pn x.readings) x)
   -- all requests are forgotten
-  pub forgets : {h : InHand} {x : Course} → P h x → P h (forget_clients x)
+  pub forgets : {h : InHand} {x : Course} → is_leading x.state.phase ≡ false → P h x → P h (forget_clients x)
   -- taken in hand: the first command of the queue, that of a FORWARD, and a leader's values
-  pub takes_queued : {x : Course} (q : Waiting) (qs : List Waiting) → x.state.clients.queue ≡ q ∷ qs → may_propose me now x ≡ true → P Nothing x → P (CommandOf q.command q.origin) (clients_are (record x.state.clients { queue = qs }) x)
-  pub takes_forwarded : {x : Course} (f e seq : ℕ) (c : Command) → HeardFrom came f e (body.Forward seq c) → (of_member leading f e x && ltb (slice_index_or x.state.clients.taken f 0) seq) ≡ true → P Nothing x → P (CommandOf c (origin.Forwarded f seq)) (clients_are (record x.state.clients { taken = slice_set x.state.clients.taken f seq }) x)
-  pub takes_found : {x : Course} → P Nothing x → P (FoundOf x.state.leader.found) (leader_is (record x.state.leader { found = None }) x)
-  pub takes_value : {x : Course} (value : List Op) → x.state.leader.value ≡ Some value → P Nothing x → P (ValueOf value x.state.leader.origin) (leader_is (record x.state.leader { value = None; origin = None }) x)
+  pub takes_queued : {x : Course} (q : Waiting) (qs : List Waiting) → x.state.clients.queue ≡ q ∷ qs → came ≡ input.Timer timer.Propose → may_propose me now x ≡ true → P Nothing x → P (CommandOf q.command q.origin) (clients_are (record x.state.clients { queue = qs }) x)
+  pub takes_forwarded : {x : Course} (f e seq : ℕ) (c : Command) → HeardFrom me came f e (body.Forward seq c) → (of_member leading f e x && ltb (slice_index_or x.state.clients.taken f 0) seq) ≡ true → P Nothing x → P (CommandOf c (origin.Forwarded f seq)) (clients_are (record x.state.clients { taken = slice_set x.state.clients.taken f seq }) x)
+  pub takes_found : {x : Course} → HeardLast me came ⊎ (x.state.leader.found ≡ pending x.readings) → P Nothing x → P (FoundOf x.state.leader.found) (leader_is (record x.state.leader { found = None }) x)
+  pub takes_value : {f e pn v : ℕ} {x : Course} (value : List Op) → HeardFrom me came f e (body.Accept pn v) → x.state.leader.value ≡ Some value → P Nothing x → P (ValueOf value x.state.leader.origin) (leader_is (record x.state.leader { value = None; origin = None }) x)
   -- what becomes of it
   pub makes_value : {x : Course} (c : Command) (o : Origin) (ops : List Op) → suc (service_last x.readings (service_of c)) ≤ 2 ^ 62 → value x.readings c (asked_of me o) ≡ Ok ops → same_phase x.state.phase phase.Active ≡ true → P (CommandOf c o) x → P (ValueOf ops (Some o)) x
   pub proposes_found : {x : Course} (found : Found) → P (FoundOf (Some found)) x → P (ValueOf found.value None) x
   pub drops_found : {x : Course} (found : Option Found) → P (FoundOf found) x → P Nothing x
   pub queues : {x : Course} (c : Command) (o : Origin) → is_too_long c ≡ false → P (CommandOf c o) x → P Nothing (queue_up c o x)
   pub forwards : {x : Course} (c : Command) (u : Session) → is_peon x.state.phase ≡ true → is_too_long c ≡ false → x.state.clients.next_seq ≤ 2 ^ 62 → P (CommandOf c (origin.Session u)) x → P Nothing (x ▸ wait_under x.state.clients.next_seq u ▸ send me x.state.peon.leader (body.Forward x.state.clients.next_seq c))
-  pub routes : {x : Course} (f e seq : ℕ) (r : Reply) → HeardFrom came f e (body.Route seq r) → of_leader f e x ≡ true → P Nothing x → P Nothing (x ▸ clients_are (record x.state.clients { sessions = filter (λ (a : Asked). not (eqb a.seq seq)) x.state.clients.sessions }) ▸ reply_each (filter (λ (a : Asked). eqb a.seq seq) x.state.clients.sessions) r)
+  pub routes : (f e seq : ℕ) (r : Reply) → HeardFrom me came f e (body.Route seq r) → of_leader f e (at_rest w s) ≡ true → P Nothing (at_rest w s)
+      → P Nothing (at_rest w s ▸ clients_are (record s.clients { sessions = filter (λ (a : Asked). not (eqb a.seq seq)) s.clients.sessions }) ▸ reply_each (filter (λ (a : Asked). eqb a.seq seq) s.clients.sessions) r)
   pub answers : {x : Course} (h : InHand) (r : Reply) → MayAnswer me now x h r → P h x → P Nothing (answer_any me (origin_of h) r x)

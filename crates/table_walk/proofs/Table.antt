@@ -1,7 +1,7 @@
 -- The table, walked once: what a law shows of each small step holds of each event.
 use Rattle.mon_bytes.specs.declared.entry.Entry.{Entry}
 use Rattle.mon_msg.specs.Protocol.Changes.{Epoch}
-use Rattle.mon_msg.specs.Protocol.Course.{Course, change_if}
+use Rattle.mon_msg.specs.Protocol.Course.{Course, change_if, disarm}
 use Rattle.mon_msg.specs.Protocol.Hearing.{hear, is_heard}
 use Rattle.mon_msg.specs.Protocol.Phases.{same_phase}
 use Rattle.mon_msg.specs.Protocol.Probing.{hear_probe, hear_probe_reply, lag}
@@ -28,7 +28,7 @@ use Rattle.std.proofs.Common.{Bool, List, Ok, arith, false, inl, inr, is_some, l
 use Rattle.std.proofs.lemmas.Bool.{and_parts, ltb-true}
 use Rattle.table_walk.proofs.Acts.{Acts, disarms, ends, keeps}
 use Rattle.table_walk.proofs.Rows.{accepted, acked, begin_heard, chunk_asked, chunk_heard, client_asked, collected, committed, cookie_heard, due, election_over, forwarded, full_asked, last_chunk_heard, lasts_heard, lease_acked, leased, lost, no_cookie_heard, ping_answered, pinged, pings, proposed, recent_asked, renewed, routed, steps}
-use Rattle.table_walk.proofs.Steps.{HeardFrom, InHand, LacksVersions, Nothing, ReadOf, Steps, asked_by, brought, counted, unavailable}
+use Rattle.table_walk.proofs.Steps.{HeardFrom, InHand, LacksVersions, Nothing, ReadOf, Steps, asked_by, brought, counted, unread, unserved}
 use Rattle.table_walk.proofs.Walk.{Then, by_test, done, where_fits}
 
 module _ {me : Me} {now : ℕ} {shared : List Entry} {w : Readings} {s : State} {came : Input} {P : InHand → Course → Type 0} {Q : Course → Type 0} (b : Steps me now shared w s came P Q) (a : Acts me now shared w s came P Q) where
@@ -38,23 +38,23 @@ module _ {me : Me} {now : ℕ} {shared : List Entry} {w : Readings} {s : State} 
   unfolding hear_probe
   probed f A = by_test w.marked (λ _. ends b A) (λ e. done (b.answers_probe f e A))
 
-  probe_answered : (f : ℕ) (q : List Bool) (first last : ℕ) → (ltb w.last first && ltb 1 first ≡ true → LacksVersions w came) → P Nothing (at_rest w s) → Then Q (hear_probe_reply me now f q first last (at_rest w s))
+  probe_answered : (f e : ℕ) (q : List Bool) (first last : ℕ) → HeardFrom me came f e (body.ProbeReply q first last) → (ltb w.last first && ltb 1 first ≡ true → LacksVersions w came) → P Nothing (at_rest w s) → Then Q (hear_probe_reply me now f q first last (at_rest w s))
   unfolding hear_probe_reply
-  probe_answered f q first last behind A =
+  probe_answered f e q first last C behind A =
       let outside = with_rank s.prober.outside f in
       let B = b.prober (record { outside = outside }) A in
       by_test (not (same_phase s.phase phase.Probing)) (λ _. ends b A) (λ _.
-      by_test w.marked (λ u. by_test (leb 1 last && leb w.floor last) (λ _. done (b.marks f (inl u) A)) (λ _. ends b A)) (λ _.
-      by_test (ltb w.last first && ltb 1 first) (λ t. done (b.marks f (inr (behind t)) A)) (λ _.
+      by_test w.marked (λ u. by_test (leb 1 last && leb w.floor last) (λ _. done (b.marks f C (inl u) A)) (λ _. ends b A)) (λ _.
+      by_test (ltb w.last first && ltb 1 first) (λ t. done (b.marks f C (inr (behind t)) A)) (λ _.
       by_test (ltb (w.last + lag) last) (λ _. ends b (a.recent_syncs f A)) (λ _.
       by_test (ltb 0 (count_of q)) (λ _. a.elects A) (λ _.
       by_test (is_majority me.member.monitors outside) (λ _. a.elects B) (λ _. ends b B))))))
 
   -- ---- the table
 
-  heard_body : (f e : ℕ) (m : Body) → HeardFrom came f e m → P Nothing (at_rest w s) → Then Q (hear me shared now f e m (at_rest w s))
+  heard_body : (f e : ℕ) (m : Body) → HeardFrom me came f e m → P Nothing (at_rest w s) → Then Q (hear me shared now f e m (at_rest w s))
   heard_body f e body.Probe C A = probed f A
-  heard_body f e (body.ProbeReply q first last) C A = probe_answered f q first last (λ t. let p = and_parts (ltb w.last first) (ltb 1 first) t in
+  heard_body f e (body.ProbeReply q first last) C A = probe_answered f e q first last C (λ t. let p = and_parts (ltb w.last first) (ltb 1 first) t in
       record { message = C.message; is = C.is; quorum = q; first = first; last = last; says = C.says; above = ltb-true w.last first p.0; some = ltb-true 1 first p.1 }) A
   heard_body f e (body.Propose table) C A = proposed b a f e table C A
   heard_body f e body.Ack C A = acked b a f e C A
@@ -80,18 +80,18 @@ module _ {me : Me} {now : ℕ} {shared : List Entry} {w : Readings} {s : State} 
   heard_body f e (body.Request id r) C A = ends b A
   heard_body f e (body.Reply id r) C A = ends b A
 
-  rung : {x : Course} (t : Timer) → P Nothing x → Then Q (timer_comes me now t x)
-  rung timer.Probe A = a.bootstraps A
-  rung timer.Election A = election_over b a A
-  rung timer.Collect A = a.bootstraps A
-  rung timer.Accept A = a.bootstraps A
-  rung timer.Renew A = renewed b a A
-  rung timer.LeaseAck A = a.bootstraps A
-  rung timer.Lease A = a.bootstraps A
-  rung timer.Sync A = a.bootstraps A
-  rung timer.Step A = steps b a A
-  rung timer.Propose A = due b a A
-  rung timer.Ping A = pings b a A
+  rung : (t : Timer) → came ≡ input.Timer t → P Nothing (disarm t (at_rest w s)) → Then Q (timer_comes me now t (disarm t (at_rest w s)))
+  rung timer.Probe is A = a.bootstraps A
+  rung timer.Election is A = election_over b a A
+  rung timer.Collect is A = a.bootstraps A
+  rung timer.Accept is A = a.bootstraps A
+  rung timer.Renew is A = renewed b a A
+  rung timer.LeaseAck is A = a.bootstraps A
+  rung timer.Lease is A = a.bootstraps A
+  rung timer.Sync is A = a.bootstraps A
+  rung timer.Step is A = steps b a A
+  rung timer.Propose is A = due b a is A
+  rung timer.Ping is A = pings b a A
 
   starts : came ≡ input.Start → same_phase s.phase phase.Booting ≡ true → Then Q (start me now (at_rest w s))
   unfolding start
@@ -108,16 +108,16 @@ module _ {me : Me} {now : ℕ} {shared : List Entry} {w : Readings} {s : State} 
   unstarted (input.Client u r) is boots A = by r (A (λ e. cc))
     where
       by : (r : Request) → P (asked_by r u) (at_rest w s) → Then Q (Ok (reply_to u reply.Unavailable (at_rest w s)))
-      by (request.Set key value) A = ends b (b.answers (asked_by (request.Set key value) u) reply.Unavailable unavailable A)
-      by (request.Remove key) A = ends b (b.answers (asked_by (request.Remove key) u) reply.Unavailable unavailable A)
-      by (request.Log text) A = ends b (b.answers (asked_by (request.Log text) u) reply.Unavailable unavailable A)
-      by (request.Show v) A = ends b (b.answers (ReadOf u) reply.Unavailable unavailable A)
-      by (request.Since v n) A = ends b (b.answers (ReadOf u) reply.Unavailable unavailable A)
+      by (request.Set key value) A = ends b (b.answers (asked_by (request.Set key value) u) reply.Unavailable unserved A)
+      by (request.Remove key) A = ends b (b.answers (asked_by (request.Remove key) u) reply.Unavailable unserved A)
+      by (request.Log text) A = ends b (b.answers (asked_by (request.Log text) u) reply.Unavailable unserved A)
+      by (request.Show v) A = ends b (b.answers (ReadOf u) reply.Unavailable unread A)
+      by (request.Since v n) A = ends b (b.answers (ReadOf u) reply.Unavailable unread A)
 
   runs : (c : Input) → came ≡ c → P (brought c) (at_rest w s) → Then Q (running me shared now c (at_rest w s))
   runs input.Start is A = ends b A
-  runs (input.Deliver m) is A = by_test (is_heard me m) (λ _. heard_body m.from m.epoch m.body (record { message = m; is = is; from = refl; epoch = refl; says = refl }) A) (λ _. ends b A)
-  runs (input.Timer t) is A = by_test (is_some (end_of t s.timers)) (λ _. rung t (disarms b t A)) (λ _. ends b A)
+  runs (input.Deliver m) is A = by_test (is_heard me m) (λ t. heard_body m.from m.epoch m.body (record { message = m; is = is; from = refl; epoch = refl; says = refl; heard = t }) A) (λ _. ends b A)
+  runs (input.Timer t) is A = by_test (is_some (end_of t s.timers)) (λ _. rung t is (disarms b t A)) (λ _. ends b A)
   runs (input.Client u r) is A = client_asked b a u r A
 
   -- whatever comes
