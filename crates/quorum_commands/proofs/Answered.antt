@@ -18,7 +18,7 @@ use Rattle.mon_wire.specs.declared.request.Session.{Session}
 use Rattle.quorum_agreement.proofs.Answered.{asker}
 use Rattle.quorum_agreement.proofs.LoneWorlds.{IsWhole}
 use Rattle.quorum_agreement.proofs.Result.{OneLog}
-use Rattle.quorum_commands.proofs.Acts.{HandsNone, IsCalm, IsCalmBody}
+use Rattle.quorum_commands.proofs.Sends.{HandsNone, IsCalm, IsCalmBody}
 use Rattle.quorum_commands.proofs.Coming.{Brought, Does, me, phase_holds}
 use Rattle.quorum_commands.proofs.Exchange.{Alike, at_second, exchanged, only_one, other_is, second_is, tickets_exchanged}
 use Rattle.quorum_commands.proofs.Idle.{AllFair, BodyReturns}

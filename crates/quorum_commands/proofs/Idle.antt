@@ -1,67 +1,49 @@
 -- What a monitor does in an event in which it takes no command and hands none on: those that wait there wait on, or are forgotten.
-use Rattle.election_rules.specs.declared.scores.Scores.{Scores}
+use Rattle.mon_bytes.specs.declared.command.Command.{Command}
 use Rattle.mon_bytes.specs.declared.entry.Entry.{Entry}
-use Rattle.mon_msg.specs.Protocol.Changes.{Boot, Epoch}
-use Rattle.mon_msg.specs.Protocol.Chunks.{copy, hear_chunk, hear_last_chunk, is_ours, take}
-use Rattle.mon_msg.specs.Protocol.Collecting.{collect, settle}
-use Rattle.mon_msg.specs.Protocol.Commands.{hear_route}
-use Rattle.mon_msg.specs.Protocol.Copying.{awaits_cookie, hear_cookie, hear_no_cookie, of_provider, same_flag}
-use Rattle.mon_msg.specs.Protocol.Course.{Course, arm_if, change, change_if, disarm, elector_is, leader_is, ◌▸◌}
-use Rattle.mon_msg.specs.Protocol.Elections.{election_ends, hear_ack, hear_propose, hear_victory, is_allowed, is_whole, may_defer, merge, stands_before, table_or, weigh}
-use Rattle.mon_msg.specs.Protocol.Entering.{adopt, bootstrap, elect, is_even, own_table, scores_count, win}
-use Rattle.mon_msg.specs.Protocol.Found.{counts}
-use Rattle.mon_msg.specs.Protocol.Hearing.{hear}
-use Rattle.mon_msg.specs.Protocol.Leader.{all_accepted, all_answered, commit_any, hear_accept, hear_last, hear_lease_ack, hear_whole, is_one_of, note, note_pending, of_member, renew}
-use Rattle.mon_msg.specs.Protocol.Leading.{be_active, commit, extend}
-use Rattle.mon_msg.specs.Protocol.Learning.{learn, news, news_from}
-use Rattle.mon_msg.specs.Protocol.Peon.{cancel, hear_begin, hear_collect, hear_commit, hear_lease, of_leader, promise}
+use Rattle.mon_msg.specs.Protocol.Changes.{Boot, Change, Epoch, Last, Numbers, Promise, Unmark}
+use Rattle.mon_msg.specs.Protocol.Course.{Course, change}
+use Rattle.mon_msg.specs.Protocol.Entering.{is_even}
+use Rattle.mon_msg.specs.Protocol.Leading.{begin_with}
+use Rattle.mon_msg.specs.Protocol.Peon.{of_leader}
 use Rattle.mon_msg.specs.Protocol.Phases.{is_leading, is_peon, same_phase, votes}
-use Rattle.mon_msg.specs.Protocol.Pings.{hear_ping, hear_ping_reply, measure, ping}
-use Rattle.mon_msg.specs.Protocol.Places.{is_after, is_cookie, no_cookie, same_cookie}
-use Rattle.mon_msg.specs.Protocol.Probing.{hear_probe, hear_probe_reply, lag}
-use Rattle.mon_msg.specs.Protocol.Providing.{grant, hear_get_chunk, hear_get_cookie_full, hear_get_cookie_recent}
-use Rattle.mon_msg.specs.Protocol.Readings.{Readings, epoch_of, promise_of}
+use Rattle.mon_msg.specs.Protocol.Played.{play}
+use Rattle.mon_msg.specs.Protocol.Readings.{Readings, epoch_of}
 use Rattle.mon_msg.specs.Protocol.Records.{pending}
-use Rattle.mon_msg.specs.Protocol.Replay.{replay_any, replay_step, step_in, step_of}
-use Rattle.mon_msg.specs.Protocol.Sending.{members, message_to, others}
-use Rattle.mon_msg.specs.Protocol.State.{State, no_clients, quorum_of}
-use Rattle.mon_msg.specs.Protocol.Synchronizing.{full_sync, recent_sync}
-use Rattle.mon_msg.specs.Protocol.Table.{at_rest, first_elector, start, timer_comes}
+use Rattle.mon_msg.specs.Protocol.Sending.{answers_to, members, message_to}
+use Rattle.mon_msg.specs.Protocol.State.{State, no_clients}
+use Rattle.mon_msg.specs.Protocol.Synchronizing.{full_sync}
+use Rattle.mon_msg.specs.Protocol.Table.{at_rest, react}
 use Rattle.mon_msg.specs.Protocol.Value.{value}
 use Rattle.mon_msg.specs.declared.clients.Asked.{Asked}
 use Rattle.mon_msg.specs.declared.clients.Clients.{Clients}
 use Rattle.mon_msg.specs.declared.input.Input.TheVariants as input
 use Rattle.mon_msg.specs.declared.input.Input.{Input}
+use Rattle.mon_msg.specs.declared.plan.Origin.TheVariants as origin
 use Rattle.mon_msg.specs.declared.plan.Sent.TheVariants as sent
 use Rattle.mon_msg.specs.declared.plan.Sent.{Sent}
 use Rattle.mon_msg.specs.declared.synchronization.SyncStage.TheVariants as sync
-use Rattle.mon_msg.specs.declared.synchronization.SyncStage.{SyncStage}
 use Rattle.mon_msg.specs.declared.view.Me.{Me}
 use Rattle.mon_tx.specs.declared.op.Op.{Op}
-use Rattle.mon_types.specs.Ranks.{count_of, has, with_rank, is_majority}
-use Rattle.mon_types.specs.declared.names.Which.TheVariants as which
 use Rattle.mon_wire.specs.declared.body.Body.TheVariants as body
 use Rattle.mon_wire.specs.declared.body.Body.{Body}
-use Rattle.mon_wire.specs.declared.parts.Cookie.{Cookie}
-use Rattle.mon_wire.specs.declared.parts.Place.{Place as ChunkPlace}
-use Rattle.mon_wire.specs.declared.parts.Told.{Told}
 use Rattle.mon_wire.specs.declared.phase.Phase.TheVariants as phase
+use Rattle.mon_wire.specs.declared.phase.Phase.{Phase}
 use Rattle.mon_wire.specs.declared.phase.Timer.TheVariants as timer
 use Rattle.mon_wire.specs.declared.phase.Timer.{Timer}
-use Rattle.mon_wire.specs.declared.reply.Reply.TheVariants as reply
 use Rattle.mon_wire.specs.declared.reply.Reply.{Reply}
 use Rattle.mon_wire.specs.declared.request.Session.{Session}
-use Rattle.quorum_agreement.proofs.Accepting.{begun, begun_is, then_map}
-use Rattle.quorum_history.proofs.Phases.{collecting_is, no}
-use Rattle.quorum_walk.proofs.Learning.{Same, learns}
-use Rattle.quorum_walk.proofs.Lists.{Among, all_map}
-use Rattle.quorum_walk.proofs.Walk.{Then, and_then, and_three, by_test, done, or_three, where_fits}
-use Rattle.std.proofs.Common.{Bool, List, None, Ok, Option, Some, [], ap, arith, eqb, false, inl, inr, leb, length, ltb, map, not, refl, subst, suc, sym, true, ℕ, ◌&&◌, ◌+◌, ◌-◌, ◌||◌, ◌∙◌, ◌∷◌, ◌≡◌, ◌⊎◌}
-use Rattle.std.proofs.lemmas.Bool.{cond_both, eqb-true, ltb-false, not-false}
-use Rattle.std.specs.List.{AllByRecursion, filter}
-use Rattle.std.specs.Prelude.{is_some, slice_index_or}
+use Rattle.quorum_commands.proofs.Sends.{AllOther, HandsNone, IsOther}
 use Rattle.quorum_commands.specs.Unmade.{AcknowledgesNone}
-use Rattle.quorum_commands.proofs.Acts.{AllOther, Anew, Called, Goes, HandsNone, IsOther, Unpending, answer_none, answers_none, bootstraps, chunk_none, collects, elects, more, settles, to_each, wins}
+use Rattle.quorum_history.proofs.Phases.{no}
+use Rattle.std.proofs.Common.{Bool, List, None, Some, [], ap, arith, eqb, false, inl, inr, ltb, map, not, refl, subst, suc, sym, true, ℕ, ◌++◌, ◌+◌, ◌-◌, ◌<◌, ◌∙◌, ◌∷◌, ◌≡◌, ◌⊎◌}
+use Rattle.std.proofs.lemmas.Bool.{cond_both, eqb-false, eqb-true, not-true}
+use Rattle.std.specs.List.{AllByRecursion, filter}
+use Rattle.table_walk.proofs.Acts.{acts_of}
+use Rattle.table_walk.proofs.Lists.{Among, all_append, all_map, all_of}
+use Rattle.table_walk.proofs.Steps.{CommandOf, FoundOf, HeardFrom, HeardLast, InHand, MayAnswer, MayCopy, MayLead, MayLearn, MaySay, MaySend, MayWrite, Nothing, ReadOf, Steps, ValueOf, accepted_by_all, alone, brought, chosen, copied_chunk, copied_last_chunk, from_chunk, from_commit, from_last, from_last_chunk, leads_still, learned_value, only_member, origin_of, stood}
+use Rattle.table_walk.proofs.Table.{walked}
+use Rattle.table_walk.proofs.Walk.{Then, and_three}
 
 -- ---- which input may bring a command
 
@@ -121,95 +103,11 @@ module _ (me : Me) (now : ℕ) (w : Readings) (s : State) (Settled : Session →
     pub leads : is_leading y.state.phase ≡ true → Leads y.state.clients
     pub last : Alone → y.readings.last ≡ w.last
 
-  -- ---- what that is in an event
-
-  -- nothing more is pending than before, and no version is new
-  abbrev NothingNew : Course → Type 0
-  NothingNew x = Alone → (pending x.readings ≡ None) × (x.readings.last ≡ w.last)
-
-  at_first : Alone → (pending w ≡ None) × (w.last ≡ w.last)
-  at_first a = (a.none, refl)
-
-  anew : (x : Course) → AllOther x.out → NothingNew x → Then Idle (bootstrap me now x)
-  anew x O S = then_map (Anew me now x) Idle (bootstrap me now x) (λ y A. record { out = all_fair y.out A.out; clients = inr A.clients; leads = λ t. inr (inr (inr (A.leads t))); last = λ a. A.last (S a).0 ∙ (S a).1 }) (bootstraps me now x O)
-
-  called : (x : Course) → AllOther x.out → NothingNew x → Then Idle (elect me now x)
-  called x O S = then_map (Called x) Idle (elect me now x) (λ y C. record { out = all_fair y.out C.out; clients = inr C.clients; leads = λ t. no (sym (ap is_leading C.in_phase) ∙ t); last = λ a. C.last ∙ (S a).1 }) (elects me now x O)
-
-  won : (q : List Bool) (x : Course) → x.state.clients ≡ s.clients → AllOther x.out → NothingNew x → ((votes s.phase ≡ true) × (is_even (epoch_of w) ≡ false)) ⊎ (same_phase s.phase phase.Electing ≡ true) → Then Idle (win me now q x)
-  won q x same O S how = then_map (Goes x (Unpending x)) Idle (win me now q x)
-      (λ y G. record { out = all_fair y.out G.out; clients = inl (same_clients y.state.clients s.clients (G.clients ∙ same)); leads = λ t. inr (by how); last = λ a. G.last (S a).0 ∙ (S a).1 }) (wins me now q x O)
-    where
-      by : ((votes s.phase ≡ true) × (is_even (epoch_of w) ≡ false)) ⊎ (same_phase s.phase phase.Electing ≡ true) → ((votes s.phase ≡ true) × (is_even (epoch_of w) ≡ false)) ⊎ ((same_phase s.phase phase.Electing ≡ true) ⊎ (ltb 1 me.member.monitors ≡ false))
-      by (inl k) = inl k
-      by (inr k) = inr (inl k)
-
-  -- its phase and its clients are what they were
-  fairly : (y : Course) → AllFair y.out → y.state.phase ≡ s.phase → SameClients y.state.clients s.clients → (Alone → y.readings.last ≡ w.last) → Then Idle (Ok y)
-  fairly y O same c last = done (record { out = O; clients = inl c; leads = λ t. inl (sym (ap is_leading same) ∙ t, c); last = last })
-
-  quiet : (y : Course) → AllOther y.out → y.state.phase ≡ s.phase → SameClients y.state.clients s.clients → (Alone → y.readings.last ≡ w.last) → Then Idle (Ok y)
-  quiet y O same c last = fairly y (all_fair y.out O) same c last
-
-  -- it doesn't lead
-  follows : (y : Course) → AllOther y.out → is_leading y.state.phase ≡ false → SameClients y.state.clients s.clients → (Alone → y.readings.last ≡ w.last) → Then Idle (Ok y)
-  follows y O not_leading c last = done (record { out = all_fair y.out O; clients = inl c; leads = λ t. no (sym not_leading ∙ t); last = last })
-
   abbrev x0 : Course
   x0 = at_rest w s
 
-  pub rests : Then Idle (Ok x0)
-  rests = quiet x0 tt refl (refl, refl) (λ a. refl)
-
-  pub says : (sends : List Sent) → AllFair sends → Then Idle (Ok (record x0 { out = sends }))
-  says sends O = fairly _ O refl (refl, refl) (λ a. refl)
-
-  pub starts : Then Idle (start me now x0)
-  unfolding start
-  starts = where_fits Idle which.Boot (suc w.boot) _ (λ _. by (not (is_some w.epoch)))
-    where
-      by : (b : Bool) → Then Idle (x0 ▸ change (Boot (suc w.boot)) ▸ change_if b (Epoch 1) ▸ elector_is (first_elector me now (suc w.boot) s.elector) ▸ arm_if (scores_count me.rule) now timer.Ping ▸ bootstrap me now)
-      by true = anew _ tt at_first
-      by false = anew _ tt at_first
-
-  election_over : (ts : List (Option ℕ)) → Then Idle (election_ends me now (at_rest w (record s { timers = ts })))
-  unfolding election_ends
-  election_over ts =
-      by_test (not (same_phase s.phase phase.Electing)) (λ _. quiet _ tt refl (refl, refl) (λ a. refl))
-      (λ t. by_test (s.elector.candidate && is_allowed me me.member.rank && is_majority me.member.monitors s.elector.acked) (λ _. won s.elector.acked _ refl tt at_first (inr (not-false _ t))) (λ _. called _ tt at_first))
-
-  renews : (ts : List (Option ℕ)) → Then Idle (renew me now (at_rest w (record s { timers = ts })))
-  unfolding renew extend
-  renews ts = by_test (not (same_phase s.phase phase.Active)) (λ _. quiet _ tt refl (refl, refl) (λ a. refl))
-      (λ _. quiet _ (to_each me (epoch_of w) (body.Lease w.last) tt (members me s.leader.quorum)) refl (refl, refl) (λ a. refl))
-
-  replays : (ts : List (Option ℕ)) → Then Idle (replay_step me now (at_rest w (record s { timers = ts })))
-  unfolding replay_step
-  replays ts = by_test (same_phase s.phase phase.Synchronizing) (λ t. in_stage t s.requester.stage refl) (λ _. quiet _ tt refl (refl, refl) (λ a. refl))
-    where
-      any : (next end : ℕ) (o : Option (List (List Op))) → (Alone → ⊥) → Then Idle (replay_any me now next end o (at_rest w (record s { timers = ts })))
-      any next end None none = anew _ tt at_first
-      any next end (Some values) none = by_test (ltb end (next + length values)) (λ _. anew _ tt (λ a. absurd (none a))) (λ _. quiet _ tt refl (refl, refl) (λ a. absurd (none a)))
-
-      in_stage : same_phase s.phase phase.Synchronizing ≡ true → (z : SyncStage) → s.requester.stage ≡ z → Then Idle (step_in me now z (at_rest w (record s { timers = ts })))
-      in_stage t sync.Cookie e = quiet _ tt refl (refl, refl) (λ a. refl)
-      in_stage t sync.Chunks e = quiet _ tt refl (refl, refl) (λ a. refl)
-      in_stage t (sync.Replay next end) e = any next end (step_of w.record_of (suc end - next) next) (λ a. a.replays next end t e)
-
-  -- a timer but for the one by which commands are proposed
-  pub rings : (t : Timer) → timer_brings t ≡ false → Then Idle (timer_comes me now t (disarm t x0))
-  unfolding ping
-  rings timer.Probe o = anew _ tt at_first
-  rings timer.Election o = election_over (disarm timer.Election x0).state.timers
-  rings timer.Collect o = anew _ tt at_first
-  rings timer.Accept o = anew _ tt at_first
-  rings timer.Renew o = renews (disarm timer.Renew x0).state.timers
-  rings timer.LeaseAck o = anew _ tt at_first
-  rings timer.Lease o = anew _ tt at_first
-  rings timer.Sync o = anew _ tt at_first
-  rings timer.Step o = replays (disarm timer.Step x0).state.timers
-  rings timer.Propose o = no (sym o)
-  rings timer.Ping o = quiet _ (to_each me (epoch_of w) (body.Ping (own_table me (elector_is (measure me now s.elector) x0))) tt (others me)) refl (refl, refl) (λ a. refl)
+  pub says : (sends : List Sent) → AllFair sends → Idle (record x0 { out = sends })
+  says sends O = record { out = O; clients = inl (refl, refl); leads = λ t. inl (t, (refl, refl)); last = λ a. refl }
 
   -- what comes back to a session that waits under this number settles it
   abbrev pub Returns : (e seq : ℕ) → Reply → Type 0
@@ -220,257 +118,169 @@ module _ (me : Me) (now : ℕ) (w : Readings) (s : State) (Settled : Session →
   BodyReturns e (body.Route seq r) = Returns e seq r
   BodyReturns e other = Unit {0}
 
-  -- ---- what another monitor says
+  -- what is known of a message that comes
+  abbrev pub Heard : Input → Type 0
+  Heard (input.Deliver m) = (m.from < me.member.monitors) × BodyReturns m.epoch m.body
+  Heard other = Unit {0}
 
-  module _ (several : me.member.monitors ≡ 1 → ⊥) where
-    among : {A : Type 0} → Alone → A
-    among a = absurd (several a.one)
+  -- ---- each step
 
-    probed : (f : ℕ) → Then Idle (hear_probe me f x0)
-    unfolding hear_probe
-    probed f = by_test w.marked (λ _. rests) (λ _. says _ (tt, tt))
+  -- nothing more is pending than before, and no version is new
+  record IdleAt (sent : List Sent) (c : Clients) (p : Phase) (r : Readings) : Type 0 where
+    out : AllFair sent
+    clients : SameClients c s.clients ⊎ (c ≡ no_clients)
+    leads : is_leading p ≡ true → Leads c
+    last : Alone → (pending r ≡ None) × (r.last ≡ w.last)
 
-    probe_answered : (f : ℕ) (q : List Bool) (first last : ℕ) → Then Idle (hear_probe_reply me now f q first last x0)
-    unfolding hear_probe_reply full_sync recent_sync
-    probe_answered f q first last =
-        by_test (not (same_phase s.phase phase.Probing)) (λ _. rests) (λ _.
-        by_test w.marked (λ _. by_test (leb 1 last && leb w.floor last) (λ _. follows _ (tt, tt) refl (refl, refl) among) (λ _. rests)) (λ _.
-        by_test (ltb w.last first && ltb 1 first) (λ _. follows _ (tt, tt) refl (refl, refl) among) (λ _.
-        by_test (ltb (w.last + lag) last) (λ _. follows _ (tt, tt) refl (refl, refl) among) (λ _.
-        by_test (ltb 0 (count_of q)) (λ _. called x0 tt among) (λ _.
-        by_test (is_majority me.member.monitors (with_rank s.prober.outside f)) (λ _. called _ tt among) (λ _. quiet _ tt refl (refl, refl) among))))))
+  abbrev IdleIn : Course → Type 0
+  IdleIn x = IdleAt x.out x.state.clients x.state.phase x.readings
 
-    weighs : (table : Scores) (f : ℕ) (x : Course) → AllOther x.out → Idle x → Then Idle (weigh me now table f x)
-    weighs table f x O K =
-        by_test (is_allowed me f && stands_before me table f me.member.rank) (λ _. by_test (may_defer me table f x.state.elector.deferred)
-        (λ _. done (record { out = all_fair _ (more x.out (message_to me (epoch_of x.readings) body.Ack f ∷ []) O (tt, tt)); clients = K.clients; leads = K.leads; last = K.last })) (λ _. done K))
-        (λ _. by_test (not (is_some x.state.elector.deferred) && not x.state.elector.candidate) (λ _. called x O among) (λ _. done K))
+  -- other numbers are read
+  reads : {o : List Sent} {c : Clients} {p : Phase} {r : Readings} (q : Readings) → (Alone → (pending q ≡ None) × (q.last ≡ w.last)) → IdleAt o c p r → IdleAt o c p q
+  reads q last A = record { out = A.out; clients = A.clients; leads = A.leads; last = last }
 
-    proposed : (f e : ℕ) (table : Option Scores) → Then Idle (hear_propose me now f e table x0)
-    unfolding hear_propose adopt
-    proposed f e table =
-        by_test (not (votes s.phase) || is_even e) (λ _. rests) (λ _.
-        by_test (ltb e (epoch_of w)) (λ _. by_test (is_even (epoch_of w) && not (has (quorum_of s) f)) (λ _. called x0 tt among) (λ _. rests)) (λ _.
-        by_test (ltb (epoch_of w) e)
-        (λ _. weighs (table_or table s.elector.scores) f (merge table (adopt now e x0)) tt (record { out = tt; clients = inr refl; leads = λ t. no t; last = among }))
-        (λ _. weighs (table_or table s.elector.scores) f (merge table x0) tt (record { out = tt; clients = inl (refl, refl); leads = λ t. inl (t, (refl, refl)); last = among }))))
+  sends : {o : List Sent} {c : Clients} {p : Phase} {r : Readings} (more : List Sent) → AllFair more → IdleAt o c p r → IdleAt (o ++ more) c p r
+  sends {o} more k A = record { out = all_append IsFair o more A.out k; clients = A.clients; leads = A.leads; last = A.last }
 
-    acked : (f e : ℕ) → Then Idle (hear_ack me now f e x0)
-    unfolding hear_ack adopt
-    acked f e =
-        by_test (not (votes s.phase) || is_even e || ltb e (epoch_of w)) (λ _. rests) (λ heard.
-        by_test (ltb (epoch_of w) e) (λ _. called _ tt among) (λ low.
-        by_test s.elector.candidate (λ _. by_test (is_whole me (with_rank s.elector.acked f) && is_allowed me me.member.rank) (λ _. won (with_rank s.elector.acked f) _ refl tt among (inl (odd heard low))) (λ _. quiet _ tt refl (refl, refl) among)) (λ _. rests)))
+  idle : (x : Course) → IdleIn x → Idle x
+  idle x A = record { out = A.out; clients = A.clients; leads = A.leads; last = λ a. (A.last a).1 }
+
+  module _ (shared : List Entry) (came : Input) (none : brings came ≡ false) (heard : Heard came) where
+    -- no command and no read is in hand, and a value only at one of several monitors
+    abbrev HandIdle : InHand → Type 0
+    HandIdle Nothing = Unit {0}
+    HandIdle (FoundOf found) = Alone → found ≡ None
+    HandIdle (ValueOf value o) = Alone → ⊥
+    HandIdle other = ⊥
+
+    abbrev Goes : InHand → Course → Type 0
+    Goes h x = IdleIn x × HandIdle h
+
+    brings_none : (c : Input) → brings c ≡ false → HandIdle (brought c)
+    brings_none input.Start k = tt
+    brings_none (input.Deliver m) k = tt
+    brings_none (input.Timer t) k = tt
+    brings_none (input.Client u r) k = no (sym k)
+
+    -- who hears another isn't alone
+    several : {f e : ℕ} {m : Body} → HeardFrom me came f e m → Alone → ⊥
+    several C a =
+        let lt = (subst Heard C.is heard).0 in
+        let apart = eqb-false C.message.from me.member.rank (not-true _ (and_three (not (eqb C.message.from me.member.rank)) _ _ C.heard).0) in
+        let one = a.one in
+        apart (let own = me.member.in_map in omega arith)
+
+    forwards_none : {f e seq : ℕ} {c : Command} → HeardFrom me came f e (body.Forward seq c) → ⊥
+    forwards_none C = no (sym none ∙ ap brings C.is ∙ ap body_brings C.says)
+
+    learns_none : {h : InHand} {x : Course} (values : List (List Op)) → MayLearn me came x h values → HandIdle h → Alone → ⊥
+    learns_none values (from_last n C) k = several C
+    learns_none values (from_commit n C) k = several C
+    learns_none values (from_chunk C) k = several C
+    learns_none values (from_last_chunk C) k = several C
+    learns_none values (accepted_by_all e C) k = several C.said
+    learns_none values alone k = k
+
+    copies_none : (values : List (List Op)) (entries : List Entry) → MayCopy me came values entries → Alone → ⊥
+    copies_none values entries (copied_chunk C) = several C
+    copies_none values entries (copied_last_chunk C) = several C
+
+    writes_idle : (x : Course) (c : Change) → MayWrite me s came c → IdleIn x → IdleIn (change c x)
+    writes_idle x (Epoch e) k A = reads (play (Epoch e) x.readings) A.last A
+    writes_idle x (Numbers pn) k A = reads (play (Numbers pn) x.readings) A.last A
+    writes_idle x (Promise pn) k A = reads (play (Promise pn) x.readings) A.last A
+    writes_idle x Unmark k A = reads (play Unmark x.readings) A.last A
+    writes_idle x (Last v) k A = reads (play (Last v) x.readings) (λ a. absurd (a.replays k.1.0 v k.0 k.1.1)) A
+    writes_idle x other k A = absurd k
+
+    says_fair : (h : InHand) (x : Course) (m : Body) → MaySay me shared h x m → HandsNone m
+    says_fair h x (body.Forward seq c) k = absurd k
+    says_fair h x (body.Route seq r) k = absurd k
+    says_fair h x other k = tt
+
+    sends_fair : (h : InHand) (x : Course) (m : Sent) → MaySend me shared h x m → IsFair m
+    sends_fair h x (sent.Message to m) k = says_fair h x m.body k.2
+    sends_fair h x (sent.Reply t r) k = absurd k
+
+    answers_fair : (e : ℕ) (x : Course) (h : InHand) (r : Reply) → MayAnswer me now x h r → HandIdle h → AllFair (answers_to me e (origin_of h) r)
+    answers_fair e x (ValueOf value None) r (learned_value v) k = tt
+    answers_fair e x (ValueOf value (Some (origin.Session u))) r (learned_value v) k = ((λ z. absurd z), tt)
+    answers_fair e x (ValueOf value (Some (origin.Forwarded f seq))) r (learned_value v) k = ((λ z. z), tt)
+    answers_fair e x (CommandOf c o) r a k = absurd k
+    answers_fair e x (ReadOf u) r a k = absurd k
+    answers_fair e x (FoundOf found) r a k = tt
+    answers_fair e x Nothing r a k = tt
+
+    leads_so : (x : Course) → MayLead me w s x → IdleIn x → Leads x.state.clients
+    leads_so x (leads_still t) A = A.leads t
+    leads_so x (chosen v odd) A = inr (inl (v, odd))
+    leads_so x (stood t) A = inr (inr (inl t))
+    leads_so x (only_member t) A = inr (inr (inr t))
+
+    found_none : (x : Course) → HeardLast me came ⊎ (x.state.leader.found ≡ pending x.readings) → IdleIn x → Alone → x.state.leader.found ≡ None
+    found_none x (inl H) A a = absurd (several H.said a)
+    found_none x (inr e) A a = e ∙ (A.last a).0
+
+    -- a reply that a leader routes goes to those that wait under its number
+    routes_fair : (f e seq : ℕ) (r : Reply) → HeardFrom me came f e (body.Route seq r) → of_leader f e x0 ≡ true → AllFair (map (λ (a : Asked). sent.Reply a.session r) (filter (λ (a : Asked). eqb a.seq seq) s.clients.sessions))
+    routes_fair f e seq r C t =
+        let k = and_three (is_peon s.phase) (eqb e (epoch_of w)) (eqb f s.peon.leader) t in
+        let known : BodyReturns C.message.epoch C.message.body = (subst Heard C.is heard).1 in
+        each k.0 (eqb-true e (epoch_of w) k.1) (subst (λ (n : ℕ). Returns n seq r) C.epoch (subst (BodyReturns C.message.epoch) C.says known)) s.clients.sessions (λ a z. z)
       where
-        odd : (not (votes s.phase) || is_even e || ltb e (epoch_of w)) ≡ false → ltb (epoch_of w) e ≡ false → (votes s.phase ≡ true) × (is_even (epoch_of w) ≡ false)
-        odd heard low =
-            let t = or_three (not (votes s.phase)) (is_even e) (ltb e (epoch_of w)) heard in
-            let same : e ≡ epoch_of w = let a = ltb-false e (epoch_of w) t.2 in let b = ltb-false (epoch_of w) e low in omega arith in
-            (not-false _ t.0, subst (λ (z : ℕ). is_even z ≡ false) same t.1)
+        each : is_peon s.phase ≡ true → e ≡ epoch_of w → Returns e seq r → (xs : List Asked) → ((a : Asked) → Among a xs → Among a s.clients.sessions) → AllFair (map (λ (a : Asked). sent.Reply a.session r) (filter (λ (a : Asked). eqb a.seq seq) xs))
+        each p n K [] k = tt
+        each p n K (a ∷ xs) k =
+            cond_both (eqb a.seq seq) (a ∷ filter (λ (b : Asked). eqb b.seq seq) xs) (filter (λ (b : Asked). eqb b.seq seq) xs) (λ (ys : List Asked). AllFair (map (λ (b : Asked). sent.Reply b.session r) ys))
+            (λ q. ((λ u. K u p n a (k a (inl refl)) (eqb-true a.seq seq q)), each p n K xs (λ b o. k b (inr o))))
+            (λ q. each p n K xs (λ b o. k b (inr o)))
 
-    victory : (f e : ℕ) (q : List Bool) → Then Idle (hear_victory me now f e q x0)
-    unfolding hear_victory
-    victory f e q =
-        by_test (not (votes s.phase) || not (is_even e) || leb e (epoch_of w)) (λ _. rests) (λ _.
-        by_test (not (eqb e (suc (epoch_of w)))) (λ _. called _ tt among) (λ _. by_test (has q me.member.rank && has q f && is_majority me.member.monitors q) (λ _. follows _ tt refl (refl, refl) among) (λ _. rests)))
+    rest : IdleIn x0
+    rest = record { out = tt; clients = inl (refl, refl); leads = λ t. inl (t, (refl, refl)); last = λ a. (a.none, refl) }
 
-    -- ---- a peon
-
-    collect_heard : (f e pn first last : ℕ) → Then Idle (hear_collect me now f e pn first last x0)
-    unfolding hear_collect
-    collect_heard f e pn first last =
-        by_test (not (of_leader f e x0)) (λ _. rests) (λ _. by_test (ltb (suc w.last) first) (λ _. anew x0 tt among) (λ _.
-        where_fits Idle which.Version (suc last) _ (λ _. quiet _ (answer_none me.member.monitors (x0 ▸ cancel ▸ promise pn).readings (suc last), tt) refl (refl, refl) among)))
-
-    begin_heard : (f e pn v : ℕ) (value : List Op) → Then Idle (hear_begin me f e pn v value x0)
-    unfolding hear_begin
-    begin_heard f e pn v value = by_test (not (of_leader f e x0 && eqb pn (promise_of w) && eqb v (suc w.last))) (λ _. rests) (λ _. quiet _ (tt, tt) refl (refl, refl) among)
-
-    -- what is remembered and sent is the same
-    as_before : (y : Course) → y.state ≡ s → y.out ≡ [] → Idle y
-    as_before y same out = record {
-      out = subst AllFair (sym out) tt;
-      clients = inl (same_clients y.state.clients s.clients (ap (λ (z : State). z.clients) same));
-      leads = λ t. inl (sym (ap (λ (z : State). is_leading z.phase) same) ∙ t, same_clients y.state.clients s.clients (ap (λ (z : State). z.clients) same));
-      last = among;
+    idling : Steps me now shared w s came Goes Idle
+    unfolding full_sync begin_with
+    idling = record {
+      before = λ k. (rest, brings_none came none);
+      boots = λ is boots short. (reads (play (Boot (suc w.boot)) w) rest.last rest, tt);
+      after = λ {x = x} A. idle x A.0;
+      marks = λ f C why A. record { out = (tt, tt); clients = inl (refl, refl); leads = λ t. no t; last = λ a. absurd (several C a) };
+      answers_probe = λ f e A. says _ (tt, tt);
+      proposes = λ {x = x} z value o short leads A. record {
+        out = all_append IsFair x.out _ A.0.out (all_of IsFair (message_to me (epoch_of x.readings) (body.Begin x.state.leader.pn (suc x.readings.last) value)) (λ to. tt) (members me x.state.leader.quorum));
+        clients = A.0.clients;
+        leads = λ t. A.0.leads leads;
+        last = λ a. (A.0.last a).1;
+      };
+      votes = λ {x = x} f e pn v value C t A. record { out = all_append IsFair x.out (message_to me (epoch_of x.readings) (body.Accept pn v) f ∷ []) A.0.out (tt, tt); clients = A.0.clients; leads = A.0.leads; last = λ a. absurd (several C a) };
+      writes = λ {x = x} c k A. (writes_idle x c k A.0, A.1);
+      learns = λ {x = x} v value values k short A. (reads _ (λ a. absurd (learns_none (value ∷ values) k A.1 a)) A.0, A.1);
+      replays = λ left v end values t z e A. (reads _ (λ a. absurd (a.replays v end t z)) A.0, tt);
+      copies = λ v values entries k A. (reads _ (λ a. absurd (copies_none values entries k a)) A.0, A.1);
+      sends = λ {h = h} {x = x} more k A. (sends more (all_map (MaySend me shared h x) IsFair (sends_fair h x) more k) A.0, A.1);
+      enters = λ {x = x} p k A. (record { out = A.0.out; clients = A.0.clients; leads = λ t. leads_so x (k t) A.0; last = A.0.last }, A.1);
+      timers = λ ts A. A;
+      elector = λ e A. A;
+      prober = λ p A. A;
+      peon = λ p k A. A;
+      provider = λ p A. A;
+      requester = λ q k A. A;
+      leader = λ l A. A;
+      finds = λ l k A. A;
+      collects = λ q pn short A. A;
+      forgets = λ k A. (record { out = A.0.out; clients = inr refl; leads = λ t. no (sym k ∙ t); last = A.0.last }, A.1);
+      takes_queued = λ q qs e is due A. no (sym none ∙ ap brings is);
+      takes_forwarded = λ f e seq c C new A. absurd (forwards_none C);
+      takes_found = λ {x = x} how A. (A.0, found_none x how A.0);
+      takes_value = λ value C e A. (A.0, several C);
+      makes_value = λ c o ops short e active A. absurd A.1;
+      proposes_found = λ found A. (A.0, λ a. let bad = A.1 a in absurd cc);
+      drops_found = λ found A. (A.0, tt);
+      queues = λ c o short A. absurd A.1;
+      forwards = λ c u peon short fits A. absurd A.1;
+      routes = λ f e seq r C t A. (record { out = routes_fair f e seq r C t; clients = inl (refl, refl); leads = λ z. inl (z, (refl, refl)); last = λ a. (a.none, refl) }, tt);
+      answers = λ {x = x} h r k A. (sends (answers_to me (epoch_of x.readings) (origin_of h) r) (answers_fair (epoch_of x.readings) x h r k A.1) A.0, tt);
     }
 
-    commit_heard : (f e from : ℕ) (values : List (List Op)) → Then Idle (hear_commit f e from values x0)
-    unfolding hear_commit
-    commit_heard f e from values = by_test (not (of_leader f e x0) || ltb (suc w.last) from) (λ _. rests)
-        (λ _. then_map (Same x0) Idle (learn (suc w.last) (news w.last from values) x0) (λ y k. as_before y k.state k.out) (learns (suc w.last) (news w.last from values) x0))
-
-    lease_heard : (f e last : ℕ) → Then Idle (hear_lease me now f e last x0)
-    unfolding hear_lease
-    lease_heard f e last = by_test (not (of_leader f e x0) || not (eqb last w.last) || is_some (pending w)) (λ _. rests) (λ _. quiet _ (tt, tt) refl (refl, refl) among)
-
-    -- ---- a leader
-
-    -- it led, and its clients are the same
-    leading : is_leading s.phase ≡ true → (x y : Course) (U : Type 0) → x.state.clients ≡ s.clients → Goes x U y → Idle y
-    leading t x y U same G = let c = same_clients y.state.clients s.clients (G.clients ∙ same) in record { out = all_fair y.out G.out; clients = inl c; leads = λ _. inl (t, c); last = among }
-
-    abbrev Noted : Course → Course → Type 0
-    Noted y z = (z.out ≡ y.out) × (z.state.clients ≡ y.state.clients)
-
-    last_heard : (f e pn first last : ℕ) (whole : Bool) (from : ℕ) (values : List (List Op)) (told : Option Told) → Then Idle (hear_last me now f e pn first last whole from values told x0)
-    unfolding hear_last
-    last_heard f e pn first last whole from values told =
-        by_test (not (of_member (phase.Collecting ∷ []) f e x0)) (λ _. rests) (λ heard.
-        let t = and_three (same_phase s.phase phase.Collecting || false) (eqb e (epoch_of w)) (has s.leader.quorum f) (not-false _ heard) in
-        let leads = ap is_leading (collecting_is s.phase t.0) in
-        by_test (ltb s.leader.pn pn) (λ _. collects_on leads s.leader.quorum pn x0 refl tt) (λ _.
-        by_test (ltb pn s.leader.pn) (λ _. rests) (λ _.
-        by_test (ltb (suc w.last) first && ltb w.last last) (λ _. anew x0 tt among) (λ _.
-        and_then (Same x0) Idle (learn (news_from w.last from) (news w.last from values) x0) _ (learns (news_from w.last from) (news w.last from values) x0)
-        (λ y k. by_test whole (λ _. heard_whole leads y k.state k.out) (λ _. collects_on leads y.state.leader.quorum 0 y (ap (λ (z : State). z.clients) k.state) (subst AllOther (sym k.out) tt)))))))
-      where
-        collects_on : is_leading s.phase ≡ true → (q : List Bool) (above : ℕ) (x : Course) → x.state.clients ≡ s.clients → AllOther x.out → Then Idle (collect me now q above x)
-        collects_on t q above x same O = then_map _ Idle (collect me now q above x) (λ y G. leading t x y (Unpending x) same G) (collects me now q above x O)
-
-        notes : (o : Option Told) (y : Course) → Then (Noted y) (note_pending f last o y)
-        notes None y = done (refl, refl)
-        notes (Some t) y = where_fits (Noted y) which.Version (suc last) _ (λ _. done (refl, refl))
-
-        heard_whole : is_leading s.phase ≡ true → (y : Course) → y.state ≡ s → y.out ≡ [] → Then Idle (hear_whole me now f last told y)
-        heard_whole t y same out =
-            and_then (Noted y) Idle (note f last told y) _ (notes (counts told) y)
-            (λ z N.
-            let c : z.state.clients ≡ s.clients = N.1 ∙ ap (λ (q : State). q.clients) same in
-            let O : AllOther z.out = subst AllOther (sym (N.0 ∙ out)) tt in
-            by_test (all_answered me z) (λ _. then_map _ Idle (settle me now z) (λ u G. leading t z u (z.state.leader.found ≡ None) c G) (settles me now z O))
-            (λ _. done (leading t z z (Unit {0}) c (record { out = O; clients = refl; last = λ u. refl }))))
-
-    abbrev counted : ℕ → Course
-    counted f = x0 ▸ leader_is (record s.leader { accepted = with_rank s.leader.accepted f })
-
-    accept_heard : (f e pn v : ℕ) → Then Idle (hear_accept me now f e pn v x0)
-    unfolding hear_accept commit be_active extend
-    accept_heard f e pn v =
-        by_test (not (of_member (phase.Previous ∷ phase.Updating ∷ []) f e x0 && eqb pn s.leader.pn && eqb v (suc w.last))) (λ _. rests)
-        (λ t. by_test (all_accepted me (counted f)) (λ _. any (leads t) s.leader.value) (λ _. quiet _ tt refl (refl, refl) among))
-      where
-        leads : not (of_member (phase.Previous ∷ phase.Updating ∷ []) f e x0 && eqb pn s.leader.pn && eqb v (suc w.last)) ≡ false → is_leading s.phase ≡ true
-        leads t =
-            let b = and_three (of_member (phase.Previous ∷ phase.Updating ∷ []) f e x0) (eqb pn s.leader.pn) (eqb v (suc w.last)) (not-false _ t) in
-            let c = and_three (is_one_of begun s.phase) (eqb e (epoch_of w)) (has s.leader.quorum f) b.0 in
-            elim (begun_is s.phase c.0) [ inl e ↦ ap is_leading e | inr e ↦ ap is_leading e ]
-
-        commits : is_leading s.phase ≡ true → (value : List Op) → Then Idle (commit me now value (counted f))
-        commits t value = and_then (Same (counted f)) Idle (learn (suc w.last) (value ∷ []) (counted f)) _ (learns (suc w.last) (value ∷ []) (counted f)) (λ y K.
-            let c = same_clients y.state.clients s.clients (ap (λ (z : State). z.clients) K.state) in
-            done (record {
-              out = all_fair _ (more _ _ (more _ _ (more y.out _ (subst AllOther (sym K.out) tt) (to_each me (epoch_of y.readings) (body.Commit (suc w.last) (value ∷ [])) tt (members me y.state.leader.quorum)))
-                  (to_each me (epoch_of y.readings) (body.Lease y.readings.last) tt (members me y.state.leader.quorum))) (answers_none me (epoch_of y.readings) y.state.leader.origin (reply.Done (suc w.last)) (λ z. z)));
-              clients = inl c;
-              leads = λ _. inl (t, c);
-              last = among;
-            }))
-
-        any : is_leading s.phase ≡ true → (o : Option (List Op)) → Then Idle (commit_any me now o (counted f))
-        any t None = quiet _ tt refl (refl, refl) among
-        any t (Some value) = commits t value
-
-    lease_ack_heard : (f e last : ℕ) → Then Idle (hear_lease_ack me f e last x0)
-    unfolding hear_lease_ack
-    lease_ack_heard f e last = by_test (not (of_member (phase.Active ∷ []) f e x0 && eqb last w.last)) (λ _. rests) (λ _. quiet _ tt refl (refl, refl) among)
-
-    route_heard : (f e seq : ℕ) (r : Reply) → Returns e seq r → Then Idle (hear_route f e seq r x0)
-    unfolding hear_route
-    route_heard f e seq r K = by_test (not (of_leader f e x0)) (λ _. rests) (λ heard.
-        let t = and_three (is_peon s.phase) (eqb e (epoch_of w)) (eqb f s.peon.leader) (not-false _ heard) in
-        fairly _ (each t.0 (eqb-true e (epoch_of w) t.1) s.clients.sessions (λ a k. k)) refl (refl, refl) among)
-      where
-        each : is_peon s.phase ≡ true → e ≡ epoch_of w → (xs : List Asked) → ((a : Asked) → Among a xs → Among a s.clients.sessions) → AllFair (map (λ (a : Asked). sent.Reply a.session r) (filter (λ (a : Asked). eqb a.seq seq) xs))
-        each p n [] k = tt
-        each p n (a ∷ xs) k =
-            cond_both (eqb a.seq seq) (a ∷ filter (λ (b : Asked). eqb b.seq seq) xs) (filter (λ (b : Asked). eqb b.seq seq) xs) (λ (ys : List Asked). AllFair (map (λ (b : Asked). sent.Reply b.session r) ys))
-            (λ q. ((λ u. K u p n a (k a (inl refl)) (eqb-true a.seq seq q)), each p n xs (λ b o. k b (inr o))))
-            (λ q. each p n xs (λ b o. k b (inr o)))
-
-    -- ---- synchronization
-
-    grants : (full : Bool) (f : ℕ) → Then Idle (grant me full f x0)
-    grants full f = where_fits Idle which.Cookie s.provider.next_cookie _ (λ _. quiet _ (tt, tt) refl (refl, refl) among)
-
-    full_cookie : (f : ℕ) → Then Idle (hear_get_cookie_full me f x0)
-    unfolding hear_get_cookie_full
-    full_cookie f = by_test w.marked (λ _. rests) (λ _. grants true f)
-
-    recent_cookie : (f last : ℕ) → Then Idle (hear_get_cookie_recent me f last x0)
-    unfolding hear_get_cookie_recent
-    recent_cookie f last = by_test w.marked (λ _. rests) (λ _. by_test (ltb (suc last) w.first) (λ _. says _ (tt, tt)) (λ _. grants false f))
-
-    chunk_asked : (shared : List Entry) (f : ℕ) (c : Cookie) (p : ChunkPlace) → Then Idle (hear_get_chunk me shared f c p x0)
-    unfolding hear_get_chunk
-    chunk_asked shared f c p = by_test w.marked (λ _. rests) (λ _.
-        by_test (not (is_cookie c (slice_index_or s.provider.cookies f None)) || ltb (suc p.version) w.first) (λ _. says _ (tt, tt)) (λ _. says _ (chunk_none w.last c p (filter (is_after p.key) shared) me.member.monitors w.record_of, tt)))
-
-    cookie_heard : (f : ℕ) (full : Bool) (c : Cookie) (last : ℕ) → Then Idle (hear_cookie me now f full c last x0)
-    unfolding hear_cookie
-    cookie_heard f full c last = by_test (not (of_provider f x0 && awaits_cookie s.requester.stage && same_flag full s.requester.full) || (full && ltb last w.floor)) (λ _. rests) (λ _. quiet _ (tt, tt) refl (refl, refl) among)
-
-    no_cookie_heard : (f : ℕ) (c : Cookie) → Then Idle (hear_no_cookie me now f c x0)
-    unfolding hear_no_cookie
-    no_cookie_heard f c = by_test (of_provider f x0 && (is_cookie c s.requester.cookie || (awaits_cookie s.requester.stage && not s.requester.full && same_cookie c no_cookie))) (λ _. anew x0 tt among) (λ _. rests)
-
-    -- a chunk changes no more than what the requester remembers
-    abbrev Taken : Course → Type 0
-    Taken y = (y.out ≡ []) × (y.state.phase ≡ s.phase) × (y.state.clients ≡ s.clients)
-
-    copies : (full : Bool) (v : ℕ) (values : List (List Op)) (es : List Entry) → Then Taken (copy full v values es x0)
-    copies true v values es = done (refl, refl, refl)
-    copies false v values es = then_map (Same x0) Taken (learn v values x0) (λ y k. (k.out, ap (λ (z : State). z.phase) k.state, ap (λ (z : State). z.clients) k.state)) (learns v values x0)
-
-    takes : (p : ChunkPlace) (values : List (List Op)) (es : List Entry) (end : Bool) → Then Taken (take p values es end x0)
-    takes p values es end = where_fits Taken which.Version (p.version + length values) _ (λ _.
-        and_then Taken Taken (copy s.requester.full (suc p.version) values es x0) _ (copies s.requester.full (suc p.version) values es) (λ y T. done (T.0, T.1, T.2)))
-
-    chunk_heard : (f : ℕ) (c : Cookie) (p : ChunkPlace) (values : List (List Op)) (es : List Entry) (end : Bool) → Then Idle (hear_chunk me now f c p values es end x0)
-    unfolding hear_chunk
-    chunk_heard f c p values es end = by_test (is_ours f c p x0)
-        (λ _. and_then Taken Idle (take p values es end x0) _ (takes p values es end) (λ y T. quiet _ (more y.out _ (subst AllOther (sym T.0) tt) (tt, tt)) T.1 (same_clients y.state.clients s.clients T.2) among)) (λ _. rests)
-
-    last_chunk_heard : (f : ℕ) (c : Cookie) (p : ChunkPlace) (values : List (List Op)) (es : List Entry) (last : ℕ) → Then Idle (hear_last_chunk me now f c p values es last x0)
-    unfolding hear_last_chunk
-    last_chunk_heard f c p values es last = by_test (is_ours f c p x0)
-        (λ _. and_then Taken Idle (take p values es true x0) _ (takes p values es true) (λ y T. by_test y.state.requester.full
-        (λ _. where_fits Idle which.Version (suc y.state.requester.start) _ (λ _. quiet _ (subst AllOther (sym T.0) tt) T.1 (same_clients y.state.clients s.clients T.2) among)) (λ _. anew y (subst AllOther (sym T.0) tt) among))) (λ _. rests)
-
-    ping_heard : (f : ℕ) (table : Option Scores) → Then Idle (hear_ping me f table x0)
-    unfolding hear_ping
-    ping_heard f None = rests
-    ping_heard f (Some table) = quiet _ (tt, tt) refl (refl, refl) among
-
-    ping_answered : (f : ℕ) (table : Option Scores) → Then Idle (hear_ping_reply f table x0)
-    unfolding hear_ping_reply
-    ping_answered f None = rests
-    ping_answered f (Some table) = quiet _ tt refl (refl, refl) among
-
-    -- a message but for one that hands a command on
-    pub hears : (shared : List Entry) (f e : ℕ) (b : Body) → body_brings b ≡ false → BodyReturns e b → Then Idle (hear me shared now f e b x0)
-    hears shared f e body.Probe k z = probed f
-    hears shared f e (body.ProbeReply q first last) k z = probe_answered f q first last
-    hears shared f e (body.Propose table) k z = proposed f e table
-    hears shared f e body.Ack k z = acked f e
-    hears shared f e (body.Victory q) k z = victory f e q
-    hears shared f e (body.Collect pn first last) k z = collect_heard f e pn first last
-    hears shared f e (body.Last pn first last whole from values told) k z = last_heard f e pn first last whole from values told
-    hears shared f e (body.Begin pn v value) k z = begin_heard f e pn v value
-    hears shared f e (body.Accept pn v) k z = accept_heard f e pn v
-    hears shared f e (body.Commit from values) k z = commit_heard f e from values
-    hears shared f e (body.Lease last) k z = lease_heard f e last
-    hears shared f e (body.LeaseAck last) k z = lease_ack_heard f e last
-    hears shared f e (body.Forward seq c) k z = no (sym k)
-    hears shared f e (body.Route seq r) k z = route_heard f e seq r z
-    hears shared f e body.GetCookieFull k z = full_cookie f
-    hears shared f e (body.GetCookieRecent last) k z = recent_cookie f last
-    hears shared f e (body.Cookie full c last) k z = cookie_heard f full c last
-    hears shared f e (body.GetChunk c p) k z = chunk_asked shared f c p
-    hears shared f e (body.Chunk c p values es end) k z = chunk_heard f c p values es end
-    hears shared f e (body.LastChunk c p values es last) k z = last_chunk_heard f c p values es last
-    hears shared f e (body.NoCookie c) k z = no_cookie_heard f c
-    hears shared f e (body.Ping table) k z = ping_heard f table
-    hears shared f e (body.PingReply table) k z = ping_answered f table
-    hears shared f e (body.Request id r) k z = rests
-    hears shared f e (body.Reply id r) k z = rests
+    pub idles : Then Idle (react me shared now w s came)
+    idles = walked idling (acts_of idling)

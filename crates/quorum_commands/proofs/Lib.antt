@@ -1,4 +1,3 @@
-pub mod Acts
 pub mod Answered
 pub mod Basis
 pub mod Coming
@@ -7,6 +6,7 @@ pub mod Idle
 pub mod Places
 pub mod Repeating
 pub mod Runs
+pub mod Sends
 pub mod Sources
 pub mod Steps
 pub mod Taking

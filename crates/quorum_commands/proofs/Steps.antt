@@ -32,7 +32,7 @@ use Rattle.quorum_agreement.proofs.LoneWorlds.{IsWhole}
 use Rattle.quorum_agreement.proofs.Premises.{requests_in}
 use Rattle.quorum_agreement.proofs.Result.{OneLog}
 use Rattle.quorum_commands.proofs.Coming.{Brought, Does, leads_unmarked, me, next, phase_holds, versions}
-use Rattle.quorum_commands.proofs.Acts.{AllOther, HandsNone, IsCalm, IsOther, others_calm}
+use Rattle.quorum_commands.proofs.Sends.{AllOther, HandsNone, IsCalm, IsOther, others_calm}
 use Rattle.quorum_commands.proofs.Idle.{AllFair, Alone, Idle, IsFair, Leads, SameClients, brings}
 use Rattle.quorum_commands.proofs.Places.{AllWait, AskedAt, HasOwn, IsAt, IsForwarded, MadeAt, MadeOf, Moves, Place, Places, Nowhere, Handed, Queued, Begun, StillAt, Tickets, Waits, is_moved, moved_to, moves, own_lasts, wait_last, wait_push, was_there}
 use Rattle.quorum_commands.proofs.Repeating.{AllKnown, FitsIn, repeats}

@@ -19,19 +19,19 @@ use Rattle.mon_msg.specs.Protocol.Reads.{is_standing, read, shown, since}
 use Rattle.mon_msg.specs.Protocol.Sending.{answer_any, answer_to, members, message_to}
 use Rattle.mon_msg.specs.Protocol.Services.{service_last}
 use Rattle.mon_msg.specs.Protocol.State.{State, lease_of}
-use Rattle.mon_msg.specs.Protocol.Table.{at_rest, before_start, react, running, timer_comes}
+use Rattle.mon_msg.specs.Protocol.Table.{at_rest, react, timer_comes}
 use Rattle.mon_msg.specs.Protocol.Timers.{end_of}
 use Rattle.mon_msg.specs.Protocol.Value.{service_of, value}
 use Rattle.mon_msg.specs.declared.clients.Waiting.{Waiting}
 use Rattle.mon_msg.specs.declared.input.Input.TheVariants as input
 use Rattle.mon_msg.specs.declared.input.Input.{Input}
+use Rattle.mon_msg.specs.declared.limits.TheConstants.{MOST_WAITING}
 use Rattle.mon_msg.specs.declared.paxos.LeaderStage.TheVariants as stage
 use Rattle.mon_msg.specs.declared.plan.Origin.TheVariants as origin
 use Rattle.mon_msg.specs.declared.plan.Origin.{Origin}
 use Rattle.mon_msg.specs.declared.plan.Sent.TheVariants as sent
 use Rattle.mon_msg.specs.declared.plan.Sent.{Sent}
 use Rattle.mon_msg.specs.declared.view.Me.{Me}
-use Rattle.mon_msg.specs.declared.limits.TheConstants.{MOST_WAITING}
 use Rattle.mon_tx.specs.declared.op.Op.{Op}
 use Rattle.mon_types.specs.Ranks.{has}
 use Rattle.mon_types.specs.declared.names.Which.TheVariants as which
@@ -50,15 +50,15 @@ use Rattle.mon_wire.specs.declared.request.Request.{Request}
 use Rattle.mon_wire.specs.declared.request.Session.{Session}
 use Rattle.quorum_agreement.proofs.Accepting.{then_map}
 use Rattle.quorum_agreement.proofs.Lone.{active_is}
-use Rattle.quorum_commands.proofs.Acts.{AllOther, IsOther}
-use Rattle.quorum_commands.proofs.Idle.{AllFair, Idle, Returns, body_brings, brings, hears, rests, rings, says, starts}
+use Rattle.quorum_commands.proofs.Idle.{AllFair, BodyReturns, Heard, Idle, Returns, body_brings, brings, idles, says, timer_brings}
+use Rattle.quorum_commands.proofs.Sends.{AllOther, IsOther}
 use Rattle.quorum_history.proofs.Phases.{any_leads, no}
-use Rattle.quorum_walk.proofs.Learning.{LearnedOne, learns_one}
-use Rattle.quorum_walk.proofs.Lists.{all_of}
-use Rattle.quorum_walk.proofs.Walk.{Then, and_then, and_three, by_test, done, where_fits}
-use Rattle.std.proofs.Common.{Err, List, Ok, Option, Result, Some, [], ap, arith, eqb, false, inl, inr, leb, length, ltb, not, refl, subst, suc, sym, true, ℕ, ◌&&◌, ◌<◌, false, ◌++◌, ◌∙◌, ◌∷◌, ◌≡◌, ◌⊎◌}
+use Rattle.std.proofs.Common.{Bool, Err, List, Ok, Option, Result, Some, [], ap, eqb, false, inl, inr, leb, length, ltb, not, refl, subst, suc, sym, true, ℕ, ◌&&◌, ◌++◌, ◌<◌, ◌∙◌, ◌∷◌, ◌≡◌, ◌⊎◌}
 use Rattle.std.proofs.lemmas.Bool.{and_parts, eqb-false, eqb-true, not-false, not-true}
 use Rattle.std.specs.Prelude.{is_some, slice_index_or, slice_set}
+use Rattle.table_walk.proofs.Learning.{LearnedOne, learns_one}
+use Rattle.table_walk.proofs.Lists.{all_of}
+use Rattle.table_walk.proofs.Walk.{Then, and_then, and_three, by_test, done, where_fits}
 
 -- ---- what becomes of it
 
@@ -222,7 +222,7 @@ module _ (me : Me) (now : ℕ) (w : Readings) (s : State) (Source : Command → 
 
   -- nothing is done but what is said
   resting : (came : Input) (sends : List Sent) → AllFair me now w s Settled sends → Then (Outcome came) (Ok (record x0 { out = sends }))
-  resting came sends O = done (inl (record { idle = (says me now w s Settled sends O).holds; stays = λ t. refl }))
+  resting came sends O = done (inl (record { idle = says me now w s Settled sends O; stays = λ t. refl }))
 
   -- what brings none takes none
   idly : (came : Input) → brings came ≡ false → (r : Result Course Which) → Then (Idle me now w s Settled) r → Then (Outcome came) r
@@ -249,7 +249,7 @@ module _ (me : Me) (now : ℕ) (w : Readings) (s : State) (Source : Command → 
       (λ t. let a = (and_parts (same_phase s.phase phase.Active) (is_standing me now (record s { timers = ts })) t).0 in first a s.clients.queue refl) (λ _. stays)
     where
       stays : Then (Outcome (input.Timer timer.Propose)) (Ok (at_rest w (record s { timers = ts })))
-      stays = let I = (rests me now w s Settled).holds in done (inl (record { idle = record { out = I.out; clients = I.clients; leads = I.leads; last = I.last }; stays = λ t. refl }))
+      stays = let I = says me now w s Settled [] tt in done (inl (record { idle = record { out = I.out; clients = I.clients; leads = I.leads; last = I.last }; stays = λ t. refl }))
 
       first : same_phase s.phase phase.Active ≡ true → (ws : List Waiting) → s.clients.queue ≡ ws → Then (Outcome (input.Timer timer.Propose)) (propose_first me now ws (at_rest w (record s { timers = ts })))
       first a [] e = stays
@@ -318,34 +318,39 @@ module _ (me : Me) (now : ℕ) (w : Readings) (s : State) (Source : Command → 
   clients t (request.Show v) k S = reads t (request.Show v) (λ z. shown z v) S
   clients t (request.Since v n) k S = reads t (request.Since v n) (λ z. since z v n) S
 
-  rung : (t : Timer) → TimerKnown t → Then (Outcome (input.Timer t)) (timer_comes me now t (disarm t x0))
-  rung timer.Propose k = due (disarm timer.Propose x0).state.timers k
-  rung t k = idly (input.Timer t) refl _ (rings me now w s Settled t refl)
-
   module _ (shared : List Entry) where
-    said : (m : Message) → (me.member.monitors ≡ 1 → ⊥) → (m.from ≡ me.member.rank → ⊥) → (b : Body) → m.body ≡ b → BodyKnown m.from m.epoch b → Then (Outcome (input.Deliver m)) (hear me shared now m.from m.epoch b x0)
-    said m several apart (body.Forward seq c) e k = forward_heard m.from m.epoch seq c (input.Deliver m) (k apart)
-    said m several apart (body.Route seq r) e k = idly (input.Deliver m) (ap body_brings e) _ (hears me now w s Settled several shared m.from m.epoch (body.Route seq r) refl k)
-    said m several apart b e k = idly (input.Deliver m) (ap body_brings e) _ (hears me now w s Settled several shared m.from m.epoch b refl tt)
+    -- what brings no command is known as it comes
+    heard_so : (came : Input) → brings came ≡ false → InputKnown came → Heard me now w s Settled came
+    heard_so input.Start o k = tt
+    heard_so (input.Deliver m) o k = (k.0, by m.body o k.1)
+      where
+        by : (b : Body) → body_brings b ≡ false → BodyKnown m.from m.epoch b → BodyReturns me now w s Settled m.epoch b
+        by (body.Forward seq c) o k = no (sym o)
+        by (body.Route seq r) o k = k
+        by other o k = tt
+    heard_so (input.Timer t) o k = tt
+    heard_so (input.Client t r) o k = tt
 
-    -- who hears another is not alone
-    not_alone : (m : Message) → m.from < me.member.monitors → (m.from ≡ me.member.rank → ⊥) → me.member.monitors ≡ 1 → ⊥
-    not_alone m lt apart one = apart (let a = me.member.in_map in omega arith)
+    forward_heard_in : (m : Message) (b : Body) → body_brings b ≡ true → (m.from ≡ me.member.rank → ⊥) → BodyKnown m.from m.epoch b → Then (Outcome (input.Deliver m)) (hear me shared now m.from m.epoch b x0)
+    forward_heard_in m (body.Forward seq c) t apart k = forward_heard m.from m.epoch seq c (input.Deliver m) (k apart)
+    forward_heard_in m other t apart k = no t
 
-    runs : (came : Input) → InputKnown came → Then (Outcome came) (running me shared now came x0)
-    runs input.Start k = idly input.Start refl _ (rests me now w s Settled)
-    runs (input.Deliver m) k = by_test (is_heard me m) (λ heard.
-        let apart = eqb-false m.from me.member.rank (not-true _ (and_three (not (eqb m.from me.member.rank)) _ _ heard).0) in
-        said m (not_alone m k.0 apart) apart m.body refl k.1) (λ _. resting (input.Deliver m) [] tt)
-    runs (input.Timer t) k = by_test (is_some (end_of t s.timers)) (λ _. rung t k) (λ _. resting (input.Timer t) [] tt)
-    runs (input.Client t r) k = clients t r k.0 k.1
+    rung_in : (t : Timer) → timer_brings t ≡ true → TimerKnown t → Then (Outcome (input.Timer t)) (timer_comes me now t (disarm t x0))
+    rung_in timer.Propose t k = due (disarm timer.Propose x0).state.timers k
+    rung_in other t k = no t
 
-    begins : (came : Input) → InputKnown came → Then (Outcome came) (before_start me now came x0)
-    begins input.Start k = idly input.Start refl _ (starts me now w s Settled)
-    begins (input.Deliver m) k = resting (input.Deliver m) [] tt
-    begins (input.Timer t) k = resting (input.Timer t) [] tt
-    begins (input.Client t r) k = resting (input.Client t r) (sent.Reply t reply.Unavailable ∷ []) ((λ u. k.1), tt)
+    -- what may bring a command
+    bringing : (came : Input) → brings came ≡ true → InputKnown came → Then (Outcome came) (react me shared now w s came)
+    unfolding react
+    bringing input.Start t k = no t
+    bringing (input.Deliver m) t k = by_test (same_phase s.phase phase.Booting) (λ _. resting (input.Deliver m) [] tt) (λ _. by_test (is_heard me m)
+        (λ heard. forward_heard_in m m.body t (eqb-false m.from me.member.rank (not-true _ (and_three (not (eqb m.from me.member.rank)) _ _ heard).0)) k.1) (λ _. resting (input.Deliver m) [] tt))
+    bringing (input.Timer z) t k = by_test (same_phase s.phase phase.Booting) (λ _. resting (input.Timer z) [] tt) (λ _. by_test (is_some (end_of z s.timers)) (λ _. rung_in z t k) (λ _. resting (input.Timer z) [] tt))
+    bringing (input.Client u r) t k = by_test (same_phase s.phase phase.Booting) (λ _. resting (input.Client u r) (sent.Reply u reply.Unavailable ∷ []) ((λ z. k.1), tt)) (λ _. clients u r k.0 k.1)
 
     pub takes : (came : Input) → InputKnown came → Then (Outcome came) (react me shared now w s came)
-    unfolding react
-    takes came k = by_test (same_phase s.phase phase.Booting) (λ _. begins came k) (λ _. runs came k)
+    takes came k = by (brings came) refl
+      where
+        by : (b : Bool) → brings came ≡ b → Then (Outcome came) (react me shared now w s came)
+        by true t = bringing came t k
+        by false o = idly came o _ (idles me now w s Settled shared came o (heard_so came o k))
