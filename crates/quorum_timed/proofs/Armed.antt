@@ -65,10 +65,10 @@ pub record Good (b : ℕ) (ts : Timers) : Type 0 where
   pub size : length ts ≡ 11
   pub soon : (t : Timer) (end : ℕ) → end_of t ts ≡ Some end → end ≤ b + length_of t
 
-at_place : (t u : Timer) (ts : Timers) (v : Option ℕ) → length ts ≡ 11 → index_of t ≡ index_of u → end_of t (slice_set ts (index_of u) v) ≡ v
+pub at_place : (t u : Timer) (ts : Timers) (v : Option ℕ) → length ts ≡ 11 → index_of t ≡ index_of u → end_of t (slice_set ts (index_of u) v) ≡ v
 at_place t u ts v size e = get_or-set_at ts (index_of u) (index_of t) v None e (subst (λ (k : ℕ). index_of u < k) (sym size) (below u))
 
-elsewhere : (t u : Timer) (ts : Timers) (v : Option ℕ) → (index_of t ≡ index_of u → ⊥) → end_of t (slice_set ts (index_of u) v) ≡ end_of t ts
+pub elsewhere : (t u : Timer) (ts : Timers) (v : Option ℕ) → (index_of t ≡ index_of u → ⊥) → end_of t (slice_set ts (index_of u) v) ≡ end_of t ts
 elsewhere t u ts v other = get_or-set_other ts (index_of u) (index_of t) v None other
 
 module _ (b now : ℕ) (le : now ≤ b) where

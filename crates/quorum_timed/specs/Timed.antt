@@ -1,5 +1,6 @@
 -- Runs in time. From some time on the messages among the monitors of a set arrive in time, once and in order, and the
--- timers of these monitors fire in time. Nothing else comes to them but what clients ask.
+-- timers of these monitors fire in time. Nothing else comes to them but what clients ask. The other monitors take no step:
+-- they count as stopped, and what they sent doesn't arrive.
 use Rattle.mon_msg.specs.Protocol.Timers.{end_of}
 use Rattle.mon_types.specs.Ranks.{has}
 use Rattle.mon_msg.specs.Protocol.State.{State}
@@ -15,9 +16,9 @@ use Rattle.std.specs.Prelude.{Bool, List, Ok, Some, [], drop, filter, length, ma
 
 -- ---- what is in time
 
--- From time `since` on a message arrives within `delay` after it is sent, and a timer fires within `late` after its end. A
--- call for an election arrives again within each `again`, as long as it isn't acknowledged. At time t the clock of monitor
--- i shows t + clock i. All are in milliseconds.
+-- From time `since` on a message arrives within `delay` after it is sent, and a timer fires within `late` after its
+-- end. A call for an election arrives again within each `again`, as long as it isn't acknowledged. At time t the clock of
+-- monitor i shows t + clock i. All are in milliseconds.
 pub record Pace : Type 0 where
   pub since : ℕ
   pub delay : ℕ
@@ -64,8 +65,8 @@ module _ (ms : Monitors) (q : List Bool) (pace : Pace) where
         → end_of kind s.timers ≡ Some end → u + pace.clock i ≤ max end (pace.since + pace.clock i) + pace.late
     pub calls : (f i : ℕ) → has q f ≡ true → has q i ≡ true → (k : ℕ) → Calls t.world k f i → u ≤ t.call_by f i
 
-  -- The event happened at this time, and what it sent is under way. If it sent or delivered a call, the next call is due
-  -- within `again`.
+  -- The event happened at this time, and what it sent is under way. If it sent or delivered a call, the next call may be
+  -- due `again` later. If it isn't put off so and is overdue, it comes before time goes on.
   pub record Went (t : Timed) (e : Event) (left : ℕ → ℕ → List Owed) (next : Timed) : Type 0 where
     pub happened : happens ms t.world e ≡ Ok next.world
     pub time : next.time ≡ t.time
@@ -103,7 +104,7 @@ abbrev pub IsRequest : Event → Type 0
 IsRequest (Arrives (Client rank at session request)) = Unit {0}
 IsRequest other = ⊥
 
--- No delivery and no timer stops the run: there are numbers left, and no store is full.
+-- No delivery and no timer stops the run: no number runs out, and no store becomes full.
 pub record GoesOn (ms : Monitors) (w : World) : Type 0 where
   pub deliveries : (k at : ℕ) → (next : World) × (happens ms w (Arrives (Deliver k at)) ≡ Ok next)
   pub timers : (i at : ℕ) (kind : Timer) → (next : World) × (happens ms w (Arrives (Ring i kind at)) ≡ Ok next)

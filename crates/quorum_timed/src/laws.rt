@@ -43,8 +43,8 @@ pub fn law_leads_runs()
         → Leads ms q pace t more last → last.world ≡ run_from ms t.world (map (λ m. m.1) more) }
 {}
 
-/// No timed run is stuck before a number runs out or a store is full. If nothing can come now but what clients ask, time
-/// may go on by a millisecond. So whatever is overdue can come.
+/// No timed run is stuck, unless a number runs out or a store becomes full. If nothing can come now but what clients ask,
+/// time may go on by a millisecond. So whatever is overdue can come.
 pub fn law_time_goes_on()
     ensures { (ms : Monitors) (q : List Bool) (pace : Pace) (t : Timed) → GoesOn ms t.world
         → ((next : Timed) (e : Event) → Comes ms q pace t next e → IsRequest e) → MayBe ms q pace t (suc t.time) }

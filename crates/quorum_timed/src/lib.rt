@@ -1,4 +1,4 @@
-//! Runs in time: that no monitor waits forever, and what a punctual network and punctual timers make of a set of monitors.
+//! Runs in time: no monitor waits forever, and what comes is punctual from some time on.
 #![tactic(auto)]
 
 mod laws;

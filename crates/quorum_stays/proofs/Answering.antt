@@ -1,0 +1,90 @@
+-- Each member answers each read at once while nobody writes.
+use Rattle.mon_bytes.specs.declared.entry.Entry.{Entry}
+use Rattle.mon_lease.specs.Lease.{readable, stands}
+use Rattle.mon_msg.specs.Protocol.Course.{Course}
+use Rattle.mon_msg.specs.Protocol.Hearing.{hear_client}
+use Rattle.mon_msg.specs.Protocol.Phases.{is_member, same_phase}
+use Rattle.mon_msg.specs.Protocol.Readings.{Readings, readings_of, shared_entries}
+use Rattle.mon_msg.specs.Protocol.Reads.{read, shown, since}
+use Rattle.mon_msg.specs.Protocol.Sending.{reply_to}
+use Rattle.mon_msg.specs.Protocol.State.{State, lease_of}
+use Rattle.mon_msg.specs.Protocol.Table.{at_rest, react}
+use Rattle.mon_msg.specs.declared.input.Input.TheVariants as input
+use Rattle.mon_msg.specs.declared.view.Me.{Me}
+use Rattle.mon_types.specs.Ranks.{has}
+use Rattle.mon_types.specs.declared.names.Which.{Which}
+use Rattle.mon_wire.specs.declared.phase.Phase.TheVariants as phase
+use Rattle.mon_wire.specs.declared.reply.Reply.{Reply}
+use Rattle.mon_wire.specs.declared.request.Request.TheVariants as request
+use Rattle.mon_wire.specs.declared.request.Request.{Request}
+use Rattle.mon_wire.specs.declared.request.Session.{Session}
+use Rattle.quorum_model.proofs.Members.{member_of}
+use Rattle.quorum_model.specs.Happens.{happens, moved}
+use Rattle.quorum_model.specs.Monitors.{Monitors}
+use Rattle.quorum_model.specs.World.{Arrives, Client, World}
+use Rattle.quorum_stays.proofs.Bounds.{inside}
+use Rattle.quorum_stays.proofs.Leases.{leases_stand}
+use Rattle.quorum_stays.proofs.Onward.{unpack}
+use Rattle.quorum_stays.proofs.Staying.{member_phase}
+use Rattle.quorum_stays.proofs.Stepping.{becomes}
+use Rattle.quorum_stays.specs.Reading.{IsAnswered, Reads, ShowsStore}
+use Rattle.quorum_stays.specs.Steady.{Reign, Renewals, Steady}
+use Rattle.quorum_timed.specs.Begins.{IsQuick}
+use Rattle.quorum_timed.specs.Timed.{MayBe, Pace, Timed}
+use Rattle.std.proofs.Common.{Bool, List, Ok, Result, Some, ap, eqb, false, inl, inr, ltb, refl, subst, sym, true, ℕ, ◌+◌, ◌<◌, ◌∙◌, ◌≡◌}
+use Rattle.std.proofs.lemmas.Bool.{lt-ltb, or_right}
+
+-- a member whose lease is valid shows what its store keeps
+module _ (ms : Monitors) (i : ℕ) (lt : ltb i ms.count ≡ true) (sh : List Entry) (now : ℕ) (w : Readings) (s : State) where
+  abbrev me : Me
+  me = member_of ms i lt
+
+  pub record Shows (r : Request) (session : Session) (z : Result Course Which) : Type 0 where
+    pub reply : Reply
+    pub is : z ≡ Ok (reply_to session reply (at_rest w s))
+    pub shows : ShowsStore w r reply
+
+  module _ (member : is_member s.phase ≡ true) (some : ltb 0 w.last ≡ true) (valid : stands (lease_of s) now ≡ true) where
+    can : readable w.last ms.count (lease_of s) now ≡ true
+    can = let either = or_right (eqb ms.count 1) (stands (lease_of s) now) valid in rw (some, either) refl
+
+    reads : (session : Session) (reading : Readings → Reply) → read me now session reading (at_rest w s) ≡ Ok (reply_to session (reading w) (at_rest w s))
+    reads session reading = rw (member, can) refl
+
+    asks : (session : Session) (r : Request) → Reads r → Shows r session (hear_client me now session r (at_rest w s))
+    unfolding hear_client
+    asks session (request.Show service) k = record { reply = shown w service; is = reads session (λ z. shown z service); shows = refl }
+    asks session (request.Since service version) k = record { reply = since w service version; is = reads session (λ z. since z service version); shows = refl }
+    asks session (request.Set key value) k = absurd k
+    asks session (request.Remove key) k = absurd k
+    asks session (request.Log text) k = absurd k
+
+    pub show_row : (session : Session) (r : Request) → Reads r → same_phase s.phase phase.Booting ≡ false → Shows r session (react me sh now w s (input.Client session r))
+    unfolding react
+    show_row session r k up = rw up (asks session r k)
+
+module _ (ms : Monitors) (q : List Bool) (pace : Pace) (reign : Reign) (r : Renewals) (t : Timed) (K : IsQuick pace) (S : Steady ms q pace reign r t) (M : MayBe ms q pace t t.time) (some : 0 < reign.last)
+    (i : ℕ) (qi : has q i ≡ true) (session : Session) (request : Request) (k : Reads request) (after : World) (happened : happens ms t.world (Arrives (Client i (t.time + pace.clock i) session request)) ≡ Ok after) where
+  abbrev now : ℕ
+  now = t.time + pace.clock i
+
+  abbrev L : (s : State) × (t.world.state i ≡ Some s) × (stands (lease_of s) now ≡ true)
+  L = unpack (λ s. stands (lease_of s) now ≡ true) (t.world.state i) (leases_stand ms q pace reign r t K S M i qi)
+
+  abbrev lt : ltb i ms.count ≡ true
+  lt = inside ms q pace reign K r t S i qi
+
+  row : Shows ms i lt (shared_entries (t.world.store i)) now (readings_of (t.world.store i)) L.0 request session (react (member_of ms i lt) (shared_entries (t.world.store i)) now (readings_of (t.world.store i)) L.0 (input.Client session request))
+  row =
+      let k2 = S.keep i qi in
+      let either = member_phase ms q pace reign K r t S i qi L.0 L.1 in
+      let member : is_member L.0.phase ≡ true = elim either [ inl e ↦ rw e refl | inr e ↦ rw e refl ] in
+      let up : same_phase L.0.phase phase.Booting ≡ false = elim either [ inl e ↦ rw e refl | inr e ↦ rw e refl ] in
+      show_row ms i lt (shared_entries (t.world.store i)) now (readings_of (t.world.store i)) L.0 member (lt-ltb 0 (readings_of (t.world.store i)).last (subst (λ (z : ℕ). 0 < z) (sym k2.last_is) some)) L.2 session request k up
+
+  pub answers : IsAnswered t.world after i session request
+  unfolding moved
+  answers =
+      let A = row in
+      let next = becomes ms t.world after (Client i now session request) i lt now (input.Client session request) L.0 refl L.1 happened (reply_to session A.reply (at_rest (readings_of (t.world.store i)) L.0)) A.is refl in
+      record { answer = _; one = ap (λ (z : World). z.replied) next ∙ refl; rank_is = refl; session_is = refl; shows = A.shows }

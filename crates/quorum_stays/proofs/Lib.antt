@@ -1,0 +1,13 @@
+pub mod Answering
+pub mod Bounds
+pub mod Leaders
+pub mod Leases
+pub mod Onward
+pub mod Peons
+pub mod Renewing
+pub mod Rows
+pub mod States
+pub mod Staying
+pub mod Stepping
+pub mod Timers
+pub mod UnderWay

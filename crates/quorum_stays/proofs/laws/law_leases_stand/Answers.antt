@@ -1,0 +1,5 @@
+use Rattle.quorum_stays.proofs.Leases.{leases_stand}
+use Rattle.quorum_stays.proofs.laws.law_leases_stand.Goals as goal
+
+pub returns : goal.returns
+returns c = leases_stand
