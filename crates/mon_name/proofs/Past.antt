@@ -1,9 +1,12 @@
 -- A link that is asked past foreign datagrams.
-use Rattle.std.proofs.Common.{◌≡◌, ℕ, zero, suc, Bool, true, false, Result, Ok, Err, refl, sym, ap, ◌∙◌, inl, inr}
+use Rattle.std.proofs.Common.{◌≡◌, ℕ, zero, suc, Bool, true, false, not, List, Option, Some, None, is_some, Result, Ok, Err, refl, sym, ap, ◌∙◌, inl, inr}
 use Rattle.mon_link.specs.Links.{LinkState, CallsNext, count_after}
+use Rattle.mon_link.specs.declared.link.Got.TheVariants.{Closed, Datagram, Idle}
 use Rattle.mon_link.specs.declared.link.Got.{Got}
+use Rattle.mon_link.specs.declared.link.Peer.TheVariants.{Client, Monitor}
 use Rattle.mon_types.specs.declared.names.Stop.{Stop}
-use Rattle.mon_name.specs.Naming.{AsksPast, HandsOn, Unframes, Unless, is_foreign}
+use Rattle.mon_name.specs.Naming.{AsksPast, HandsOn, IsOpened, Takes, Unframes, Unless, if_framed, is_foreign, off_got}
+use Rattle.mon_name.specs.Frames.{unframed}
 
 -- it is asked once and gives no foreign datagram
 pub asks_once : (most tag wait : ℕ) (last : Result Got Stop) (old new : LinkState) → is_foreign tag last ≡ false → CallsNext wait last old new → AsksPast most tag wait last old new
@@ -19,6 +22,50 @@ asks_again most tag wait first last old between new foreign asks rest = (first, 
 pub asks_last : (tag wait : ℕ) (last : Result Got Stop) (old new : LinkState) → CallsNext wait last old new → AsksPast 0 tag wait last old new
 unfolding AsksPast
 asks_last tag wait last old new asks = asks
+
+-- ---- one call of the link below
+
+-- its answer is the last one
+abbrev pub Ends : (most tag wait : ℕ) → Result Got Stop → (old new : LinkState) → Type 0
+Ends most tag wait result old new = (gave : Result Got Stop) × AsksPast most tag wait gave old new × HandsOn tag gave result
+
+pub taken : (most tag wait : ℕ) (x : Got) (old new : LinkState) → Takes tag wait (Ok (Some x)) old new → Ends most tag wait (Ok x) old new
+taken most tag wait x old new t = by t.gave t.asks t.opens
+  where
+    by : (gave : Result Got Stop) → CallsNext wait gave old new → IsOpened tag gave (Ok (Some x)) → Ends most tag wait (Ok x) old new
+    by (Ok got) asks own = (Ok got, asks_once most tag wait (Ok got) old new own.0 asks, inl (ap (λ y. Ok y) own.1))
+    by (Err e) asks own = absurd cc
+
+pub failed : (most tag wait : ℕ) (e : Stop) (old new : LinkState) → Takes tag wait (Err e) old new → Ends most tag wait (Err e) old new
+failed most tag wait e old new t = by t.gave t.asks t.opens
+  where
+    by : (gave : Result Got Stop) → CallsNext wait gave old new → IsOpened tag gave (Err e) → Ends most tag wait (Err e) old new
+    by (Ok got) asks own = (Ok got, asks_once most tag wait (Ok got) old new own.0 asks, inr (ap (λ f. Err f) own.1, tt))
+    by (Err f) asks same = (Err f, asks_once most tag wait (Err f) old new refl asks, inl cc)
+
+pub goes_past : (most tag wait : ℕ) (last : Result Got Stop) (old between new : LinkState) → Takes tag wait (Ok None) old between → AsksPast most tag 0 last between new → AsksPast (suc most) tag wait last old new
+goes_past most tag wait last old between new t rest = by t.gave t.asks t.opens
+  where
+    by : (gave : Result Got Stop) → CallsNext wait gave old between → IsOpened tag gave (Ok None) → AsksPast (suc most) tag wait last old new
+    by (Ok got) asks foreign = asks_again most tag wait (Ok got) last old between new foreign asks rest
+    by (Err e) asks foreign = absurd cc
+
+foreign_idle : (tag : ℕ) (got : Got) → is_foreign tag (Ok got) ≡ true → off_got tag got ≡ Idle
+foreign_idle tag (Datagram (Monitor j) bytes) e = by (unframed tag bytes) e
+  where
+    by : (o : Option (List ℕ)) → not (is_some o) ≡ true → if_framed (Monitor j) o ≡ Idle
+    by (Some d) e = absurd cc
+    by None e = refl
+foreign_idle tag (Datagram (Client c) bytes) e = absurd cc
+foreign_idle tag Idle e = refl
+foreign_idle tag Closed e = absurd cc
+
+pub last_foreign : (tag wait : ℕ) (old new : LinkState) → Takes tag wait (Ok None) old new → Ends 0 tag wait (Ok Idle) old new
+last_foreign tag wait old new t = by t.gave t.asks t.opens
+  where
+    by : (gave : Result Got Stop) → CallsNext wait gave old new → IsOpened tag gave (Ok None) → Ends 0 tag wait (Ok Idle) old new
+    by (Ok got) asks foreign = (Ok got, asks_last tag wait (Ok got) old new asks, inl (sym (ap (λ y. Ok y) (foreign_idle tag got foreign))))
+    by (Err e) asks foreign = absurd cc
 
 -- ---- what is counted
 

@@ -46,6 +46,27 @@ is_foreign tag (Ok Idle) = false
 is_foreign tag (Ok Closed) = false
 is_foreign tag (Err e) = false
 
+-- what was given is handed on without its frame, unless it is foreign
+abbrev pub IsHanded : (tag : ℕ) → Got → Option Got → Type 0
+IsHanded tag got (Some x) = (is_foreign tag (Ok got) ≡ false) × (x ≡ off_got tag got)
+IsHanded tag got None = is_foreign tag (Ok got) ≡ true
+
+-- memory ran out, or what was given is handed on
+abbrev pub Opens : {E : Type 0} → (tag : ℕ) → Got → Result (Option Got) E → Type 0
+Opens tag got (Ok x) = IsHanded tag got x
+Opens tag got (Err e) = is_foreign tag (Ok got) ≡ false
+
+-- The link below was asked once.
+abbrev pub IsOpened : (tag : ℕ) → Result Got Stop → Result (Option Got) Stop → Type 0
+IsOpened tag (Ok got) (Ok x) = IsHanded tag got x
+IsOpened tag (Ok got) (Err e) = (is_foreign tag (Ok got) ≡ false) × (e ≡ OutOfMemory)
+IsOpened tag (Err e) result = result ≡ Err e
+
+pub record Takes (tag wait : ℕ) (result : Result (Option Got) Stop) (old new : LinkState) : Type 0 where
+  pub gave : Result Got Stop
+  pub asks : CallsNext wait gave old new
+  pub opens : IsOpened tag gave result
+
 -- After a foreign datagram the link below is asked again. Any other answer is the last one, and nothing more is asked.
 abbrev pub Unless : (foreign : Bool) → (Again : Result Got Stop → LinkState → LinkState → Type 0)
     → (answer last : Result Got Stop) → (old new : LinkState) → Type 0

@@ -1,13 +1,13 @@
-ghost use Rattle.std.specs.Prelude.{◌≡◌, IfOk, Ok};
+ghost use Rattle.std.specs.Prelude.{◌≡◌};
 ghost use Rattle.mon_link.specs.Links.{CallsSend};
-ghost use Rattle.mon_link.specs.declared.link.Peer.TheVariants.{Monitor};
-ghost use Rattle.mon_name.specs.Frames.{framed};
+ghost use Rattle.mon_link.specs.declared.link.Got.TheVariants.{Datagram};
+ghost use Rattle.mon_link.specs.declared.link.Peer.TheVariants.{Client, Monitor};
 ghost use Rattle.mon_name.specs.Numbers.{renumbered};
-ghost use Rattle.mon_name.specs.Naming.{AsksPast, Unframes, is_foreign, off_got, taken_off, wired};
+ghost use Rattle.mon_name.specs.Naming.{Opens, Takes, Unframes, wired};
 
-use crate::frame::{framed, unframed};
+use crate::frame::{framed_for, unframed};
 use crate::life::Life;
-use crate::renumber::renumbered;
+use crate::renumber::{is_piece, renumbered};
 use mon_bytes::{Bytes, OutOfMemory};
 use mon_link::{Got, Link, Peer};
 use mon_types::{Rank, Stop};
@@ -27,59 +27,34 @@ pub struct Named<L: Link + Drop> {
     alloc: Global,
 }
 
-/// A datagram to a monitor as it goes over the wire.
-fn numbered_and_framed(
-    alloc: Global,
-    tag: u64,
-    life: Life,
-    bytes: &[u8],
-) -> Result<Bytes, OutOfMemory>
-    ensures { IfOk result (λ x. x ≡ framed tag (renumbered life bytes.now)) }
+/// A monitor's datagram without its frame; `None` if it isn't in the frame of this tag.
+fn came(alloc: Global, tag: u64, rank: Rank, bytes: &[u8]) -> Result<Option<Got>, OutOfMemory>
+    ensures { Opens tag (Datagram (Monitor rank) bytes.now) result }
 {
-    let numbered = renumbered(alloc, life, bytes)?;
-    framed(alloc, tag, numbered.as_slice())
+    let Some(datagram) = unframed(tag, bytes) else {
+        return Ok(None);
+    };
+    Ok(Some(Got::Datagram {
+        from: Peer::Monitor(rank),
+        bytes: Bytes::new(Vec::from_slice(alloc, datagram)?),
+    }))
 }
 
-/// A monitor's datagram without its frame; `Idle` if it isn't in the frame of this tag.
-fn came(alloc: Global, tag: u64, rank: Rank, bytes: &[u8]) -> Result<Got, OutOfMemory>
-    ensures { IfOk result (λ got. got ≡ taken_off tag (Monitor rank) bytes.now) }
-{
-    match unframed(tag, bytes) {
-        Some(datagram) => Ok(Got::Datagram {
-            from: Peer::Monitor(rank),
-            bytes: Bytes::new(Vec::from_slice(alloc, datagram)?),
-        }),
-        None => Ok(Got::Idle),
-    }
-}
-
-/// Whether this is a foreign datagram: one from a monitor's address that isn't in the frame of this tag.
-fn is_foreign(tag: u64, got: &Got) -> bool
-    ensures { result ≡ is_foreign tag (Ok got.now) }
-{
-    match got {
-        Got::Datagram { from, bytes } => match from {
-            Peer::Monitor(_) => unframed(tag, bytes.as_slice()).is_none(),
-            Peer::Client(_) => false,
-        },
-        Got::Idle | Got::Closed => false,
-    }
-}
-
-/// What was given, without its frame.
-fn without_frame(alloc: Global, tag: u64, got: Got) -> Result<Got, OutOfMemory>
-    ensures { IfOk result (λ x. x ≡ off_got tag got) }
+/// What was given, without its frame. `None` if it is a foreign datagram: one from a monitor's address that isn't in the
+/// frame of this tag.
+fn opened(alloc: Global, tag: u64, got: Got) -> Result<Option<Got>, OutOfMemory>
+    ensures { Opens tag got result }
 {
     match got {
         Got::Datagram { from, bytes } => match from {
             Peer::Monitor(rank) => came(alloc, tag, rank, bytes.as_slice()),
-            Peer::Client(number) => Ok(Got::Datagram {
+            Peer::Client(number) => Ok(Some(Got::Datagram {
                 from: Peer::Client(number),
                 bytes,
-            }),
+            })),
         },
-        Got::Idle => Ok(Got::Idle),
-        Got::Closed => Ok(Got::Closed),
+        Got::Idle => Ok(Some(Got::Idle)),
+        Got::Closed => Ok(Some(Got::Closed)),
     }
 }
 
@@ -98,22 +73,52 @@ impl<L: Link + Drop> Named<L> {
         }
     }
 
+    /// Asks the link below once. Returns what it gave without its frame; `None` if that is a foreign datagram.
+    fn takes(&mut self, wait: u64) -> Result<Option<Got>, Stop>
+        ensures takes { Takes self.old.tag wait result (L.state self.old.inner) (L.state self.new.inner) }
+        ensures tag { self.new.tag ≡ self.old.tag }
+        ensures life { self.new.life ≡ self.old.life }
+    {
+        let got = self.inner.next(wait)?;
+        match opened(self.alloc, self.tag, got) {
+            Ok(opened) => Ok(opened),
+            Err(_) => Err(Stop::OutOfMemory),
+        }
+    }
+
     /// Asks the link below for this long, and again without waiting after each foreign datagram.
     fn asks_past(&mut self, wait: u64) -> Result<Got, Stop>
-        ensures asks { AsksPast MOST_FOREIGN self.old.tag wait result (L.state self.old.inner) (L.state self.new.inner) }
+        ensures asks { Unframes self.old.tag wait result (L.state self.old.inner) (L.state self.new.inner) }
         ensures tag { self.new.tag ≡ self.old.tag }
         ensures life { self.new.life ≡ self.old.life }
     {
         let mut rest = wait;
         for _ in 0..MOST_FOREIGN {
-            let got = self.inner.next(rest)?;
-            if !is_foreign(self.tag, &got) {
+            if let Some(got) = self.takes(rest)? {
                 return Ok(got);
             }
-            drop(got);
             rest = 0;
         }
-        self.inner.next(rest)
+        match self.takes(rest)? {
+            Some(got) => Ok(got),
+            None => Ok(Got::Idle),
+        }
+    }
+
+    /// Sends a piece of a long message to a client, with the number of the life. Any other datagram goes as it is.
+    fn sends_to(&mut self, client: u32, bytes: &[u8]) -> Result<(), Stop>
+        ensures sends { CallsSend (Client client) (renumbered self.old.life bytes.now) result
+            (L.state self.old.inner) (L.state self.new.inner) }
+        ensures tag { self.new.tag ≡ self.old.tag }
+        ensures life { self.new.life ≡ self.old.life }
+    {
+        if !is_piece(bytes) {
+            return self.inner.send(Peer::Client(client), bytes);
+        }
+        match renumbered(self.alloc, self.life, bytes) {
+            Ok(datagram) => self.inner.send(Peer::Client(client), datagram.as_slice()),
+            Err(_) => Err(Stop::OutOfMemory),
+        }
     }
 }
 
@@ -134,11 +139,7 @@ impl<L: Link + Drop> Link for Named<L> {
         ensures tag { self.new.tag ≡ self.old.tag }
         ensures life { self.new.life ≡ self.old.life }
     {
-        let got = self.asks_past(wait)?;
-        match without_frame(self.alloc, self.tag, got) {
-            Ok(came) => Ok(came),
-            Err(_) => Err(Stop::OutOfMemory),
-        }
+        self.asks_past(wait)
     }
 
     /// Asks the link below once to send the datagram, with the number of the life, and framed if it goes to a monitor.
@@ -149,16 +150,11 @@ impl<L: Link + Drop> Link for Named<L> {
         ensures life { self.new.life ≡ self.old.life }
     {
         match to {
-            Peer::Monitor(rank) => {
-                match numbered_and_framed(self.alloc, self.tag, self.life, bytes) {
-                    Ok(datagram) => self.inner.send(Peer::Monitor(rank), datagram.as_slice()),
-                    Err(_) => Err(Stop::OutOfMemory),
-                }
-            }
-            Peer::Client(number) => match renumbered(self.alloc, self.life, bytes) {
-                Ok(datagram) => self.inner.send(Peer::Client(number), datagram.as_slice()),
+            Peer::Monitor(rank) => match framed_for(self.alloc, self.tag, self.life, bytes) {
+                Ok(datagram) => self.inner.send(Peer::Monitor(rank), datagram.as_slice()),
                 Err(_) => Err(Stop::OutOfMemory),
             },
+            Peer::Client(client) => self.sends_to(client, bytes),
         }
     }
 }

@@ -1,4 +1,4 @@
-ghost use Rattle.std.specs.Prelude.{◌≡◌, ◌++◌, IfOk, take, drop};
+ghost use Rattle.std.specs.Prelude.{◌≡◌, ◌++◌, IfOk, OnOk, take, drop};
 ghost use Rattle.mon_frag.specs.Headers.{is_piece};
 ghost use Rattle.mon_name.specs.Numbers.{renumbered};
 
@@ -10,7 +10,7 @@ use std::alloc::Global;
 const PIECE: u8 = 2;
 
 /// Whether a datagram is a piece of a long message.
-fn is_piece(datagram: &[u8]) -> bool
+pub(crate) fn is_piece(datagram: &[u8]) -> bool
     ensures { result ≡ is_piece datagram.now }
 {
     match datagram.first() {
@@ -19,36 +19,42 @@ fn is_piece(datagram: &[u8]) -> bool
     }
 }
 
-/// The bytes up to a place, or all of them.
+/// The bytes of a piece before its sender's boot.
 #[tactic(auto, using(std::proofs::lemmas::List::take_min))]
-fn up_to(datagram: &[u8], place: usize) -> &[u8]
-    ensures { result.now ≡ take place datagram.now }
+fn before_boot(piece: &[u8]) -> &[u8]
+    ensures { result.now ≡ take 4 piece.now }
 {
-    let (first, _) = datagram.split_at(place.min(datagram.len()));
+    let (first, _) = piece.split_at(piece.len().min(4));
     first
 }
 
-/// The bytes from a place on.
+/// The bytes of a piece after its sender's boot.
 #[tactic(auto, using(std::proofs::lemmas::List::drop_min))]
-fn from(datagram: &[u8], place: usize) -> &[u8]
-    ensures { result.now ≡ drop place datagram.now }
+fn after_boot(piece: &[u8]) -> &[u8]
+    ensures { result.now ≡ drop 12 piece.now }
 {
-    let (_, rest) = datagram.split_at(place.min(datagram.len()));
+    let (_, rest) = piece.split_at(piece.len().min(12));
     rest
 }
 
-/// A datagram, in which the number of a life replaces the sender's boot if it is a piece of a long message.
+/// Appends a datagram, in which the number of a life replaces the sender's boot if it is a piece of a long message.
 #[tactic(auto, unfolding(mon_frag::specs::Pieces::u64_bytes))]
+pub(crate) fn put_renumbered(out: &mut Out, life: Life, datagram: &[u8]) -> Result<(), OutOfMemory>
+    ensures { OnOk result (out.new ≡ out.old ++ renumbered life datagram.now) }
+{
+    if !is_piece(datagram) {
+        return out.put_bytes(datagram);
+    }
+    out.put_bytes(before_boot(datagram))?;
+    out.put_u64(life.get())?;
+    out.put_bytes(after_boot(datagram))
+}
+
+/// A datagram, in which the number of a life replaces the sender's boot if it is a piece of a long message.
 pub fn renumbered(alloc: Global, life: Life, datagram: &[u8]) -> Result<Bytes, OutOfMemory>
     ensures { IfOk result (λ bytes. bytes ≡ renumbered life datagram.now) }
 {
-    let mut out = Out::new(alloc);
-    if is_piece(datagram) {
-        out.put_bytes(up_to(datagram, 4))?;
-        out.put_u64(life.get())?;
-        out.put_bytes(from(datagram, 12))?;
-    } else {
-        out.put_bytes(datagram)?;
-    }
+    let mut out = Out::with_capacity(alloc, datagram.len())?;
+    put_renumbered(&mut out, life, datagram)?;
     Ok(Bytes::new(out.into_bytes()))
 }
