@@ -13,3 +13,5 @@ pub mod Reached
 pub mod Over
 pub mod Refusals
 pub mod Answers
+pub mod Sizes
+pub mod Changes

@@ -59,16 +59,16 @@ use Rattle.std.specs.List.{AllByRecursion, filter}
 
 -- ---- what this proof needs of commands, ROUTEs, votes and requests
 
-abbrev AnyFrom : ℕ → Command → Origin → Type 0
+abbrev pub AnyFrom : ℕ → Command → Origin → Type 0
 AnyFrom e c o = Unit {0}
 
-abbrev NoRoute : (f e seq : ℕ) → Reply → Type 0
+abbrev pub NoRoute : (f e seq : ℕ) → Reply → Type 0
 NoRoute f e seq r = NoShow r
 
-abbrev AnyVote : (f pn v : ℕ) → Type 0
+abbrev pub AnyVote : (f pn v : ℕ) → Type 0
 AnyVote f pn v = Unit {0}
 
-abbrev AnyLook : Session → Request → Type 0
+abbrev pub AnyLook : Session → Request → Type 0
 AnyLook t r = Unit {0}
 
 lead_before : (me : Me) (now : ℕ) (r : Readings) (s : State) (p : Phase) → s.phase ≡ p → Still p s.leader → Lead me now r s AnyFrom NoRoute AnyVote AnyLook p s.leader (epoch_of r)
@@ -217,7 +217,7 @@ module _ (ms : Monitors) (w : World) (I : InvOf ms w) (O : Onward ms.count w) (a
   abbrev pub m : Store
   m = apply (joined (encoded d.y.changes)) (w.store d.by.rank)
 
-  abbrev Says : Course → Type 0
+  abbrev pub Says : Course → Type 0
   Says = Outcome me d.by.at w0 s AnyFrom NoRoute AnyVote AnyLook
 
   pub read : readings_of m ≡ d.y.readings
@@ -254,7 +254,7 @@ module _ (ms : Monitors) (w : World) (I : InvOf ms w) (O : Onward ms.count w) (a
       by (request.Since v z) = tt
   known other k = tt
 
-  says : Says d.y
+  pub says : Says d.y
   says = (subst (Then Says) d.is (answers me d.by.at w0 s AnyFrom NoRoute AnyVote AnyLook lead (λ t. any_queue s.clients.queue) (shared_entries (w.store rank)) d.by.came (known d.by.came d.by.told))).holds
 
   still_after : Still d.y.state.phase d.y.state.leader

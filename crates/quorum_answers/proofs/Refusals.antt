@@ -158,10 +158,10 @@ module _ (before w : World) where
 -- ---- what is known of a world that a run reaches
 
 module _ (ms : Monitors) (w : World) (R : Reached ms w) where
-  agreed : Agree ms.count w
+  pub agreed : Agree ms.count w
   agreed = subst (Agree ms.count) (world_is ms w R) (agrees ms R.events R.fit)
 
-  valued : (length w.log ≤ 2 ^ 62) × AllValues w.log
+  pub valued : (length w.log ≤ 2 ^ 62) × AllValues w.log
   valued = subst (λ (v : World). (length v.log ≤ 2 ^ 62) × AllValues v.log) (world_is ms w R) (all_values ms R.events R.fit)
 
   -- no version was acknowledged that the log doesn't have

@@ -1,3 +1,4 @@
+pub mod Changes
 pub mod Linear
 pub mod Reads
 pub mod Refused
