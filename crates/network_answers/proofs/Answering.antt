@@ -14,7 +14,9 @@ use Rattle.network_answers.proofs.Lists.{all_image, in_image, of_image}
 use Rattle.network_answers.specs.Answers.{Answer, AreInOrder, IsAnswer, IsOfThisLog, IsRefused, IsUpTo}
 use Rattle.quorum_agreement.proofs.SafeWorlds.{safe}
 use Rattle.quorum_answers.proofs.Answers.{each_onward, linearizable}
+use Rattle.quorum_answers.proofs.Changes.{name_next}
 use Rattle.quorum_answers.proofs.Refusals.{all_refused}
+use Rattle.quorum_answers.specs.Changes.{AllNameNext, NamesNext}
 use Rattle.quorum_answers.specs.Linear.{Linearizable, Read, Write}
 use Rattle.quorum_answers.specs.Reads.{EachOnward, NoOlder, Shows}
 use Rattle.quorum_answers.specs.Refused as model
@@ -31,7 +33,7 @@ use Rattle.quorum_network.proofs.Invariant.{IsSaid}
 use Rattle.quorum_network.proofs.Joined.{letters_answer}
 use Rattle.quorum_network.proofs.Letters.{Letter}
 use Rattle.quorum_network.proofs.Promised.{some_letters, stands_log, stands_replied, world_is}
-use Rattle.quorum_network.proofs.Whole.{Stands, given_more}
+use Rattle.quorum_network.proofs.Whole.{Stands, asked_among, given_more}
 use Rattle.quorum_network.specs.History.{Extends}
 use Rattle.quorum_network.specs.Network.{Network}
 use Rattle.quorum_network.specs.Promises.{AreAnswers, IsLogOf, IsNoOlder, IsOfLog, Requested}
@@ -41,10 +43,10 @@ use Rattle.quorum_network.specs.Running.{answer_of}
 abbrev pub answer : Replied → Answer
 answer r = record { rank = r.rank; session = r.session; epoch = r.epoch; last = r.last; reply = r.reply }
 
-up_to : (w : World) (r : Replied) (q : Reply) → ShowsLog w r q → IsUpTo w.log r.last q
-up_to w r (reply.Shown s paxos version map) k = k.0
-up_to w r (reply.Since s from told more) k = k
-up_to w r other k = tt
+up_to : (w : World) (r : Replied) (q : Reply) → ShowsLog w r q → NamesNext w r q → IsUpTo w.log r.last q
+up_to w r (reply.Shown s paxos version map) k next = k.0
+up_to w r (reply.Since s from told more) k next = (k, next)
+up_to w r other k next = tt
 
 -- ---- at one point in time
 
@@ -56,6 +58,9 @@ module _ (ms : Monitors) (asks : List Asked) (acks : List Acknowledgement) (lead
   pub is_log : IsLogOf ms asks acks net S.w.log
   is_log = of_world (λ w. IsLogOf ms asks acks net w.log) (stands_log ms asks acks leads net S)
 
+  next_named : AllNameNext S.w
+  next_named = of_world AllNameNext (name_next ms S.reach.events S.reach.fits)
+
   shown : Shown S.w
   shown = of_world Shown (safe ms S.reach.events S.reach.fits).shown
 
@@ -65,7 +70,8 @@ module _ (ms : Monitors) (asks : List Asked) (acks : List Acknowledgement) (lead
   one_of_log : (r : Replied) → Contains S.w.replied r → IsOfThisLog asks acks S.w.log (answer r)
   one_of_log r c =
       let k = of_all (IsShown S.w) S.w.replied shown r c in
-      record { within = k.within; up_to = up_to S.w r r.reply k.shows; of_log = replied r c }
+      let next = of_all (λ (q : Replied). NamesNext S.w q q.reply) S.w.replied next_named r c in
+      record { within = k.within; up_to = up_to S.w r r.reply k.shows next; of_log = replied r c }
 
   pub all_of_log : AllByRecursion (IsOfThisLog asks acks S.w.log) (map answer S.w.replied)
   all_of_log = all_image answer (IsOfThisLog asks acks S.w.log) S.w.replied (all_self (λ (r : Replied). IsOfThisLog asks acks S.w.log (answer r)) S.w.replied one_of_log)
@@ -242,7 +248,7 @@ module _ (ms : Monitors) (old_asks asks : List Asked) (old_acks acks : List Ackn
   refusal_is : (r : Replied) → model.IsRefused S.w T.w r.rank r.session r.epoch r.reply → IsRefused old_asks asks old_acks T.w.log (answer r)
   refusal_is r R = record {
     request = R.asked.request;
-    requested = was r.rank r.session T.w.asked asks T.asked R.asked R.rank R.session R.was_asked;
+    requested = was r.rank r.session T.w.asked asks (asked_among asks T.w.asked T.asked) R.asked R.rank R.session R.was_asked;
     command = R.command;
     is = R.is;
     version = R.version;
@@ -251,7 +257,7 @@ module _ (ms : Monitors) (old_asks asks : List Asked) (old_acks acks : List Ackn
     refused = R.refused;
     says = R.says;
     since = elim R.since [
-      | inl c ↦ inl (was r.rank r.session S.w.asked old_asks S.asked R.asked R.rank R.session c)
+      | inl c ↦ inl (was r.rank r.session S.w.asked old_asks (asked_among old_asks S.w.asked S.asked) R.asked R.rank R.session c)
       | inr k ↦ inr (covers r.epoch R.version k)
     ];
   }

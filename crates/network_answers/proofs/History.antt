@@ -1,13 +1,15 @@
 -- One log and one list of answers for a whole history.
 use Rattle.std.proofs.Common.{List, ◌++◌, ℕ, map}
 use Rattle.network_answers.proofs.Answering.{acknowledged, all_of_log, answer, answered, brings, brings_more, extends, is_log, order, refusals}
-use Rattle.network_answers.specs.Answers.{Adds, Answer, HaveAnswers}
+use Rattle.network_answers.proofs.Fates.{answered_so, made_so, unmade_so}
+use Rattle.network_answers.specs.Answers.{Answer}
+use Rattle.network_answers.specs.History.{Adds, HaveAnswers}
 use Rattle.quorum_model.specs.Monitors.{Monitors}
 use Rattle.quorum_network.proofs.Adding.{given}
 use Rattle.quorum_network.proofs.Assembled.{assembly}
 use Rattle.quorum_network.proofs.Going.{goes_on}
 use Rattle.quorum_network.proofs.Whole.{Stands, facts, stands}
-use Rattle.quorum_network.specs.Network.{AllMay, Step, network}
+use Rattle.quorum_network.specs.Network.{AllMay, Step, may_before, network}
 use Rattle.quorum_network.specs.Requests.{acknowledgements, leaderships, requests}
 
 module _ (ms : Monitors) where
@@ -20,29 +22,27 @@ module _ (ms : Monitors) where
   unfoldable answers_of : (steps : List Step) → AllMay ms steps → List Answer
   answers_of steps may = map answer (stood steps may).w.replied
 
-  adds : (later earlier : List Step) (may : AllMay ms (later ++ earlier)) → (old : AllMay ms earlier)
-      × Adds ms earlier (later ++ earlier) (log_of earlier old) (log_of (later ++ earlier) may) (answers_of earlier old) (answers_of (later ++ earlier) may)
+  adds : (later earlier : List Step) (may : AllMay ms (later ++ earlier))
+      → Adds ms earlier (later ++ earlier) (log_of earlier (may_before ms later earlier may)) (log_of (later ++ earlier) may) (answers_of earlier (may_before ms later earlier may)) (answers_of (later ++ earlier) may)
   unfolding log_of answers_of
   adds later earlier may =
       let all : List Step = later ++ earlier in
-      let went = goes_on assembly ms (facts ms) later earlier may in
-      let S = stood earlier went.0 in
+      let S = stood earlier (may_before ms later earlier may) in
       let T = stood all may in
-      let G = went.1 in (
-        went.0,
-        record {
-          extends = extends ms (requests ms earlier) (requests ms all) (acknowledgements ms earlier) (acknowledgements ms all) (leaderships ms earlier) (leaderships ms all) (network ms earlier) (network ms all) S T G;
-          writes = map given G.writes;
-          acknowledged = acknowledged ms (requests ms earlier) (requests ms all) (acknowledgements ms earlier) (acknowledgements ms all) (leaderships ms earlier) (leaderships ms all) (network ms earlier) (network ms all) S T G;
-          more = map answer G.replies;
-          answered = answered ms (requests ms earlier) (requests ms all) (acknowledgements ms earlier) (acknowledgements ms all) (leaderships ms earlier) (leaderships ms all) (network ms earlier) (network ms all) S T G;
-          sent = G.sent;
-          wire = G.wire;
-          brings = brings_more ms (requests ms earlier) (requests ms all) (acknowledgements ms earlier) (acknowledgements ms all) (leaderships ms earlier) (leaderships ms all) (network ms earlier) (network ms all) S T G;
-          order = order ms (requests ms earlier) (requests ms all) (acknowledgements ms earlier) (acknowledgements ms all) (leaderships ms earlier) (leaderships ms all) (network ms earlier) (network ms all) S T G;
-          refusals = refusals ms (requests ms earlier) (requests ms all) (acknowledgements ms earlier) (acknowledgements ms all) (leaderships ms earlier) (leaderships ms all) (network ms earlier) (network ms all) S T G;
-        },
-      )
+      let G = goes_on assembly ms (facts ms) later earlier may in
+      record {
+        extends = extends ms (requests ms earlier) (requests ms all) (acknowledgements ms earlier) (acknowledgements ms all) (leaderships ms earlier) (leaderships ms all) (network ms earlier) (network ms all) S T G;
+        writes = map given G.writes;
+        acknowledged = acknowledged ms (requests ms earlier) (requests ms all) (acknowledgements ms earlier) (acknowledgements ms all) (leaderships ms earlier) (leaderships ms all) (network ms earlier) (network ms all) S T G;
+        more = map answer G.replies;
+        answered = answered ms (requests ms earlier) (requests ms all) (acknowledgements ms earlier) (acknowledgements ms all) (leaderships ms earlier) (leaderships ms all) (network ms earlier) (network ms all) S T G;
+        sent = G.sent;
+        wire = G.wire;
+        brings = brings_more ms (requests ms earlier) (requests ms all) (acknowledgements ms earlier) (acknowledgements ms all) (leaderships ms earlier) (leaderships ms all) (network ms earlier) (network ms all) S T G;
+        order = order ms (requests ms earlier) (requests ms all) (acknowledgements ms earlier) (acknowledgements ms all) (leaderships ms earlier) (leaderships ms all) (network ms earlier) (network ms all) S T G;
+        refusals = refusals ms (requests ms earlier) (requests ms all) (acknowledgements ms earlier) (acknowledgements ms all) (leaderships ms earlier) (leaderships ms all) (network ms earlier) (network ms all) S T G;
+        made = made_so ms (requests ms earlier) (requests ms all) (acknowledgements ms earlier) (acknowledgements ms all) (leaderships ms earlier) (leaderships ms all) (network ms earlier) (network ms all) S T G;
+      }
 
   pub history : HaveAnswers ms
   unfolding log_of answers_of
@@ -52,5 +52,7 @@ module _ (ms : Monitors) where
     is_of = λ steps may. is_log ms (requests ms steps) (acknowledgements ms steps) (leaderships ms steps) (network ms steps) (stood steps may);
     of_log = λ steps may. all_of_log ms (requests ms steps) (acknowledgements ms steps) (leaderships ms steps) (network ms steps) (stood steps may);
     brings = λ steps may. brings ms (requests ms steps) (acknowledgements ms steps) (leaderships ms steps) (network ms steps) (stood steps may);
+    unmade = λ steps may. unmade_so ms (requests ms steps) (acknowledgements ms steps) (leaderships ms steps) (network ms steps) (stood steps may);
+    once = λ steps may. answered_so ms (requests ms steps) (acknowledgements ms steps) (leaderships ms steps) (network ms steps) (stood steps may);
     goes_on = adds;
   }

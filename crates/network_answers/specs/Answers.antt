@@ -1,7 +1,7 @@
 -- What processes answer clients over a history. The reads and writes of an epoch have one order, and each refusal
 -- follows from the one log.
-use Rattle.std.specs.Prelude.{◌≡◌, ◌⊎◌, ℕ, ◌<◌, ◌≤◌, List, [], length, ◌++◌, Some, Err}
-use Rattle.std.specs.List.{AllByRecursion, Contains}
+use Rattle.std.specs.Prelude.{◌≡◌, ◌⊎◌, ℕ, ◌<◌, ◌≤◌, List, [], length, Some, Err}
+use Rattle.std.specs.List.{Contains}
 use Rattle.log_model.specs.LogOfValues.{view_at}
 use Rattle.mon_bytes.specs.declared.command.Command.{Command}
 use Rattle.mon_bytes.specs.declared.command.CommandRefused.{CommandRefused}
@@ -14,16 +14,12 @@ use Rattle.mon_wire.specs.declared.reply.Reply.{Reply}
 use Rattle.mon_wire.specs.declared.reply.Reply.TheVariants as reply
 use Rattle.mon_wire.specs.declared.request.Request.{Request}
 use Rattle.mon_wire.specs.declared.request.Session.{Session}
+use Rattle.quorum_answers.specs.Changes.{HasNext}
 use Rattle.quorum_answers.specs.Reads.{Shows}
-use Rattle.quorum_answers.specs.Refused.{IsRefusalReply}
 use Rattle.quorum_model.specs.Clients.{command_of}
-use Rattle.quorum_model.specs.Monitors.{Monitors}
 use Rattle.quorum_model.specs.Shown.{AreAfter}
 use Rattle.quorum_model.specs.World.{Acknowledgement, Asked}
-use Rattle.quorum_network.specs.History.{Extends}
-use Rattle.quorum_network.specs.Network.{AllMay, Posted, Step, network}
-use Rattle.quorum_network.specs.Promises.{AreAnswers, IsLogOf, IsNoOlder, IsOfLog, Requested}
-use Rattle.quorum_network.specs.Requests.{acknowledgements, requests}
+use Rattle.quorum_network.specs.Promises.{IsNoOlder, IsOfLog, Requested}
 use Rattle.quorum_network.specs.Running.{reply_message}
 
 -- ---- answers
@@ -49,11 +45,13 @@ pub record IsAnswer (n : ℕ) (answers : List Answer) (i c : ℕ) (bytes : List 
   pub has_text : HasText (message_of n answer)
   pub is_text : bytes ≡ text (message_of n answer)
 
--- What is shown is the log's up to this version. Here each kind of reply is named, so that whoever adds one decides
--- what is promised of it.
+-- What is shown is the log's up to this version. Changes are those after the version that was asked for, and have at
+-- least the next one, if there is one. Here each kind of reply is named, so that whoever adds one decides what is
+-- promised of it.
 abbrev pub IsUpTo : List (List ℕ) → (last : ℕ) → Reply → Type 0
 IsUpTo log last (reply.Shown s paxos version map) = paxos ≡ last
-IsUpTo log last (reply.Since s from told more) = AreAfter (incrementals s log last) from told more
+IsUpTo log last (reply.Since s from told more) =
+    AreAfter (incrementals s log last) from told more × HasNext (incrementals s log last) from told
 IsUpTo log last (reply.Done v) = Unit {0}
 IsUpTo log last reply.NoSuch = Unit {0}
 IsUpTo log last (reply.TooLong len most) = Unit {0}
@@ -104,38 +102,3 @@ pub record IsRefused (before requests : List Asked) (acks : List Acknowledgement
   pub refused : value (view_at log version) command a.rank ≡ Err why
   pub says : a.reply ≡ refusal why
   pub since : Requested before a.rank a.session request ⊎ IsNoOlder acks a.epoch version
-
--- ---- a history
-
--- What steps add to earlier ones: to the log, to what was acknowledged, to the answers, and to what was sent.
--- Datagrams that they send to clients are of the answers that they add.
-pub record Adds (ms : Monitors) (earlier later : List Step) (old_log log : List (List ℕ)) (old answers : List Answer)
-    : Type 0 where
-  pub extends : Extends log old_log
-  pub writes : List Acknowledgement
-  pub acknowledged : acknowledgements ms later ≡ acknowledgements ms earlier ++ writes
-  pub more : List Answer
-  pub answered : answers ≡ old ++ more
-  pub sent : List Posted
-  pub wire : (network ms later).sent ≡ (network ms earlier).sent ++ sent
-  pub brings : AreAnswers (IsAnswer ms.count more) sent
-  pub order : AreInOrder (acknowledgements ms earlier) old writes more
-  pub refusals : AllByRecursion
-      (λ (a : Answer). IsRefusalReply a.reply
-      → IsRefused (requests ms earlier) (requests ms later) (acknowledgements ms earlier) log a) answers
-
--- After each list of steps there are a log and a list of answers, and later steps only add to both. All maps and all
--- answers are of that log. Every datagram that went to a client is of one of these answers, and a client joins only
--- such.
-pub record HaveAnswers (ms : Monitors) : Type 0 where
-  pub log : (steps : List Step) → AllMay ms steps → List (List ℕ)
-  pub answers : (steps : List Step) → AllMay ms steps → List Answer
-  pub is_of : (steps : List Step) (may : AllMay ms steps)
-      → IsLogOf ms (requests ms steps) (acknowledgements ms steps) (network ms steps) (log steps may)
-  pub of_log : (steps : List Step) (may : AllMay ms steps) → AllByRecursion
-      (IsOfThisLog (requests ms steps) (acknowledgements ms steps) (log steps may)) (answers steps may)
-  pub brings : (steps : List Step) (may : AllMay ms steps)
-      → AreAnswers (IsAnswer ms.count (answers steps may)) (network ms steps).sent
-  pub goes_on : (later earlier : List Step) (may : AllMay ms (later ++ earlier)) → (old : AllMay ms earlier)
-      × Adds ms earlier (later ++ earlier) (log earlier old) (log (later ++ earlier) may) (answers earlier old)
-      (answers (later ++ earlier) may)

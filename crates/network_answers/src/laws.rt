@@ -12,7 +12,7 @@ ghost use Rattle.quorum_model.specs.Monitors.{Monitors};
 ghost use Rattle.quorum_network.specs.Network.{Step, network};
 ghost use Rattle.quorum_network.specs.Promises.{IsLogOf, Numbers};
 ghost use Rattle.quorum_network.specs.Requests.{acknowledgements, requests};
-ghost use Rattle.network_answers.specs.Answers.{HaveAnswers};
+ghost use Rattle.network_answers.specs.History.{HaveAnswers};
 ghost use Rattle.network_answers.specs.Followers.{Reaches, Writes};
 
 /// For a whole history of a network there are one log and one list of answers, which only grow. Every datagram that
@@ -26,6 +26,12 @@ ghost use Rattle.network_answers.specs.Followers.{Reaches, Writes};
 /// Each NoSuch, TooLong and MapFull answers a command that its session asked of its monitor. The command's service
 /// refuses the command so over the log up to some version. Take any point in time before the command was asked: that
 /// version isn't below any that was acknowledged in the answer's epoch by then.
+///
+/// Each version of the log is the value of a request of its own, and versions of some point in time are of requests
+/// that came to processes by then. So a command is committed no more often than its requests came. A session that gets
+/// an answer other than Done has a request of which no version is, neither before the answer nor ever after. If it asked
+/// that monitor only once, that is the request answered. A process answers a session no more often than requests of the
+/// session came to it. A request whose datagram comes twice counts as two requests.
 pub fn law_answers()
     ensures { (ms : Monitors) → HaveAnswers ms }
 {}

@@ -1,7 +1,12 @@
-//! The laws of the answers that processes on a network give: in which order reads and writes appear, what a refusal
-//! means, and which copy a client holds that follows the processes.
+//! The laws of the answers that processes on a network give: in which order reads and writes appear, within an epoch
+//! and over all epochs, what a refusal means, which request an answer is to, and which copy a client holds that follows
+//! the processes.
 #![tactic(auto)]
 
+mod fresh;
 mod laws;
+mod one_request;
 
+pub use fresh::{law_fresh, law_writes};
 pub use laws::{law_answers, law_followers};
+pub use one_request::law_one_request;

@@ -10,7 +10,7 @@ use Rattle.quorum_agreement.proofs.Every.{grows}
 use Rattle.quorum_model.specs.Events.{AllFit}
 use Rattle.quorum_model.specs.Monitors.{Monitors, me_of}
 use Rattle.quorum_model.specs.Runs.{run}
-use Rattle.quorum_model.specs.World.{Acknowledged, Acknowledgement, Asked, Arrives, Event, Replied, World}
+use Rattle.quorum_model.specs.World.{Acknowledged, Acknowledgement, Asked, Event, Replied, World}
 use Rattle.quorum_network.proofs.Adding.{AllLater, IsAt, IsLater, IsRepliedAt}
 use Rattle.quorum_network.proofs.Assembling.{Assembly}
 use Rattle.quorum_network.proofs.Facts.{Facts}
@@ -20,7 +20,7 @@ use Rattle.quorum_network.proofs.Sends.{posted_behind, posted_more}
 use Rattle.quorum_network.proofs.Steps.{step_next}
 use Rattle.quorum_network.proofs.Whole.{Stands, reach_more, stands, stands_next}
 use Rattle.quorum_network.specs.History.{Extends}
-use Rattle.quorum_network.specs.Network.{AllMay, Network, Posted, Step, after_step, network}
+use Rattle.quorum_network.specs.Network.{AllMay, Network, Posted, Step, after_step, may_before, network}
 use Rattle.quorum_network.specs.Requests.{Leadership, acknowledged_at, acknowledgements, asked_by, leaderships, led_at, requests}
 
 -- What the later steps add to the run: events, the acknowledgements and replies of these events, and datagrams. A
@@ -52,7 +52,7 @@ module _ (A : Assembly) (ms : Monitors) (old_asks bs asks : List Asked) (old_ack
   one_more : (N : Next A ms asks added led between.sent T.inv.ls net T.w)
       → GoesOn A ms old_asks (bs ++ asks) old_acks (acks ++ added) old_leads (leads ++ led) old net S (stands_next A ms bs asks acks added leads led between.sent between net T N)
   unfolding reach_more stands_next
-  one_more (Still same none nobody I letters) = record {
+  one_more (Still same unasked none nobody I letters) = record {
     more = G.more;
     is = G.is;
     events = G.events;
@@ -70,8 +70,8 @@ module _ (A : Assembly) (ms : Monitors) (old_asks bs asks : List Asked) (old_ack
     among = λ l c. subst (λ (ls : List Letter). Contains ls l) (sym letters) (G.among l c);
   }
   one_more (Moved M) = record {
-    more = G.more ++ Arrives M.plain ∷ [];
-    is = ap (λ (es : List Event). es ++ Arrives M.plain ∷ []) G.is ∙ append_assoc S.reach.events G.more (Arrives M.plain ∷ []);
+    more = G.more ++ M.event ∷ [];
+    is = ap (λ (es : List Event). es ++ M.event ∷ []) G.is ∙ append_assoc S.reach.events G.more (M.event ∷ []);
     events = let le = G.events in let now = M.adds.events in omega (arith, le, now);
     writes = G.writes ++ M.adds.new;
     acknowledged = M.adds.acknowledged ∙ ap (λ (xs : List Acknowledged). xs ++ M.adds.new) G.acknowledged ∙ append_assoc S.w.acknowledged G.writes M.adds.new;
@@ -124,16 +124,14 @@ none_more A ms asks acks leads net S = record {
   among = λ l c. absurd (omega (arith, c.1));
 }
 
-pub goes_on : (A : Assembly) (ms : Monitors) (F : Facts ms) (later earlier : List Step) (may : AllMay ms (later ++ earlier)) → (old : AllMay ms earlier)
-    × GoesOn A ms (requests ms earlier) (requests ms (later ++ earlier)) (acknowledgements ms earlier) (acknowledgements ms (later ++ earlier)) (leaderships ms earlier) (leaderships ms (later ++ earlier)) (network ms earlier) (network ms (later ++ earlier))
-    (stands A ms F earlier old) (stands A ms F (later ++ earlier) may)
-unfolding network AllMay requests acknowledgements leaderships stands
-goes_on A ms F [] earlier may = (may, none_more A ms (requests ms earlier) (acknowledgements ms earlier) (leaderships ms earlier) (network ms earlier) (stands A ms F earlier may))
+pub goes_on : (A : Assembly) (ms : Monitors) (F : Facts ms) (later earlier : List Step) (may : AllMay ms (later ++ earlier))
+    → GoesOn A ms (requests ms earlier) (requests ms (later ++ earlier)) (acknowledgements ms earlier) (acknowledgements ms (later ++ earlier)) (leaderships ms earlier) (leaderships ms (later ++ earlier)) (network ms earlier) (network ms (later ++ earlier))
+    (stands A ms F earlier (may_before ms later earlier may)) (stands A ms F (later ++ earlier) may)
+unfolding network AllMay may_before requests acknowledgements leaderships stands
+goes_on A ms F [] earlier may = none_more A ms (requests ms earlier) (acknowledgements ms earlier) (leaderships ms earlier) (network ms earlier) (stands A ms F earlier may)
 goes_on A ms F (s ∷ later) earlier may =
     let now : Network = network ms (later ++ earlier) in
     let G = goes_on A ms F later earlier may.0 in
-    let T = stands A ms F (later ++ earlier) may.0 in (
-      G.0,
-      one_more A ms (requests ms earlier) (requests ms (later ++ earlier)) (asked_by now s (me_of ms s.rank)) (acknowledgements ms earlier) (acknowledgements ms (later ++ earlier)) (acknowledged_at now s (me_of ms s.rank)) (leaderships ms earlier) (leaderships ms (later ++ earlier)) (led_at now s (me_of ms s.rank)) (network ms earlier) now (after_step ms now s)
-          (stands A ms F earlier G.0) T G.1 (step_next A ms F now T.w T.reach T.inv s may.1),
-    )
+    let T = stands A ms F (later ++ earlier) may.0 in
+    one_more A ms (requests ms earlier) (requests ms (later ++ earlier)) (asked_by now s (me_of ms s.rank)) (acknowledgements ms earlier) (acknowledgements ms (later ++ earlier)) (acknowledged_at now s (me_of ms s.rank)) (leaderships ms earlier) (leaderships ms (later ++ earlier)) (led_at now s (me_of ms s.rank)) (network ms earlier) now (after_step ms now s)
+    (stands A ms F earlier (may_before ms later earlier may.0)) T G (step_next A ms F now T.w T.reach T.inv s may.1)

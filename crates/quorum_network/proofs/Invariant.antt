@@ -13,7 +13,7 @@ use Rattle.mon_wire.specs.declared.message.Message.{Message}
 use Rattle.quorum_model.specs.Events.{PlainFits}
 use Rattle.quorum_model.specs.Happens.{happens}
 use Rattle.quorum_model.specs.Monitors.{Monitors, me_of}
-use Rattle.quorum_model.specs.World.{Asked, World, Plain, Arrives, Envelope, Replied, Acknowledgement}
+use Rattle.quorum_model.specs.World.{Asked, World, Event, plain_of, Envelope, Replied, Acknowledgement}
 use Rattle.quorum_network.specs.Network.{Network, Posted, Process, Up, Down, map_of, newest, number_of}
 use Rattle.quorum_network.specs.Requests.{Leadership}
 use Rattle.quorum_network.specs.Running.{answer_of}
@@ -65,13 +65,13 @@ module _ (A : Assembly) (ms : Monitors) where
     pub alive : (j : ℕ) → j < ms.count → IsAlive (net.lives j) (net.process j)
     pub numbers : (j : ℕ) → number_of net.lives j ≤ 2 ^ 62
 
-  -- The run has one further event, which adds no more than these requests, acknowledgements and leaders. The network
-  -- has further datagrams after these.
+  -- The run has one further event, which adds these requests, acknowledgements and leaders. The network has further
+  -- datagrams after these.
   pub record Moves (asks : List Asked) (acks : List Acknowledgement) (leads : List Leadership) (before : List Posted) (ls : List Letter) (net : Network) (w : World) : Type 0 where
-    pub plain : Plain
+    pub event : Event
     pub world : World
-    pub fits : PlainFits ms.count plain
-    pub next : happens ms w (Arrives plain) ≡ Ok world
+    pub fits : PlainFits ms.count (plain_of event)
+    pub next : happens ms w event ≡ Ok world
     pub sent : List Posted
     pub wire : net.sent ≡ before ++ sent
     pub adds : Adds ms.count asks acks leads sent w world
@@ -81,5 +81,5 @@ module _ (A : Assembly) (ms : Monitors) where
 
   -- The invariant holds after a step of the network, with no further event of the run or with one.
   pub data Next (asks : List Asked) (acks : List Acknowledgement) (leads : List Leadership) (before : List Posted) (ls : List Letter) (net : Network) (w : World) : Type 0 where
-    Still : net.sent ≡ before → acks ≡ [] → leads ≡ [] → (I : Inv net w) → I.ls ≡ ls → Next asks acks leads before ls net w
+    Still : net.sent ≡ before → asks ≡ [] → acks ≡ [] → leads ≡ [] → (I : Inv net w) → I.ls ≡ ls → Next asks acks leads before ls net w
     Moved : Moves asks acks leads before ls net w → Next asks acks leads before ls net w

@@ -276,7 +276,7 @@ module _ (A : Assembly) (ms : Monitors) (F : Facts ms) (net : Network) (w : Worl
         pub moves : (asks : List Asked) → v.asked ≡ w.asked ++ asks
             → Moves A ms asks (acknowledged_in (map_after n r) r.state r.sends) (led_in i (map_after n r) r.state) net.sent I.ls then_net w
         moves asks asked = record {
-          plain = p;
+          event = Arrives p;
           world = v;
           fits = fits;
           next = happens_so;

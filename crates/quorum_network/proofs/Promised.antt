@@ -30,7 +30,7 @@ use Rattle.mon_msg.specs.Protocol.Readings.{epoch_of, readings_of}
 use Rattle.quorum_model.specs.Runs.{Ran, run}
 use Rattle.quorum_model.specs.Shown.{AskedFor, Fence, IsFenced, IsShown, ShowsLog, WasAskedFor}
 use Rattle.quorum_model.specs.World.{Acknowledged, Acknowledgement, Asked, Event, Replied, World}
-use Rattle.quorum_network.specs.Network.{AllMay, Down, Network, Posted, Process, Step, Up, map_of, network, state_of}
+use Rattle.quorum_network.specs.Network.{AllMay, Down, Network, Posted, Process, Step, Up, map_of, may_before, network, state_of}
 use Rattle.quorum_network.specs.Promises.{AgreeWith, AreAnswers, HaveOneLog, IsDone, IsKeptBy, IsLogOf, IsNoOlder, IsOfLog, IsReply, Leads, Requested}
 use Rattle.quorum_network.specs.Running.{IsOfRun, answer_of}
 use Rattle.quorum_network.proofs.Adding.{AllLater, IsBy, IsLater, given, noted_as}
@@ -40,7 +40,7 @@ use Rattle.quorum_network.proofs.Joined.{letters_answer}
 use Rattle.quorum_network.proofs.Letters.{AreLetters, IsPosted, Letter}
 use Rattle.quorum_network.proofs.Invariant.{IsSaid}
 use Rattle.quorum_network.proofs.Leading.{IsNoted, noted}
-use Rattle.quorum_network.proofs.Whole.{Stands, facts, of_run, stands}
+use Rattle.quorum_network.proofs.Whole.{Stands, asked_among, facts, of_run, stands}
 use Rattle.quorum_walk.proofs.Lists.{all_map}
 use Rattle.mon_msg.specs.Protocol.State.{State}
 use Rattle.std.proofs.lemmas.List.Elements.{Contains-append_left}
@@ -220,7 +220,7 @@ module _ (ms : Monitors) (asks : List Asked) (acks : List Acknowledgement) (lead
   runs_so = subst (IsOfRun ms net) (sym world_is) (of_run assembly ms net S.w S.inv)
 
   asked_so : AllByRecursion (λ a. Contains asks a) world.asked
-  asked_so = subst (λ (w : World). AllByRecursion (λ a. Contains asks a) w.asked) (sym world_is) S.asked
+  asked_so = asked_among asks world.asked (ap (λ (w : World). w.asked) world_is ∙ S.asked)
 
   pub stands_log : IsLogOf ms asks acks net world.log
   stands_log = subst (λ (xs : List Acknowledgement). IsLogOf ms asks xs net world.log) acks_are
@@ -250,9 +250,8 @@ one_log ms later earlier may =
     let acks : List Acknowledgement = acknowledgements ms (later ++ earlier) in
     let leads : List Leadership = leaderships ms (later ++ earlier) in
     let net : Network = network ms (later ++ earlier) in
-    let went = goes_on assembly ms (facts ms) later earlier may in
-    let G = went.1 in
-    let B = stands assembly ms (facts ms) earlier went.0 in
+    let G = goes_on assembly ms (facts ms) later earlier may in
+    let B = stands assembly ms (facts ms) earlier (may_before ms later earlier may) in
     let T = stands assembly ms (facts ms) (later ++ earlier) may in
     let up = grown_log assembly ms (requests ms earlier) asks (acknowledgements ms earlier) acks (leaderships ms earlier) leads (network ms earlier) net B T G in
     let log = (run ms B.reach.events).log in
@@ -327,11 +326,6 @@ leads_stay : (ms : Monitors) (later earlier : List Step) (a : Leadership) → Co
 unfolding leaderships
 leads_stay ms [] earlier a c = c
 leads_stay ms (s ∷ later) earlier a c = Contains-append_left (leaderships ms (later ++ earlier)) (led_at (network ms (later ++ earlier)) s (me_of ms s.rank)) a (leads_stay ms later earlier a c)
-
-may_before : (ms : Monitors) (later earlier : List Step) → AllMay ms (later ++ earlier) → AllMay ms earlier
-unfolding AllMay
-may_before ms [] earlier may = may
-may_before ms (s ∷ later) earlier may = may_before ms later earlier may.0
 
 pub two_lead : (ms : Monitors) (later earlier : List Step) → AllMay ms (later ++ earlier) → (i j e : ℕ) → i < ms.count → j < ms.count
     → Leads (network ms earlier) i e → Leads (network ms (later ++ earlier)) j e → i ≡ j

@@ -39,15 +39,15 @@ use Rattle.mon_tx.specs.declared.op.Op.{Op}
 use Rattle.mon_types.specs.declared.names.Which.{Which}
 use Rattle.mon_types.specs.declared.names.Which.TheVariants as which
 use Rattle.quorum_model.specs.Events.{PlainFits}
-use Rattle.quorum_model.specs.Happens.{moved}
+use Rattle.quorum_model.specs.Happens.{after_meeting, lost, moved}
 use Rattle.quorum_model.specs.Meets.{Arrival, arrival, message_at, state_at}
 use Rattle.quorum_model.specs.Monitors.{Monitors, me_of}
-use Rattle.quorum_model.specs.World.{Acknowledgement, Asked, Client, Deliver, Envelope, Plain, Ring, Start, World}
+use Rattle.quorum_model.specs.World.{Acknowledgement, Asked, Client, Crash, Deliver, Envelope, Plain, Ring, Start, World}
 use Rattle.quorum_network.specs.Network.{Network, Process, Up, Down, map_of, Doing, Begins, Iterates, Until, Whole, Lost, Kept, Step, StepOutcome, iteration_of, kept_reaction, down, at_end, outcome_of, with_outcome, if_made, made_by, after_step, IsAsked, May, newest, number_of}
 use Rattle.quorum_model.specs.Happens.{put_at}
 use Rattle.quorum_network.proofs.Assembled.{contains_first, contains_later}
 use Rattle.quorum_network.proofs.Assembling.{Assembly}
-use Rattle.quorum_network.proofs.Events.{IsMe, known}
+use Rattle.quorum_network.proofs.Events.{IsMe, known, meets_it}
 use Rattle.quorum_network.proofs.Facts.{Facts, Reach}
 use Rattle.quorum_network.proofs.Inputs.{CameFine, HeardFine, heard_fine}
 use Rattle.quorum_network.proofs.Invariant.{IsAlive, IsUp, IfUp, Mine, Inv, Next, Still, Moved}
@@ -81,6 +81,10 @@ brings w (Start rank at) olds b e = same_arrival olds olds (record { rank = rank
 brings w (Deliver k at) olds b e = delivered_asks olds at (message_at w.messages k) b e
 brings w (Ring rank t at) olds b e = same_arrival olds olds (record { rank = rank; at = at; input = input.Timer t }) b e (sym (append-nil olds))
 brings w (Client rank at session q) olds b e = same_arrival olds (olds ++ record { rank = rank; session = session; request = q } ∷ []) (record { rank = rank; at = at; input = input.Client session q }) b e refl
+
+lost_asked : (w : World) (p : Plain) (i at : ℕ) (came : Input) → arrival w p ≡ Some (record { rank = i; at = at; input = came }) → (lost w p i).asked ≡ w.asked ++ asks_in i came
+unfolding lost
+lost_asked w p i at came there = brings w p w.asked (record { rank = i; at = at; input = came }) there
 
 asked_so : (w : World) (p : Plain) (i at : ℕ) (came : Input) (r : Reaction) → arrival w p ≡ Some (record { rank = i; at = at; input = came }) → (moved w p i r).asked ≡ w.asked ++ asks_in i came
 asked_so w p i at came r there = moved_asked w p i r ∙ brings w p w.asked (record { rank = i; at = at; input = came }) there
@@ -142,11 +146,11 @@ module _ (A : Assembly) (ms : Monitors) (F : Facts ms) (net : Network) (w : Worl
   NextOf olds acks leads l = Next A ms olds acks leads net.sent I.ls (with_outcome net i l) w
 
   -- nothing is kept, and nothing is sent
-  unkept : (olds : List Asked) (q : Process) → map_of q ≡ map_of (net.process i) → IfUp A ms I.ls (number_of net.lives i) i (w.state i) q → IsAlive (net.lives i) q → NextOf olds [] [] (record { process = q; sends = [] })
-  unkept olds q e u a = let holds = still_holds q e u a in Still (append-nil net.sent) refl refl holds.0 holds.1
+  unkept : (q : Process) → map_of q ≡ map_of (net.process i) → IfUp A ms I.ls (number_of net.lives i) i (w.state i) q → IsAlive (net.lives i) q → NextOf [] [] [] (record { process = q; sends = [] })
+  unkept q e u a = let holds = still_holds q e u a in Still (append-nil net.sent) refl refl refl holds.0 holds.1
 
-  still_down : (olds : List Asked) (came : Result (Option TimedInput) NodeEnd) (s : Serving) → IterationFine came s → NextOf olds [] [] (record { process = Down s.node.store.kv; sends = [] })
-  still_down olds came s T = unkept olds (Down s.node.store.kv) T.kv tt tt
+  still_down : (came : Result (Option TimedInput) NodeEnd) (s : Serving) → IterationFine came s → NextOf [] [] [] (record { process = Down s.node.store.kv; sends = [] })
+  still_down came s T = unkept (Down s.node.store.kv) T.kv tt tt
 
   -- ---- an iteration with an input
   module _ (s : Serving) (it : TimedInput) (T : IterationFine (Ok (Some it)) s) where
@@ -165,6 +169,58 @@ module _ (A : Assembly) (ms : Monitors) (F : Facts ms) (net : Network) (w : Worl
     here : n.store.kv ≡ w.store i
     here = T.kv ∙ (I.mine i M.below).map
 
+    -- the run's monitor went down too, before it kept anything
+    lost_holds : Inv A ms (with_outcome net i (record { process = Down n.store.kv; sends = [] })) (lost w E.plain i)
+    unfolding lost
+    lost_holds = record {
+      ls = I.ls;
+      mine = λ j lt. mine_by j lt (eqb j i) refl;
+      posted = all_append (IsPosted I.ls) net.sent [] I.posted tt;
+      letters = I.letters;
+      said = I.said;
+      known = I.known;
+      alive = λ j lt. alive_by j lt (eqb j i);
+      numbers = I.numbers;
+    }
+      where
+        mine_by : (j : ℕ) → j < ms.count → (b : Bool) → eqb j i ≡ b → Mine A ms I.ls (number_of net.lives j) j (cond b (Down n.store.kv) (net.process j)) (w.store j) (cond b None (w.state j))
+        mine_by j lt true k = subst (λ (x : ℕ). Mine A ms I.ls (number_of net.lives x) x (Down n.store.kv) (w.store x) None) (sym (eqb-true j i k)) (record { map = here; up = tt })
+        mine_by j lt false k = I.mine j lt
+
+        alive_by : (j : ℕ) → j < ms.count → (b : Bool) → IsAlive (net.lives j) (cond b (Down n.store.kv) (net.process j))
+        alive_by j lt true = tt
+        alive_by j lt false = I.alive j lt
+
+    -- it is a crash of the run, which notes what was asked
+    lost_next : NextOf (asks_in i it.input) [] [] (record { process = Down n.store.kv; sends = [] })
+    unfolding lost lost_holds
+    lost_next = Moved (record {
+      event = Crash E.plain false;
+      world = lost w E.plain i;
+      fits = E.fits;
+      next = ap (after_meeting w (Crash E.plain false)) (meets_it ms w E.plain i it.at it.input me n.state E.there is E.up);
+      sent = [];
+      wire = refl;
+      adds = record {
+        asked = lost_asked w E.plain i it.at it.input E.there;
+        events = refl;
+        new = [];
+        acknowledged = sym (append-nil w.acknowledged);
+        given_are = refl;
+        numbered = tt;
+        replies = [];
+        replied = sym (append-nil w.replied);
+        answered = tt;
+        active = sym (append-nil w.active);
+        letters = [];
+        posted = tt;
+        later = λ l c. absurd (omega (arith, c.1));
+      };
+      inv = lost_holds;
+      old = λ l c. c;
+      new = λ l c. absurd (omega (arith, c.1));
+    })
+
     -- down, with some of its datagrams sent
     down_next : (k : ℕ) (r : Reaction) → reaction_to me n it ≡ Ok r → nat_lt most_size (size_of (map_after n r)) ≡ false
         → NextOf (asks_in i it.input) (acknowledged_by n (Some r)) (led_by i n (Some r)) (down me n k (Some r))
@@ -180,11 +236,11 @@ module _ (A : Assembly) (ms : Monitors) (F : Facts ms) (net : Network) (w : Worl
     DownNext k o = NextOf (asks_in i it.input) (acknowledged_by n o) (led_by i n o) (down me n k o)
 
     kept_next : (k : ℕ) (x : Result Reaction Which) → reaction_to me n it ≡ x → DownNext k (kept_reaction me t)
-    kept_next k (Err which) e = subst (DownNext k) (sym (ap (of_input None small_of) e)) (still_down (asks_in i it.input) (Ok (Some it)) s T)
+    kept_next k (Err which) e = subst (DownNext k) (sym (ap (of_input None small_of) e)) lost_next
     kept_next k (Ok r) e = subst (DownNext k) (sym (ap (of_input None small_of) e)) (by (nat_lt most_size (size_of (map_after n r))) refl)
       where
         by : (b : Bool) → nat_lt most_size (size_of (map_after n r)) ≡ b → DownNext k (cond b None (Some r))
-        by true small = still_down (asks_in i it.input) (Ok (Some it)) s T
+        by true small = lost_next
         by false small = down_next k r e small
 
     -- up, with all of them sent
@@ -230,11 +286,13 @@ module _ (A : Assembly) (ms : Monitors) (F : Facts ms) (net : Network) (w : Worl
   iteration_next : (came : Result (Option TimedInput) NodeEnd) (s : Serving) (u : Until) → IterationFine came s
       → NextOf (requests_in i came) (acknowledged_by s.node (kept_by me (record { came = came; serving = s }) u)) (led_by i s.node (kept_by me (record { came = came; serving = s }) u)) (outcome_of me (record { came = came; serving = s }) u)
   unfolding ended_iteration
-  iteration_next came s Lost T = still_down (requests_in i came) came s T
-  iteration_next (Err e) s Whole T = still_down [] (Err e) s T
-  iteration_next (Err e) s (Kept k) T = still_down [] (Err e) s T
-  iteration_next (Ok None) s Whole T = unkept [] (Up s) T.kv T.so T.alive
-  iteration_next (Ok None) s (Kept k) T = still_down [] (Ok None) s T
+  iteration_next (Err e) s Lost T = still_down (Err e) s T
+  iteration_next (Err e) s Whole T = still_down (Err e) s T
+  iteration_next (Err e) s (Kept k) T = still_down (Err e) s T
+  iteration_next (Ok None) s Lost T = still_down (Ok None) s T
+  iteration_next (Ok None) s Whole T = unkept (Up s) T.kv T.so T.alive
+  iteration_next (Ok None) s (Kept k) T = still_down (Ok None) s T
+  iteration_next (Ok (Some it)) s Lost T = lost_next s it T
   iteration_next (Ok (Some it)) s Whole T = whole_next s it T (reaction_to me s.node it) refl
   iteration_next (Ok (Some it)) s (Kept k) T = kept_next s it T k (reaction_to me s.node it) refl
 
@@ -385,11 +443,11 @@ module _ (A : Assembly) (ms : Monitors) (F : Facts ms) (net : Network) (w : Worl
       subst (λ (ls : List Letter). Next A ms (asked_in_iteration i (Some t)) (acknowledged_in_iteration me u (Some t)) (led_in_iteration i me u (Some t)) net.sent ls (with_outcome then_net i (outcome_of me t u)) w) J.1
       (begins_next A ms F then_net w R J.0 i me is store_view clock link first u (may.0 ∙ ap map_of (sym e)) (has_here i life (eqb i i) one) none t refl)
   made_next i me is (Up s) (Iterates g) u e may up alive = turns_next A ms F net w R I i me is s g u e may up alive
-  made_next i me is (Down m) (Iterates g) u e may up alive = Still refl refl refl I refl
+  made_next i me is (Down m) (Iterates g) u e may up alive = Still refl refl refl refl I refl
 
   pub step_next : (s : Step) → May net s.rank (net.process s.rank) s.doing → Next A ms (asked_by net s (me_of ms s.rank)) (acknowledged_at net s (me_of ms s.rank)) (led_at net s (me_of ms s.rank)) net.sent I.ls (after_step ms net s) w
   step_next s may = by (me_of ms s.rank) refl
     where
       by : (x : Option Me) → me_of ms s.rank ≡ x → Next A ms (asked_by net s x) (acknowledged_at net s x) (led_at net s x) net.sent I.ls (made_by net s x) w
-      by None e = Still refl refl refl I refl
+      by None e = Still refl refl refl refl I refl
       by (Some me) e = made_next s.rank me e (net.process s.rank) s.doing s.up_to refl may (I.mine s.rank (known ms s.rank me e).below).up (I.alive s.rank (known ms s.rank me e).below)

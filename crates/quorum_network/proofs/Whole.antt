@@ -12,9 +12,8 @@ use Rattle.quorum_model.specs.Happens.{happens}
 use Rattle.quorum_model.specs.Events.{PlainFits}
 use Rattle.quorum_model.specs.Monitors.{Monitors, me_of}
 use Rattle.quorum_network.specs.Requests.{Leadership, acknowledged_at, acknowledgements, asked_by, leaderships, led_at, requests}
-use Rattle.std.proofs.lemmas.List.Elements.{Contains-append_left, Contains-append_right}
 use Rattle.quorum_model.specs.Runs.{Ran, run, ran_from}
-use Rattle.quorum_model.specs.World.{Acknowledged, Asked, Replied, World, Plain, Event, Arrives, first_world, plain_of, Acknowledgement}
+use Rattle.quorum_model.specs.World.{Acknowledged, Asked, Replied, World, Event, first_world, plain_of, Acknowledgement}
 use Rattle.quorum_network.specs.Network.{Network, Step, AllMay, Posted, network, first_network, after_step, number_of}
 use Rattle.quorum_network.specs.Running.{IsOfRun, IsSentInRun, DoesARun}
 use Rattle.quorum_network.proofs.Adding.{Adds, IsAt, IsBy, IsRepliedAt, IsRepliedBy, given, noted_as}
@@ -32,34 +31,25 @@ pub record Stands (A : Assembly) (ms : Monitors) (asks : List Asked) (acks : Lis
   pub w : World
   pub reach : Reach ms w
   pub inv : Inv A ms net w
-  pub asked : AllByRecursion (λ a. Contains asks a) w.asked
+  pub asked : w.asked ≡ asks
   pub given_are : map given w.acknowledged ≡ acks
   pub numbered : AllByRecursion (IsBy w.events) w.acknowledged
   pub dated : AllByRecursion (IsRepliedBy w.events) w.replied
   pub active : w.active ≡ map noted_as leads
 
-unfoldable pub reach_more : (ms : Monitors) (w v : World) (p : Plain) → Reach ms w → PlainFits ms.count p → happens ms w (Arrives p) ≡ Ok v → Reach ms v
-reach_more ms w v p R fits next = record {
-  events = R.events ++ Arrives p ∷ [];
-  fits = all_append (λ (e : Event). PlainFits ms.count (plain_of e)) R.events (Arrives p ∷ []) R.fits (fits, tt);
-  ran = ran_more ms first_world w v R.events (Arrives p) R.ran next;
+unfoldable pub reach_more : (ms : Monitors) (w v : World) (e : Event) → Reach ms w → PlainFits ms.count (plain_of e) → happens ms w e ≡ Ok v → Reach ms v
+reach_more ms w v e R fits next = record {
+  events = R.events ++ e ∷ [];
+  fits = all_append (λ (x : Event). PlainFits ms.count (plain_of x)) R.events (e ∷ []) R.fits (fits, tt);
+  ran = ran_more ms first_world w v R.events e R.ran next;
 }
 
 all_there : {X : Type 0} (xs : List X) → AllByRecursion (λ x. Contains xs x) xs
 all_there xs = all_self (λ x. Contains xs x) xs (λ x c. c)
 
--- what was asked before, and what is asked now
-pub asked_more : (olds more asked : List Asked) → AllByRecursion (λ a. Contains olds a) asked → AllByRecursion (λ a. Contains (olds ++ more) a) (asked ++ more)
-asked_more olds more asked h =
-    all_append (λ a. Contains (olds ++ more) a) asked more
-    (all_through (λ a. Contains olds a) (λ a. Contains (olds ++ more) a) (λ a c. Contains-append_left olds more a c) asked h)
-    (all_through (λ a. Contains more a) (λ a. Contains (olds ++ more) a) (λ a c. Contains-append_right olds more a c) more (all_there more))
-
-pub asked_still : (olds more asked : List Asked) → AllByRecursion (λ a. Contains olds a) asked → AllByRecursion (λ a. Contains (olds ++ more) a) asked
-asked_still olds more asked h = all_through (λ a. Contains olds a) (λ a. Contains (olds ++ more) a) (λ a c. Contains-append_left olds more a c) asked h
-
-pub asked_now : (olds more : List Asked) (w v : World) → v.asked ≡ w.asked ++ more → AllByRecursion (λ a. Contains olds a) w.asked → AllByRecursion (λ a. Contains (olds ++ more) a) v.asked
-asked_now olds more w v e h = subst (λ (asked : List Asked). AllByRecursion (λ a. Contains (olds ++ more) a) asked) (sym e) (asked_more olds more w.asked h)
+-- what the run asks came to processes
+pub asked_among : (asks asked : List Asked) → asked ≡ asks → AllByRecursion (λ a. Contains asks a) asked
+asked_among asks asked is = subst (λ (xs : List Asked). AllByRecursion (λ a. Contains asks a) xs) (sym is) (all_there asks)
 
 -- what was acknowledged before, and what is acknowledged now
 pub given_more : (xs ys : List Acknowledged) → map given (xs ++ ys) ≡ map given xs ++ map given ys
@@ -101,11 +91,11 @@ module _ (A : Assembly) (ms : Monitors) (olds more : List Asked) (acks added : L
     active_now = D.active ∙ ap (λ (xs : List (ℕ × ℕ)). xs ++ map noted_as led) S.active ∙ sym (noted_more leads led)
 
   unfoldable pub stands_next : Next A ms more added led before S.inv.ls net S.w → Stands A ms (olds ++ more) (acks ++ added) (leads ++ led) net
-  stands_next (Still sent none nobody I same) = record {
+  stands_next (Still sent unasked none nobody I same) = record {
     w = S.w;
     reach = S.reach;
     inv = I;
-    asked = asked_still olds more S.w.asked S.asked;
+    asked = S.asked ∙ sym (append-nil olds) ∙ ap (λ (xs : List Asked). olds ++ xs) (sym unasked);
     given_are = S.given_are ∙ sym (append-nil acks) ∙ ap (λ (xs : List Acknowledgement). acks ++ xs) (sym none);
     numbered = S.numbered;
     dated = S.dated;
@@ -113,9 +103,9 @@ module _ (A : Assembly) (ms : Monitors) (olds more : List Asked) (acks added : L
   }
   stands_next (Moved M) = record {
     w = M.world;
-    reach = reach_more ms S.w M.world M.plain S.reach M.fits M.next;
+    reach = reach_more ms S.w M.world M.event S.reach M.fits M.next;
     inv = M.inv;
-    asked = asked_now olds more S.w M.world M.adds.asked S.asked;
+    asked = M.adds.asked ∙ ap (λ (xs : List Asked). xs ++ more) S.asked;
     given_are = given_now M.world M.sent M.adds;
     numbered = numbered_now M.world M.sent M.adds;
     dated = dated_now M.world M.sent M.adds;
@@ -137,7 +127,7 @@ stands_first A ms = record {
     alive = λ j lt. tt;
     numbers = λ j. omega arith;
   };
-  asked = tt;
+  asked = refl;
   given_are = refl;
   numbered = tt;
   dated = tt;
@@ -191,6 +181,6 @@ network_runs ms steps may =
       events = R.events;
       fit = R.fits;
       of_run = subst (IsOfRun ms (network ms steps)) (sym is) (of_run assembly ms (network ms steps) S.w S.inv);
-      asked = subst (λ (w : World). AllByRecursion (λ a. Contains (requests ms steps) a) w.asked) (sym is) S.asked;
+      asked = ap (λ (w : World). w.asked) is ∙ S.asked;
       safe = safe ms R.events R.fits;
     }

@@ -1,7 +1,7 @@
 -- One log for a whole history.
 use Rattle.std.specs.Prelude.{◌≡◌, ℕ, List, ◌++◌}
 use Rattle.quorum_model.specs.Monitors.{Monitors}
-use Rattle.quorum_network.specs.Network.{AllMay, Step, network}
+use Rattle.quorum_network.specs.Network.{AllMay, Step, may_before, network}
 use Rattle.quorum_network.specs.Promises.{IsLogOf}
 use Rattle.quorum_network.specs.Requests.{acknowledgements, requests}
 
@@ -18,4 +18,4 @@ pub record HaveHistory (ms : Monitors) : Type 0 where
   pub is_of : (steps : List Step) (may : AllMay ms steps)
       → IsLogOf ms (requests ms steps) (acknowledgements ms steps) (network ms steps) (log steps may)
   pub grows : (later earlier : List Step) (may : AllMay ms (later ++ earlier))
-      → (old : AllMay ms earlier) × Extends (log (later ++ earlier) may) (log earlier old)
+      → Extends (log (later ++ earlier) may) (log earlier (may_before ms later earlier may))

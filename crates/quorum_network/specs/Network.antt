@@ -197,3 +197,10 @@ unfoldable pub AllMay : Monitors → List Step → Type 0
 AllMay ms [] = Unit {0}
 AllMay ms (s ∷ earlier) =
     AllMay ms earlier × May (network ms earlier) s.rank ((network ms earlier).process s.rank) s.doing
+
+-- if later steps may follow earlier ones, the earlier ones may be made
+unfoldable pub may_before : (ms : Monitors) (later earlier : List Step) → AllMay ms (later ++ earlier)
+    → AllMay ms earlier
+unfolding AllMay
+may_before ms [] earlier may = may
+may_before ms (s ∷ later) earlier may = may_before ms later earlier may.0

@@ -44,10 +44,11 @@ pub record IsOfRun (ms : Monitors) (net : Network) (w : World) : Type 0 where
   pub states : (i : ℕ) (s : Serving) → i < ms.count → net.process i ≡ Up s → w.state i ≡ Some s.node.state
   pub sent_in_run : AllByRecursion (λ (d : Posted). IsSentInRun ms.count w d.by d.datagram.to d.datagram.bytes) net.sent
 
--- A network does what some run of the model does, in which clients asked nothing but these requests. That run is safe.
+-- A network does what some run of the model does, in which clients asked these requests, in this order. That run is
+-- safe.
 pub record DoesARun (ms : Monitors) (requests : List Asked) (net : Network) : Type 0 where
   pub events : List Event
   pub fit : AllFit ms.count events
   pub of_run : IsOfRun ms net (run ms events)
-  pub asked : AllByRecursion (λ a. Contains requests a) (run ms events).asked
+  pub asked : (run ms events).asked ≡ requests
   pub safe : Safe ms events

@@ -45,8 +45,8 @@ use mon_disk::{Disk, NodeDisks};
 /// stores. Their network loses, repeats and delays datagrams. Each process may end, be killed and be started again at
 /// any point, on the map that its disks keep. Each start begins a life, with a number that its rank didn't have before.
 /// Whatever happens, there is a run of the model that has the map of each store, what each process that is up remembers,
-/// and each message and reply of which a datagram was sent. In it clients ask nothing but the requests that came to
-/// processes, and it is safe.
+/// and each message and reply of which a datagram was sent. In it clients ask the requests that came to processes, each
+/// as often and in the same order, and it is safe. A request that a process lost when it ended is one of these.
 pub fn law_network()
     ensures runs { (ms : Monitors) (steps : List Step) → AllMay ms steps
         → DoesARun ms (requests ms steps) (network ms steps) }

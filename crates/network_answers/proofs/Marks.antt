@@ -1,0 +1,71 @@
+-- A change that a version of a log makes was asked for.
+use Rattle.std.proofs.Common.{◌≡◌, ℕ, zero, suc, ◌<◌, ◌≤◌, cond, List, [], ◌∷◌, ◌++◌, length, length-append, Some, sym, ap, subst, ◌∙◌, arith}
+use Rattle.std.proofs.lemmas.List.{get_or_append_left}
+use Rattle.std.specs.List.{AllByRecursion, Contains}
+use Rattle.log_model.proofs.Committed.{ops_again}
+use Rattle.log_model.proofs.Lists.{of_all}
+use Rattle.log_model.proofs.Logs.{IsPrefixOf, entry_stays}
+use Rattle.log_model.specs.LogOfValues.{view_at}
+use Rattle.mon_bytes.specs.declared.command.Command.{Command}
+use Rattle.mon_msg.specs.Fold.{entry, put_in}
+use Rattle.mon_msg.specs.Protocol.Value.{service_of}
+use Rattle.mon_msg.specs.Puts.{area_of}
+use Rattle.mon_tx.specs.Decode.{ops_in}
+use Rattle.mon_tx.specs.Keys.{same_area}
+use Rattle.mon_wire.specs.declared.request.Service.TheVariants as service
+use Rattle.mon_wire.specs.declared.request.Service.{Service}
+use Rattle.quorum_model.proofs.Made.{puts_in}
+use Rattle.quorum_model.specs.Agree.{IsAsked}
+use Rattle.quorum_model.specs.Clients.{incremental_of, made_by}
+use Rattle.quorum_model.specs.Kept.{AcknowledgedOnce}
+use Rattle.quorum_model.specs.World.{Acknowledgement, Asked}
+use Rattle.std.specs.Option.{option_map}
+
+-- the only change of a value, which is its command's
+only : (t s : Service) (x y : List ℕ) → Contains (cond (same_area (area_of t) (area_of s)) (x ∷ []) []) y → ◌≡◌ {A = Service × List ℕ} (t, x) (s, y)
+only service.Kv service.Kv x y (zero, lt, e) = ap (λ (z : List ℕ). (service.Kv, z)) e
+only service.Kv service.Kv x y (suc k, lt, e) = absurd (omega (arith, lt))
+only service.Kv service.Log x y (k, lt, e) = absurd (omega (arith, lt))
+only service.Log service.Kv x y (k, lt, e) = absurd (omega (arith, lt))
+only service.Log service.Log x y (zero, lt, e) = ap (λ (z : List ℕ). (service.Log, z)) e
+only service.Log service.Log x y (suc k, lt, e) = absurd (omega (arith, lt))
+
+module _ (n : ℕ) (asked : List Asked) (log : List (List ℕ)) (v : ℕ) (A : IsAsked n asked log v) where
+  ops_are : ops_in (entry log (suc v)) ≡ A.ops
+  ops_are = ap ops_in A.encodes ∙ ops_again A.ops A.has_text
+
+  puts : (s : Service) → put_in s (ops_in (entry log (suc v))) ≡ cond (same_area (area_of (service_of A.command)) (area_of s)) (incremental_of A.by.rank A.command ∷ []) []
+  puts s = ap (put_in s) ops_are ∙ puts_in (view_at log v) A.command A.by.rank A.ops s A.made
+
+  made_is : made_by A.by.rank A.by.request ≡ Some (service_of A.command, incremental_of A.by.rank A.command)
+  made_is = ap (option_map (λ (c : Command). (service_of c, incremental_of A.by.rank c))) A.is
+
+  pub asked_made : (s : Service) (incremental : List ℕ) → Contains (put_in s (ops_in (entry log (suc v)))) incremental → made_by A.by.rank A.by.request ≡ Some (s, incremental)
+  asked_made s incremental c =
+      made_is ∙ ap (λ (p : Service × List ℕ). Some p)
+      (only (service_of A.command) s (incremental_of A.by.rank A.command) incremental (subst (λ (xs : List (List ℕ)). Contains xs incremental) (puts s) c))
+
+-- a version of a log that goes on is new if nobody had asked for its change
+pub above : (n : ℕ) (asked : List Asked) (old more : List (List ℕ)) (all : (v : ℕ) → v < length old → IsAsked n asked old v) (m : ℕ) (s : Service) (incremental : List ℕ)
+    → 1 ≤ m → Contains (put_in s (ops_in (entry (old ++ more) m))) incremental → AllByRecursion (λ (a : Asked). ¬ (made_by a.rank a.request ≡ Some (s, incremental))) asked → ¬ (m ≤ length old)
+above n asked old more all zero s incremental some c none le = absurd (omega (arith, some))
+above n asked old more all (suc v) s incremental some c none le =
+    let A = all v (omega (arith, le)) in
+    let begins : IsPrefixOf old (old ++ more) = record { short = omega (arith, length-append old more); same = λ i h. get_or_append_left old more [] i h } in
+    of_all (λ (a : Asked). ¬ (made_by a.rank a.request ≡ Some (s, incremental))) asked none A.by A.was_asked
+    (asked_made n asked old v A s incremental (subst (λ (x : List ℕ). Contains (put_in s (ops_in x)) incremental) (entry_stays begins (suc v) le) c))
+
+-- ---- acknowledgements
+
+abbrev version_of : Acknowledgement → ℕ
+version_of a = a.version
+
+none_again : (v : ℕ) (xs : List Acknowledgement) (a : Acknowledgement) → AllByRecursion (λ (b : Acknowledgement). ¬ (b.version ≡ v)) xs → Contains xs a → ¬ (a.version ≡ v)
+none_again v xs a h c = of_all (λ (b : Acknowledgement). ¬ (b.version ≡ v)) xs h a c
+
+pub one_of_version : (xs : List Acknowledgement) (a b : Acknowledgement) → AcknowledgedOnce version_of xs → Contains xs a → Contains xs b → a.version ≡ b.version → a ≡ b
+one_of_version [] a b h (k, lt, e) d same = absurd (omega (arith, lt))
+one_of_version (x ∷ xs) a b h (zero, lt, e) (zero, lt2, e2) same = sym e ∙ e2
+one_of_version (x ∷ xs) a b h (zero, lt, e) (suc k, lt2, e2) same = absurd (none_again x.version xs b h.0 (k, omega (arith, lt2), e2) (sym same ∙ ap version_of (sym e)))
+one_of_version (x ∷ xs) a b h (suc k, lt, e) (zero, lt2, e2) same = absurd (none_again x.version xs a h.0 (k, omega (arith, lt), e) (same ∙ ap version_of (sym e2)))
+one_of_version (x ∷ xs) a b h (suc k, lt, e) (suc l, lt2, e2) same = one_of_version xs a b h.1 (k, omega (arith, lt), e) (l, omega (arith, lt2), e2) same
