@@ -11,6 +11,8 @@ usage: tools/client.py [--config FILE] [--monitor R] [--timeout SECONDS] [--once
     get [--raw] KEY           prints the value of a key; with --raw its bytes and nothing else
     keys [--raw] [PREFIX]     prints the names of all keys, or of those with this prefix; with --raw one per line
     show SERVICE              prints the map of a service, kv or log
+    get, keys and show take --fresh (the map has every change that was acknowledged before the command began, whichever monitor shows it)
+    or --at-least V (the map is of version V or a later one of the log of all changes; set, remove and log print such versions)
     since SERVICE VERSION     prints the changes of its map after VERSION, or the whole map if these are no longer kept
     watch SERVICE [VERSION]   prints the map, and then each change as it is made, until it is stopped; with VERSION, the changes after it
 
@@ -29,6 +31,9 @@ An answer is one line of JSON, except with --raw. The status is
     4    it was served, but standard output failed. A change was made; standard error names its version
     130  it was interrupted (ctrl-C). A change may have been made
 
+Without --fresh, a monitor that is cut off may show an old map for some seconds. --fresh first makes two changes: it sets a key of its own, `fresh/` and
+random digits, and removes it. If the client or its connection ends in between, the key stays, and may be removed.
+
 A change without an answer is asked for again and may be made twice; a line on standard error says so if it may have happened. Setting or removing
 twice leaves the same map, unless another client changed it in between. A removal that was already made is then refused as "no such key", and a text
 stands in the log twice. To exclude that, use --once: the request is sent once, and status 3 means that the change may have been made. Then read, and ask
@@ -39,6 +44,7 @@ As a module:
     with Client([('127.0.0.1', 4000), ('127.0.0.1', 4001), ('127.0.0.1', 4002)]) as client:
         version = client.set('color', 'green')
         color = client.get('color')
+        client.fresh()  # what is read from now on has every change that was acknowledged before this call
         for version, change in client.watch('kv'):
             print(version, change)
 """
@@ -49,6 +55,7 @@ import errno
 import json
 import math
 import os
+import secrets
 import socket
 import sys
 import time
@@ -64,6 +71,8 @@ NAME = os.path.basename(sys.argv[0]) if os.path.isabs(sys.argv[0]) else sys.argv
 MOST_FILE = 1_000_000
 # Seconds between two tries, seconds between two requests for changes, and the time limit of a request unless another is given.
 PAUSE, LOOK, TIMEOUT = 0.1, 0.25, 30.0
+# What the key of a fresh read begins with.
+MARK = 'fresh/'
 # The kinds of replies that serve a request, the outcome of a silent monitor, and the kinds that refuse for good, with what is printed.
 SERVED = 'Done', 'Shown', 'Since'
 NO_ANSWER = 'no answer'
@@ -99,16 +108,18 @@ class Client:
 
     Every request raises Refused if the monitors refuse it, NotServed if none serves it in time, and ValueError, before anything is
     sent, if it has no encoding. `tries` says how often the last request was sent, `silent` how many of these tries had no answer, each of which may
-    make a change once more, and `reply` is the last reply to it, or None. A client is for one thread; give each thread its own."""
+    make a change once more, and `reply` is the last reply to it, or None. `seen` is the greatest version of the log of all changes that it saw, and no
+    map that it reads is older, at whichever monitor. A client is for one thread; give each thread its own."""
 
-    def __init__(self, addresses, monitor=None, first=0, timeout=TIMEOUT, patience=1.0, once=False):
+    def __init__(self, addresses, monitor=None, first=0, timeout=TIMEOUT, patience=1.0, once=False, onward=True):
         """`addresses` are pairs of a host and a port, of all monitors in order of rank. If `monitor` is given, that one alone is asked;
         otherwise `first` is the one that is asked first. A request takes at most `timeout` seconds, and each try `patience` seconds.
-        With `once` a request is sent once. Raises OSError if a host can't be resolved."""
+        With `once` a request is sent once. Without `onward` its maps may go back, if a monitor shows an older one than another did before. Raises OSError
+        if a host can't be resolved."""
         self.addresses = [(socket.gethostbyname(host), port) for host, port in addresses]
         self.monitor = monitor
         self.asked = first if monitor is None else monitor
-        self.timeout, self.patience, self.once = timeout, patience, once
+        self.timeout, self.patience, self.once, self.onward, self.seen = timeout, patience, once, onward, 0
         self.tries, self.silent, self.reply = 0, 0, None
         # By rank, how many monitors there are, as the hello of a silent monitor says.
         self.sizes = {}
@@ -140,21 +151,35 @@ class Client:
         """Adds a text of at most 1,024 bytes to the cluster log, and returns the version of this change in the log of all changes."""
         return self.ask(bytes([LOG]) + text_field(text))['version']
 
-    def get(self, key: str | bytes) -> str:
+    def fresh(self) -> int:
+        """Returns a version of the log of all changes with every change that was acknowledged before this call. A map of at least this version has them, and
+        so has each map that this client reads from now on. It sets a new key of its own, and removes it. If no monitor removes it in time, it stays."""
+        key = MARK + secrets.token_hex(16)
+        try:
+            self.set(key, '')
+        except Refused as why:
+            raise Refused(f'a fresh read has to set a key, and {why}') from None
+        try:
+            self.remove(key)
+        except (Refused, NotServed):
+            pass
+        return self.seen
+
+    def get(self, key: str | bytes, at_least: int = 0) -> str:
         """The value of a key. Raises Refused if there is no such key. The whole map is asked for, since monitors show nothing less."""
         name = key_field(key)[1:].decode('ascii')
-        found = self.show('kv')['map']
+        found = self.show('kv', at_least)['map']
         if name not in found:
             raise Refused(REFUSALS['NoSuch'])
         return found[name]
 
-    def keys(self, prefix: str = '') -> list[str]:
+    def keys(self, prefix: str = '', at_least: int = 0) -> list[str]:
         """The names of the keys with this prefix, in ascending order."""
-        return sorted(key for key in self.show('kv')['map'] if key.startswith(prefix))
+        return sorted(key for key in self.show('kv', at_least)['map'] if key.startswith(prefix))
 
-    def show(self, service: str) -> dict:
-        """The map of a service at its `version`, as of version `paxos` of the log of all changes."""
-        return self.ask(bytes([SHOW]) + service_field(service))
+    def show(self, service: str, at_least: int = 0) -> dict:
+        """The map of a service at its `version`, as of version `paxos` of the log of all changes, which isn't below `at_least`."""
+        return self.ask(bytes([SHOW]) + service_field(service), at_least)
 
     def since(self, service: str, version: int) -> dict:
         """The changes of a service's map `from` a version `to` another, and whether there are `more`. If the monitor no longer has all
@@ -181,9 +206,9 @@ class Client:
             if not found['more']:
                 time.sleep(pause)
 
-    def ask(self, request: bytes) -> dict:
-        """Sends an encoded request until a monitor serves it, and returns the fields of its reply."""
-        began = time.monotonic()
+    def ask(self, request: bytes, at_least: int = 0) -> dict:
+        """Sends an encoded request until a monitor serves it, and returns the fields of its reply. A map below version `at_least` doesn't serve it."""
+        began, least = time.monotonic(), max(at_least, self.seen if self.onward else 0)
         end = began + self.timeout
         outcomes, self.tries, self.silent, self.reply, self.numbers = {}, 0, 0, None, []
         while time.monotonic() < end and not (self.once and self.tries) and not self.is_elsewhere():
@@ -192,12 +217,14 @@ class Client:
             reply = self.answer(min(end, time.monotonic() + self.patience)) or self.late_answer(end)
             self.reply = reply or self.reply
             self.silent += not reply
-            if reply and reply.kind in SERVED:
+            is_old = reply and reply.kind == 'Shown' and reply.version() < least
+            if reply and reply.kind in SERVED and not is_old:
+                self.seen = max(self.seen, reply.version() or 0)
                 return reply.fields
             if reply and reply.kind in REFUSALS:
                 raise Refused(REFUSALS[reply.kind].format(**reply.fields))
             if reply or time.monotonic() < end:
-                outcomes[self.asked] = reply.kind if reply else self.silence()
+                outcomes[self.asked] = f'a map of version {reply.version()}, below {least}' if is_old else reply.kind if reply else self.silence()
             else:
                 # If the timeout cut the last try short, an earlier outcome of this monitor is kept.
                 outcomes.setdefault(self.asked, NO_ANSWER)
@@ -304,6 +331,7 @@ COMMANDS = {
     'watch': ['service', 'version'],
 }
 CHANGES = 'set', 'remove', 'log'
+READS = 'get', 'keys', 'show'
 # Arguments that may be left out: a value or a text that --file gives, and those with a default.
 OPTIONAL = [('set', 'value'), ('log', 'text'), ('keys', 'prefix'), ('watch', 'version')]
 
@@ -318,6 +346,10 @@ def command_parser() -> argparse.ArgumentParser:
             command.add_argument(field, nargs='?' if (name, field) in OPTIONAL else None, **how)
         if name in ('set', 'log'):
             command.add_argument('--file', metavar='FILE', help=f'take the {fields[-1]} from this file, or from standard input if it is -')
+        if name in READS:
+            bound = command.add_mutually_exclusive_group()
+            bound.add_argument('--fresh', action='store_true', help='read a map that has every change that was acknowledged before')
+            bound.add_argument('--at-least', type=number, default=0, metavar='V', help='read a map of version V of the log of all changes or a later one')
         if name in ('get', 'keys'):
             command.add_argument('--raw', action='store_true', help='print no JSON, but the value alone' if name == 'get' else 'print no JSON, but one key per line')
     return parser
@@ -390,6 +422,9 @@ def answers(client: Client, asked: argparse.Namespace) -> Iterator:
               for field, value in ((field, getattr(asked, field)) for field in COMMANDS[asked.command])]
     if getattr(asked, 'file', None) is not None:
         fields[-1] = from_file(asked.file)
+    if getattr(asked, 'fresh', False):
+        client.fresh()
+    client.seen = max(client.seen, getattr(asked, 'at_least', 0))
     if asked.command == 'watch':
         for version, change in client.watch(*fields):
             yield {'version': version, **change}

@@ -313,6 +313,10 @@ class Reply(NamedTuple):
     rank: int
     epoch: int
 
+    def version(self) -> int | None:
+        """The version of the log of all changes that a map is of or a change has, and None for other replies."""
+        return self.fields.get({'Shown': 'paxos', 'Done': 'version'}.get(self.kind))
+
 
 def reply_of(message: bytes, monitors: int) -> Reply:
     """The REPLY of a monitor of this number of monitors. Raises Malformed if the message is none."""
