@@ -36,7 +36,7 @@ pub(crate) struct Node<V> {
 pub(crate) fn compare(a: &[u8], b: &[u8]) -> Ordering
     ensures { result ≡ bytes_cmp a.now b.now }
 {
-    a.cmp(&b)
+    a.iter().cmp(b.iter())
 }
 
 impl<V> Tree<V> {
