@@ -33,7 +33,7 @@ use Rattle.mon_wire.specs.declared.phase.Timer.TheVariants as timer
 use Rattle.mon_wire.specs.declared.phase.Timer.{Timer}
 use Rattle.mon_wire.specs.declared.reply.Reply.{Reply}
 use Rattle.mon_wire.specs.declared.request.Session.{Session}
-use Rattle.quorum_commands.proofs.Sends.{AllOther, HandsNone, IsOther}
+use Rattle.quorum_commands.proofs.Sends.{HandsNone}
 use Rattle.quorum_commands.specs.Unmade.{AcknowledgesNone}
 use Rattle.quorum_history.proofs.Phases.{no}
 use Rattle.std.proofs.Common.{Bool, List, None, Some, [], ap, arith, eqb, false, inl, inr, ltb, map, not, refl, subst, suc, sym, true, ℕ, ◌++◌, ◌+◌, ◌-◌, ◌<◌, ◌∙◌, ◌∷◌, ◌≡◌, ◌⊎◌}
@@ -65,9 +65,6 @@ brings (input.Client t r) = true
 abbrev pub SameClients : Clients → Clients → Type 0
 SameClients a b = (a.queue ≡ b.queue) × (a.taken ≡ b.taken)
 
-pub same_clients : (a b : Clients) → a ≡ b → SameClients a b
-same_clients a b e = (ap (λ (c : Clients). c.queue) e, ap (λ (c : Clients). c.taken) e)
-
 -- ---- an event, from what the store's readers returned and what was remembered before it
 
 -- Settled says that a session may be given any reply.
@@ -79,13 +76,6 @@ module _ (me : Me) (now : ℕ) (w : Readings) (s : State) (Settled : Session →
 
   abbrev pub AllFair : List Sent → Type 0
   AllFair sends = AllByRecursion IsFair sends
-
-  pub all_fair : (sends : List Sent) → AllOther sends → AllFair sends
-  all_fair sends k = all_map IsOther IsFair by sends k
-    where
-      by : (x : Sent) → IsOther x → IsFair x
-      by (sent.Message to m) o = o
-      by (sent.Reply t r) o = λ u. absurd (o u)
 
   -- it is alone in its map, with no value pending and nothing to replay
   pub record Alone : Type 0 where

@@ -41,10 +41,6 @@ use Rattle.std.specs.Prelude.{IfOk, replicate}
 
 -- ---- every run
 
-both_ok : (r : Result World Stop) (P Q : World → Type 0) → IfOk r P → IfOk r Q → IfOk r (λ x. P x × Q x)
-both_ok (Ok x) P Q p q = (p, q)
-both_ok (Err e) P Q p q = tt
-
 module _ (ms : Monitors) (several : 1 < ms.count) where
   abbrev pub Holds : World → Type 0
   Holds w = LogHolds ms w × AllLow w

@@ -142,10 +142,6 @@ BodyFine other = Unit {0}
 abbrev pub MessageFine : Message → Type 0
 MessageFine m = IsShort m.epoch × BodyFine m.body
 
-abbrev pub SentFine : Sent → Type 0
-SentFine (sent.Message to m) = MessageFine m
-SentFine (sent.Reply to r) = Unit {0}
-
 -- ---- changes
 
 -- a change's number fits, and its value or entry doesn't change the monitor's own keys

@@ -84,7 +84,8 @@ active_leads other t = absurd cc
 
 -- ---- acts
 
--- What a law shows of each act. From what it shows of the small steps all of these follow (`acts_of`); a law that fails between two steps of an act shows it of that act itself.
+-- What a law shows of each act. All of it follows from what the law shows of each step (`acts_of`). A law that doesn't hold
+-- between two steps of an act shows that act itself: record (acts_of steps) { commits = .. }.
 pub record Acts (me : Me) (now : ℕ) (shared : List Entry) (w : Readings) (s : State) (came : Input) (P : InHand → Course → Type 0) (Q : Course → Type 0) : Type 0 where
   pub learned : {h : InHand} {x : Course} (v : ℕ) (values : List (List Op)) → MayLearn me came x h values → P h x → Then (P h) (learn v values x)
   pub extends : {x : Course} → P Nothing x → P Nothing (extend me now x)

@@ -1,4 +1,4 @@
--- The rows, walked once.
+-- The rows of messages, timers and clients, walked once. Each row hands a law the tests that it made, as reasons.
 use Rattle.election_rules.specs.declared.scores.Scores.{Scores}
 use Rattle.mon_bytes.specs.declared.command.Command.TheVariants as command
 use Rattle.mon_bytes.specs.declared.command.Command.{Command}

@@ -161,7 +161,7 @@ pub record MayCommit (me : Me) (came : Input) (x : Course) : Type 0 where
   pub tested : (of_member (phase.Previous ∷ phase.Updating ∷ []) sender epoch x && eqb pn x.state.leader.pn && eqb v (suc x.readings.last)) ≡ true
   pub all : all_accepted me x ≡ true
 
--- Values that are learned came with a message, or are accepted by all of the quorum.
+-- Values that are learned with the last version came with a message, or are accepted by all of the quorum.
 pub data MayLearn (me : Me) (came : Input) (x : Course) : InHand → List (List Op) → Type 0 where
   from_last : (k : ℕ) {f e pn first last from : ℕ} {whole : Bool} {values : List (List Op)} {told : Option Told} → HeardFrom me came f e (body.Last pn first last whole from values told) → MayLearn me came x Nothing (drop k values)
   from_commit : (k : ℕ) {f e from : ℕ} {values : List (List Op)} → HeardFrom me came f e (body.Commit from values) → MayLearn me came x Nothing (drop k values)
@@ -179,7 +179,7 @@ pub data MayCopy (me : Me) (came : Input) : List (List Op) → List Entry → Ty
 -- A monitor leads if it led before, was elected, or is the only one.
 pub data MayLead (me : Me) (w : Readings) (s : State) (x : Course) : Type 0 where
   leads_still : is_leading x.state.phase ≡ true → MayLead me w s x
-  -- by those whom it may lead, or by a majority when the election was over
+  -- it was elected by all whom it may lead, or by a majority when the election was over
   chosen : votes s.phase ≡ true → is_even (epoch_of w) ≡ false → MayLead me w s x
   stood : same_phase s.phase phase.Electing ≡ true → MayLead me w s x
   only_member : ltb 1 me.member.monitors ≡ false → MayLead me w s x
@@ -275,7 +275,7 @@ pub record Steps (me : Me) (now : ℕ) (shared : List Entry) (w : Readings) (s :
   pub peon : {h : InHand} {x : Course} (p : Peon) → (is_some p.lease ≡ true → MayHold me came x) → P h x → P h (peon_is p x)
   pub provider : {h : InHand} {x : Course} (p : Provider) → P h x → P h (provider_is p x)
   pub requester : {h : InHand} {x : Course} (q : Requester) → MayReplay me came x q.stage → P h x → P h (requester_is q x)
-  -- Of a leader: all but its number, its value and who waits for it; the value that it found; and all, when it collects.
+  -- A leader keeps its number, its value and who waits for it. When it collects, it begins anew (`collects`).
   pub leader : {h : InHand} {x : Course} (l : Leader) → P h x → P h (leader_is (record l { pn = x.state.leader.pn; found = x.state.leader.found; value = x.state.leader.value; origin = x.state.leader.origin }) x)
   pub finds : {h : InHand} {x : Course} (l : Leader) → MayFind me came x l.found → P h x → P h (leader_is (record l { pn = x.state.leader.pn; value = x.state.leader.value; origin = x.state.leader.origin }) x)
   pub collects : {x : Course} (q : List Bool) (pn : ℕ) → pn ≤ 2 ^ 62 → P Nothing x → P Nothing (leader_is (collector me q pn x.readings) x)

@@ -1,4 +1,4 @@
--- The table, walked once: what a law shows of each small step holds of each event.
+-- The whole table, walked once: what a law shows of each step holds of every event.
 use Rattle.mon_bytes.specs.declared.entry.Entry.{Entry}
 use Rattle.mon_msg.specs.Protocol.Changes.{Epoch}
 use Rattle.mon_msg.specs.Protocol.Course.{Course, change_if, disarm}
@@ -120,7 +120,7 @@ module _ {me : Me} {now : ℕ} {shared : List Entry} {w : Readings} {s : State} 
   runs (input.Timer t) is A = by_test (is_some (end_of t s.timers)) (λ _. rung t is (disarms b t A)) (λ _. ends b A)
   runs (input.Client u r) is A = client_asked b a u r A
 
-  -- whatever comes
+  -- what a law shows of each step, and of each act, holds of every event
   pub walked : Then Q (react me shared now w s came)
   unfolding react
   walked = by_test (same_phase s.phase phase.Booting) (λ t. unstarted came refl t (λ no. b.before (λ e. absurd (no e)))) (λ t. runs came refl (b.before (λ _. t)))
