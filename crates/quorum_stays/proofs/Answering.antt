@@ -86,5 +86,5 @@ module _ (ms : Monitors) (q : List Bool) (pace : Pace) (reign : Reign) (r : Rene
   unfolding moved
   answers =
       let A = row in
-      let next = becomes ms t.world after (Client i now session request) i lt now (input.Client session request) L.0 refl L.1 happened (reply_to session A.reply (at_rest (readings_of (t.world.store i)) L.0)) A.is refl in
+      let next = becomes ms t.world after (Client i now session request) i lt now (input.Client session request) L.0 refl L.1 happened (reply_to session A.reply (at_rest (readings_of (t.world.store i)) L.0)) A.is in
       record { answer = _; one = ap (λ (z : World). z.replied) next ∙ refl; rank_is = refl; session_is = refl; shows = A.shows }

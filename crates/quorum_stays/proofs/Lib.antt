@@ -2,6 +2,10 @@ pub mod Answering
 pub mod Bounds
 pub mod Leaders
 pub mod Leases
+pub mod Leaving
+pub mod LeavingActs
+pub mod LeavingRows
+pub mod LeavingTable
 pub mod Onward
 pub mod Peons
 pub mod Renewing

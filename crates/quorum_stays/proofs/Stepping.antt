@@ -38,13 +38,13 @@ module _ (ms : Monitors) (w next : World) (p : Plain) (i : ℕ) (lt : ltb i ms.c
   abbrev pub reacted : Result Course Which
   reacted = react (member_of ms i lt) (shared_entries (w.store i)) now (readings_of (w.store i)) s came
 
-  met : meets ms w p ≡ Reacts i came (any_reaction reacted)
+  pub met : meets ms w p ≡ Reacts i came (any_reaction reacted)
   met =
       ap (meeting_at ms w) a
       ∙ ap (λ (o : Option Me). meeting (record { rank = i; at = now; input = came }) (w.store i) o (state_at i (w.state i) came)) (me_is ms i lt)
       ∙ ap (meeting (record { rank = i; at = now; input = came }) (w.store i) (Some (member_of ms i lt))) c
 
-  module _ (y : Course) (is : reacted ≡ Ok y) (nothing : y.changes ≡ []) where
+  module _ (y : Course) (is : reacted ≡ Ok y) where
     pub becomes : next ≡ moved w p i (reaction_of y)
     becomes =
         let m : meets ms w p ≡ Reacts i came (Ok (reaction_of y)) = met ∙ ap (λ (z : Result Course Which). Reacts i came (any_reaction z)) is in
@@ -53,6 +53,7 @@ module _ (ms : Monitors) (w next : World) (p : Plain) (i : ℕ) (lt : ltb i ms.c
         (λ t e. absurd cc) (λ t e. (let same : moved w p i (reaction_of y) ≡ next = cc in sym same))
         (subst (λ (z : Meeting). after_meeting w (Arrives p) z ≡ Ok next) m happened)
 
+  module _ (y : Course) (is : reacted ≡ Ok y) (nothing : y.changes ≡ []) where
     after : Did w (moved w p i (reaction_of y)) i y.state (messages_of y.out)
     unfolding moved
     after = record {
@@ -67,4 +68,15 @@ module _ (ms : Monitors) (w next : World) (p : Plain) (i : ℕ) (lt : ltb i ms.c
         eqb_is j t = eqb-true j i t
 
     pub did : Did w next i y.state (messages_of y.out)
-    did = subst (λ (v : World). Did w v i y.state (messages_of y.out)) (sym becomes) after
+    did = subst (λ (v : World). Did w v i y.state (messages_of y.out)) (sym (becomes y is)) after
+
+  -- it reacts, if it is up
+  pub reacts : (y : Course) × (reacted ≡ Ok y)
+  reacts = by reacted refl
+    where
+      by : (z : Result Course Which) → reacted ≡ z → (y : Course) × (reacted ≡ Ok y)
+      by (Ok y) is = (y, is)
+      by (Err which) is =
+          let m : meets ms w p ≡ Reacts i came (Err which) = met ∙ ap (λ (z : Result Course Which). Reacts i came (any_reaction z)) is in
+          let stops = subst (λ (z : Meeting). after_meeting w (Arrives p) z ≡ Ok next) m happened in
+          absurd cc

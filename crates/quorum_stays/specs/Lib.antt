@@ -1,2 +1,3 @@
+pub mod Leaving
 pub mod Reading
 pub mod Steady

@@ -86,7 +86,8 @@ module _ (ms : Monitors) (pace : Pace) (reign : Reign) (r : Renewals) (messages 
 -- The leader leads all of q, which has a second member, and the others follow it. Each peon has a lease of the latest
 -- renewal, or of the one before if a LEASE is under way to it. If no LEASE to a peon and no acknowledgement of it is
 -- under way, the leader has its acknowledgement.
-pub record Steady (ms : Monitors) (q : List Bool) (pace : Pace) (reign : Reign) (r : Renewals) (t : Timed) : Type 0 where
+pub record Steady (ms : Monitors) (q : List Bool) (pace : Pace) (reign : Reign) (r : Renewals)
+    (t : Timed) : Type 0 where
   pub leads : has q reign.leader ≡ true
   pub second : ℕ
   pub second_in : has q second ≡ true

@@ -15,7 +15,7 @@ use Rattle.std.proofs.Common.{Bool, IfSome, List, None, Option, Some, arith, ref
 use Rattle.std.specs.Prelude.{IsSomeAnd, ⊤}
 
 -- a monitor that waits at a time waits at each later one
-later : (me : Me) (a b : ℕ) (s : State) → a ≤ b → Waits me a s → Waits me b s
+pub later : (me : Me) (a b : ℕ) (s : State) → a ≤ b → Waits me a s → Waits me b s
 later me a b s le W = let G = later_good a b s.timers le (record { size = W.kinds; soon = W.soon }) in record { kinds = G.size; armed = W.armed; soon = G.soon }
 
 pub begins : (ms : Monitors) (events : List Event) (q : List Bool) (pace : Pace) → 1 < ms.count

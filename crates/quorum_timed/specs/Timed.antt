@@ -1,6 +1,6 @@
 -- Runs in time. From some time on the messages among the monitors of a set arrive in time, once and in order, and the
--- timers of these monitors fire in time. Nothing else comes to them but what clients ask. The other monitors take no step:
--- they count as stopped, and what they sent doesn't arrive.
+-- timers of these monitors fire in time. Nothing else comes to them but what clients ask. The other monitors take no
+-- step: they count as stopped, and what they sent doesn't arrive.
 use Rattle.mon_msg.specs.Protocol.Timers.{end_of}
 use Rattle.mon_types.specs.Ranks.{has}
 use Rattle.mon_msg.specs.Protocol.State.{State}
@@ -17,8 +17,8 @@ use Rattle.std.specs.Prelude.{Bool, List, Ok, Some, [], drop, filter, length, ma
 -- ---- what is in time
 
 -- From time `since` on a message arrives within `delay` after it is sent, and a timer fires within `late` after its
--- end. A call for an election arrives again within each `again`, as long as it isn't acknowledged. At time t the clock of
--- monitor i shows t + clock i. All are in milliseconds.
+-- end. A call for an election arrives again within each `again`, as long as it isn't acknowledged. At time t the
+-- clock of monitor i shows t + clock i. All are in milliseconds.
 pub record Pace : Type 0 where
   pub since : ℕ
   pub delay : ℕ
@@ -65,8 +65,8 @@ module _ (ms : Monitors) (q : List Bool) (pace : Pace) where
         → end_of kind s.timers ≡ Some end → u + pace.clock i ≤ max end (pace.since + pace.clock i) + pace.late
     pub calls : (f i : ℕ) → has q f ≡ true → has q i ≡ true → (k : ℕ) → Calls t.world k f i → u ≤ t.call_by f i
 
-  -- The event happened at this time, and what it sent is under way. If it sent or delivered a call, the next call may be
-  -- due `again` later. If it isn't put off so and is overdue, it comes before time goes on.
+  -- The event happened at this time, and what it sent is under way. If it sent or delivered a call, the next call may
+  -- be due `again` later. If it isn't put off so and is overdue, it comes before time goes on.
   pub record Went (t : Timed) (e : Event) (left : ℕ → ℕ → List Owed) (next : Timed) : Type 0 where
     pub happened : happens ms t.world e ≡ Ok next.world
     pub time : next.time ≡ t.time
@@ -75,8 +75,8 @@ module _ (ms : Monitors) (q : List Bool) (pace : Pace) where
     pub calls : (f i : ℕ) → (next.call_by f i ≡ t.call_by f i)
         ⊎ ((next.call_by f i ≡ t.time + pace.again) × IsNewCall t.world next.world e f i)
 
-  -- What comes at a time: the first message under way between two members, a call that arrives again, a timer of a member
-  -- that has ended, or what a client asks a member.
+  -- What comes at a time: the first message under way between two members, a call that arrives again, a timer of a
+  -- member that has ended, or what a client asks a member.
   pub data Comes (t : Timed) (next : Timed) (e : Event) : Type 0 where
     Arriving : (f i : ℕ) → has q f ≡ true → has q i ≡ true → (o : Owed) (others : List Owed)
         → t.under_way f i ≡ o ∷ others → e ≡ Arrives (Deliver o.number (t.time + pace.clock i))

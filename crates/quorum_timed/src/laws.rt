@@ -16,9 +16,10 @@ ghost use Rattle.quorum_timed.specs.Times.{latest};
 ghost use Rattle.quorum_timed.specs.Waiting.{Waits};
 ghost use Rattle.quorum_timed.specs.Timed.{Comes, GoesOn, IsRequest, Leads, MayBe, Pace, Timed};
 
-/// A monitor that starts waits for a timer, and so it does after each event, if its quorum has two or more monitors. The
-/// timer of its phase is armed, and ends at most that timer's length after the latest time that the monitor saw. This
-/// holds whatever comes, forged messages too, and whatever the store holds. A leader of itself alone needs no timer.
+/// A monitor that starts waits for a timer, and so it does after each event, if its quorum has two or more monitors.
+/// The timer of its phase is armed, and ends at most that timer's length after the latest time that the monitor saw.
+/// This holds whatever comes, forged messages too, and whatever the store holds. A leader of itself alone needs no
+/// timer.
 pub fn law_event_waits()
     ensures starts { (me : Me) (shared : List Entry) (latest now : ℕ) (w : Readings) (rank : ℕ) (y : Course)
         → 1 < me.member.monitors → now ≤ latest → react me shared now w (booting rank) input.Start ≡ Ok y
@@ -37,21 +38,22 @@ pub fn law_waits()
         → IfSome ((run ms events).state i) (Waits me (latest events)) }
 {}
 
-/// What events lead to in time is the world that the run of these events makes. So each law of runs holds of timed runs.
+/// What events lead to in time is the world that the run of these events makes. So each law of runs holds of timed
+/// runs.
 pub fn law_leads_runs()
     ensures { (ms : Monitors) (q : List Bool) (pace : Pace) (t last : Timed) (more : List (ℕ × Event))
         → Leads ms q pace t more last → last.world ≡ run_from ms t.world (map (λ m. m.1) more) }
 {}
 
-/// No timed run is stuck, unless a number runs out or a store becomes full. If nothing can come now but what clients ask,
-/// time may go on by a millisecond. So whatever is overdue can come.
+/// No timed run is stuck, unless a number runs out or a store becomes full. If nothing can come now but what clients
+/// ask, time may go on by a millisecond. So whatever is overdue can come.
 pub fn law_time_goes_on()
     ensures { (ms : Monitors) (q : List Bool) (pace : Pace) (t : Timed) → GoesOn ms t.world
         → ((next : Timed) (e : Event) → Comes ms q pace t next e → IsRequest e) → MayBe ms q pace t (suc t.time) }
 {}
 
-/// A timed run can begin after every run of two or more monitors. The members have to be up, and no event of the run may
-/// have a later time than `since` on the clock of any member.
+/// A timed run can begin after every run of two or more monitors. The members have to be up, and no event of the run
+/// may have a later time than `since` on the clock of any member.
 pub fn law_timed_run_begins()
     ensures { (ms : Monitors) (events : List Event) (q : List Bool) (pace : Pace) → 1 < ms.count
         → ((i : ℕ) → has q i ≡ true

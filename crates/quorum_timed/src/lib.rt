@@ -3,4 +3,6 @@
 
 mod laws;
 
-pub use laws::{law_event_waits, law_leads_runs, law_time_goes_on, law_waits};
+pub use laws::{
+    law_event_waits, law_leads_runs, law_time_goes_on, law_timed_run_begins, law_waits,
+};
