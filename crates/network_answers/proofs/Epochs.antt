@@ -6,10 +6,11 @@ use Rattle.mon_msg.specs.Fold.{entry, put_in}
 use Rattle.mon_tx.specs.Decode.{ops_in}
 use Rattle.mon_wire.specs.declared.reply.Reply.TheVariants as reply
 use Rattle.mon_wire.specs.declared.reply.Reply.{Reply}
-use Rattle.network_answers.proofs.Marks.{above, one_of_version}
-use Rattle.network_answers.specs.Answers.{Answer, IsOfThisLog}
-use Rattle.network_answers.specs.Epochs.{AreDoneInOrder, AreLinearizable, AreOfOneChange, AsksAnew, IsMark, IsUnasked}
+use Rattle.network_answers.proofs.Marks.{above, one_of_version, told_put}
+use Rattle.network_answers.specs.Answers.{Answer, IsOfThisLog, IsUpTo}
+use Rattle.network_answers.specs.Epochs.{AreDoneInOrder, AreLinearizable, AreOfOneChange, AsksAnew, IsMark, IsUnasked, ShowsMark, TellsUnasked}
 use Rattle.network_answers.specs.History.{Adds, HaveAnswers}
+use Rattle.quorum_answers.specs.Reads.{Shows}
 use Rattle.quorum_model.specs.Monitors.{Monitors}
 use Rattle.quorum_model.specs.World.{Acknowledgement, Asked}
 use Rattle.quorum_network.specs.Network.{AllMay, Step, may_before, network}
@@ -62,6 +63,27 @@ module _ (ms : Monitors) (H : HaveAnswers ms) (later earlier : List Step) (may :
   new_is : (a : Answer) → Contains (H.answers steps may) a → IsOfThisLog (requests ms steps) (acknowledgements ms steps) log a
   new_is a c = of_all (IsOfThisLog (requests ms steps) (acknowledgements ms steps) log) (H.answers steps may) (H.of_log steps may) a c
 
+  -- changes that are told
+  tells_mark : (a : Answer) → Contains (H.answers steps may) a → TellsUnasked before a → ShowsMark before log a
+  tells_mark a c t =
+      let k = new_is a c in
+      let told = subst (IsUpTo log a.last) t.is k.up_to in
+      let after = told.0 in
+      let p = told_put t.service log a.last t.from t.told after.same t.incremental t.among in
+      record {
+        shows = subst Shows (sym t.is) tt;
+        mark = p.version;
+        is = record {
+          some = p.some;
+          within = (let low = k.within in let high = p.within in omega (arith, low, high));
+          service = t.service;
+          incremental = t.incremental;
+          put = p.put;
+          unasked = t.unasked;
+        };
+        to = p.within;
+      }
+
   pub linearizable : AreLinearizable before old_log log (acknowledgements ms earlier) (acknowledgements ms steps) (H.answers earlier old) (H.answers steps may)
   linearizable = record {
     write_write = λ a b c d none.
@@ -83,6 +105,7 @@ module _ (ms : Monitors) (H : HaveAnswers ms) (later earlier : List Step) (may :
         let to = k.to in
         omega (arith, low, high, to);
     apart = λ a b c d same. one_of_version (acknowledgements ms steps) a b is.once c d same;
+    told = tells_mark;
     above = mark_above;
   }
 

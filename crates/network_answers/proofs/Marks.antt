@@ -1,5 +1,6 @@
 -- A change that a version of a log makes was asked for.
-use Rattle.std.proofs.Common.{◌≡◌, ℕ, zero, suc, ◌<◌, ◌≤◌, cond, List, [], ◌∷◌, ◌++◌, length, length-append, Some, sym, ap, subst, ◌∙◌, arith}
+use Rattle.std.proofs.Common.{inl, inr, take, drop, ◌≡◌, ℕ, zero, suc, ◌<◌, ◌≤◌, cond, List, [], ◌∷◌, ◌++◌, length, length-append, Some, sym, ap, subst, ◌∙◌, arith}
+use Rattle.std.proofs.lemmas.List.Elements.{Contains-append_cases}
 use Rattle.std.proofs.lemmas.List.{get_or_append_left}
 use Rattle.std.specs.List.{AllByRecursion, Contains}
 use Rattle.log_model.proofs.Committed.{ops_again}
@@ -7,7 +8,7 @@ use Rattle.log_model.proofs.Lists.{of_all}
 use Rattle.log_model.proofs.Logs.{IsPrefixOf, entry_stays}
 use Rattle.log_model.specs.LogOfValues.{view_at}
 use Rattle.mon_bytes.specs.declared.command.Command.{Command}
-use Rattle.mon_msg.specs.Fold.{entry, put_in}
+use Rattle.mon_msg.specs.Fold.{entry, incrementals, put_in}
 use Rattle.mon_msg.specs.Protocol.Value.{service_of}
 use Rattle.mon_msg.specs.Puts.{area_of}
 use Rattle.mon_tx.specs.Decode.{ops_in}
@@ -54,6 +55,38 @@ above n asked old more all (suc v) s incremental some c none le =
     let begins : IsPrefixOf old (old ++ more) = record { short = omega (arith, length-append old more); same = λ i h. get_or_append_left old more [] i h } in
     of_all (λ (a : Asked). ¬ (made_by a.rank a.request ≡ Some (s, incremental))) asked none A.by A.was_asked
     (asked_made n asked old v A s incremental (subst (λ (x : List ℕ). Contains (put_in s (ops_in x)) incremental) (entry_stays begins (suc v) le) c))
+
+-- ---- changes that are told
+
+in_take : (k : ℕ) (xs : List (List ℕ)) (x : List ℕ) → Contains (take k xs) x → Contains xs x
+in_take zero xs x (j, lt, e) = absurd (omega (arith, lt))
+in_take (suc k) [] x c = c
+in_take (suc k) (y ∷ xs) x (zero, lt, e) = (0, omega arith, e)
+in_take (suc k) (y ∷ xs) x (suc j, lt, e) = let c = in_take k xs x (j, omega (arith, lt), e) in (suc c.0, omega (arith, c.1), c.2)
+
+in_drop : (k : ℕ) (xs : List (List ℕ)) (x : List ℕ) → Contains (drop k xs) x → Contains xs x
+in_drop zero xs x c = c
+in_drop (suc k) [] x c = c
+in_drop (suc k) (y ∷ xs) x c = let later = in_drop k xs x c in (suc later.0, omega (arith, later.1), later.2)
+
+-- the version that puts an incremental
+pub record IsPut (s : Service) (log : List (List ℕ)) (c : ℕ) (incremental : List ℕ) : Type 0 where
+  pub version : ℕ
+  pub some : 1 ≤ version
+  pub within : version ≤ c
+  pub put : Contains (put_in s (ops_in (entry log version))) incremental
+
+is_put : (s : Service) (log : List (List ℕ)) (c : ℕ) (incremental : List ℕ) → Contains (incrementals s log c) incremental → IsPut s log c incremental
+unfolding incrementals
+is_put s log zero incremental (k, lt, e) = absurd (omega (arith, lt))
+is_put s log (suc c) incremental k = elim (Contains-append_cases (incrementals s log c) (put_in s (ops_in (entry log (suc c)))) incremental k) [
+  | inl old ↦ let p = is_put s log c incremental old in record { version = p.version; some = p.some; within = (let w = p.within in omega (arith, w)); put = p.put }
+  | inr new ↦ record { version = suc c; some = omega arith; within = omega arith; put = new }
+]
+
+pub told_put : (s : Service) (log : List (List ℕ)) (c from : ℕ) (told : List (List ℕ)) → told ≡ take (length told) (drop from (incrementals s log c)) → (incremental : List ℕ) → Contains told incremental → IsPut s log c incremental
+told_put s log c from told is incremental k =
+    is_put s log c incremental (in_drop from (incrementals s log c) incremental (in_take (length told) (drop from (incrementals s log c)) incremental (subst (λ (xs : List (List ℕ)). Contains xs incremental) is k)))
 
 -- ---- acknowledgements
 

@@ -1,5 +1,5 @@
 -- What answers promise over all epochs. Writes are linearizable, and so are the reads that show a mark of their client.
-use Rattle.std.specs.Prelude.{◌≡◌, ℕ, ◌<◌, ◌≤◌, List, length, Some}
+use Rattle.std.specs.Prelude.{◌≡◌, ℕ, ◌<◌, ◌≤◌, Bool, List, length, Some}
 use Rattle.std.specs.List.{AllByRecursion, Contains}
 use Rattle.mon_msg.specs.Fold.{entry, put_in}
 use Rattle.mon_tx.specs.Decode.{ops_in}
@@ -43,6 +43,17 @@ pub record ShowsMark (before : List Asked) (log : List (List ℕ)) (a : Answer) 
   pub is : IsMark before log mark
   pub to : mark ≤ a.last
 
+-- The answer tells a change for which nobody had asked by then.
+pub record TellsUnasked (before : List Asked) (a : Answer) : Type 0 where
+  pub service : Service
+  pub from : ℕ
+  pub told : List (List ℕ)
+  pub more : Bool
+  pub is : a.reply ≡ reply.Since service from told more
+  pub incremental : List ℕ
+  pub among : Contains told incremental
+  pub unasked : IsUnasked before service incremental
+
 -- ---- the order in time is the order in the log
 
 -- The log is one total order, in which each operation has a place: a write has its version, and an answer that shows
@@ -63,6 +74,8 @@ pub record AreLinearizable (before : List Asked) (old_log log : List (List ℕ))
   pub read_read : (a b : Answer) → Contains old a → Contains answers b → Shows a.reply
       → ShowsMark before log b → a.last ≤ b.last
   pub apart : (a b : Acknowledgement) → Contains writes a → Contains writes b → a.version ≡ b.version → a ≡ b
+  -- changes show a mark if they have it, even if its client got no Done
+  pub told : (a : Answer) → Contains answers a → TellsUnasked before a → ShowsMark before log a
   -- each mark is above the log of that time
   pub above : (m : ℕ) → IsMark before log m → length old_log < m
 

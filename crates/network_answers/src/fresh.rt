@@ -26,7 +26,8 @@ pub fn law_writes()
 /// For a read that is no older than what was acknowledged before it, a client writes a mark: a change of its own, for
 /// which nobody asked before. It reads from any monitor until the `paxos` of a Shown is at least the version with which
 /// the mark is answered as done. This map has everything that was acknowledged before the client asked for its mark,
-/// and each later map with at least that `paxos` has it too.
+/// and each later map with at least that `paxos` has it too. Changes that have the mark are as new, even if its client
+/// got no Done.
 pub fn law_fresh()
     ensures { (ms : Monitors) (H : HaveAnswers ms) (later earlier : List Step) (may : AllMay ms (later ++ earlier))
         → AreLinearizable (requests ms earlier) (H.log earlier (may_before ms later earlier may))
