@@ -29,9 +29,9 @@ ghost use Rattle.network_answers.specs.Followers.{Reaches, Writes};
 ///
 /// Each version of the log is the value of a request of its own, and versions of some point in time are of requests
 /// that came to processes by then. So a command is committed no more often than its requests came. A session that gets
-/// an answer other than Done has a request of which no version is, neither before the answer nor ever after. If it asked
-/// that monitor only once, that is the request answered. A process answers a session no more often than requests of the
-/// session came to it. A request whose datagram comes twice counts as two requests.
+/// an answer other than Done has a request of which no version is, neither before the answer nor ever after. If it
+/// asked that monitor only once, that is the request answered. A process answers a session no more often than requests
+/// of the session came to it. A request whose datagram comes twice counts as two requests.
 pub fn law_answers()
     ensures { (ms : Monitors) → HaveAnswers ms }
 {}
