@@ -4,6 +4,8 @@ from __future__ import annotations
 from fields import MOST_NUMBER, Fields, changes_of
 
 HEADER = 25
+# A file that was begun ends at a multiple of this many bytes after it got longer. The last of them are zeros.
+ROOM = 262_144
 # The keys of the log that each monitor has for itself. Another one is the version after the last.
 OWN = b'last_pn', b'accepted_pn', b'pending_v', b'pending_pn'
 
@@ -13,6 +15,11 @@ def payloads(octets: bytes):
     fields = Fields(octets, HEADER)
     while fields.unsigned(1) == 1:
         yield fields.counted()
+
+
+def held(octets: bytes) -> int:
+    """How many bytes of an open file hold a store: those up to and with the first closed gate."""
+    return HEADER + sum(5 + len(payload) for payload in payloads(octets)) + 1
 
 
 def generation(octets: bytes) -> int:

@@ -1,6 +1,9 @@
 """Makes the bytes of a store's two files, as docs/FORMATS.md describes them. It shares no code with the program."""
 import struct
 
+import checking  # noqa: F401, adds the folder of the next one
+from store import ROOM
+
 NEW = b'CEPHMON2'
 # The length of the file of a new store of a single monitor, in bytes.
 HEADER = 26
@@ -45,3 +48,8 @@ def record(payload):
 def file(*payloads, rank=0, monitors=1, generation=1, mark=NEW):
     """An open file with these records, and a commit byte of 0 after them."""
     return b'\1' + mark + bytes([rank, monitors]) + bytes(6) + number(generation) + b''.join(map(record, payloads)) + b'\0'
+
+
+def longer(octets):
+    """An open file that got longer to hold these bytes: zeros follow them."""
+    return octets + bytes(ROOM - len(octets) % ROOM)
