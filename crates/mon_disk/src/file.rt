@@ -31,14 +31,16 @@ struct OpenedFile<F> {
 }
 
 impl<F: DeviceFile> OpenedFile<F> {
-    /// Writes. After a write past the end it adds zeros, which the next sync keeps too. The writes after that sync find
-    /// their place in the file, and a sync takes less time if it has no new length to keep.
+    /// Writes. If the write ends past the end, and doesn't begin at 0, zeros follow it, which the next sync keeps too.
+    /// The writes after that sync find their place in the file: a sync takes less time if it has no new length to keep.
     fn write(&mut self, alloc: Global, at: u64, bytes: &[u8], end: u64) -> io::Result<()> {
         self.file.write_all_at(bytes, at)?;
         self.held = self.held.max(end);
         if end > self.end {
             self.end = end;
-            self.add_room(alloc);
+            if at > 0 {
+                self.add_room(alloc);
+            }
         }
         Ok(())
     }
