@@ -1,14 +1,13 @@
 """Carries the messages of a simulation with copies: each monitor has a link, executed by its definitions, that sends again what is lost."""
 from __future__ import annotations
 
-from typing import NamedTuple
+from typing import Any, NamedTuple
 
-from played import antt, app
-from antt import apps, nat, resolve
 import again
+from antt import octets
+from loaded import fn
 
 HEADERS, PIECES = 'mon_decode.specs.Headers', 'mon_frag.specs.Pieces'
-antt.NATIVE['byteorder.specs.Endian.little_bytes'] = nat(2)(lambda octets, number: (number % 256**octets).to_bytes(octets, 'little'))
 # By kind, the lengths in bytes of the two numbers with which its body begins, if they aren't 8 each.
 SHORT = {'Victory': (2, 8), 'Commit': (8, 2)}
 
@@ -21,16 +20,16 @@ class Carried(NamedTuple):
     datagram: bytes
 
 
-def encoded(message, same: int) -> bytes:
+def encoded(message: Any, same: int) -> bytes:
     """Bytes with the header, the first numbers and the length of a message. `same` is a number that equal messages share. The link depends on no other part
     of a body."""
-    heading = app(resolve(HEADERS, 'heading'), message).d
-    kind, first, second = heading['kind'], heading['first'], heading['second']
-    if kind.n == 'Commit':
+    heading = fn(HEADERS, 'heading')(message)
+    kind, first, second = heading.kind, heading.first, heading.second
+    if kind.name == 'Commit':
         second += 1 - first
-    head = bytes([1, app(resolve(HEADERS, 'kind_byte'), kind), heading['from'], heading['monitors']]) + heading['epoch'].to_bytes(8, 'little')
-    numbers = b''.join(number.to_bytes(octets, 'little') for number, octets in zip((first, second), SHORT.get(kind.n, (8, 8))))
-    length = apps(resolve('mon_wire.specs.Message.Length', 'message_length'), heading['monitors'], message.d['body'])
+    head = bytes([1, fn(HEADERS, 'kind_byte')(kind), heading.from_, heading.monitors]) + heading.epoch.to_bytes(8, 'little')
+    numbers = b''.join(number.to_bytes(size, 'little') for number, size in zip((first, second), SHORT.get(kind.name, (8, 8))))
+    length = fn('mon_wire.specs.Message.Length', 'message_length')(heading.monitors, message.body)
     return (head + numbers + same.to_bytes(8, 'little')).ljust(length, b'\0')[:length]
 
 
@@ -47,14 +46,13 @@ class Copying:
         """A monitor starts, with a new link."""
         self.links[rank], self.lives[rank] = again.Link(), self.lives[rank] + 1
 
-    def sends(self, now: int, number: int, message, to: int) -> list[Carried]:
+    def sends(self, now: int, number: int, message: Any, to: int) -> list[Carried]:
         """A monitor sends a message, which has this number in the run."""
-        sender, same = message.d['from'], self.equal.setdefault(message, len(self.equal))
+        sender, same = message.from_, self.equal.setdefault(message, len(self.equal))
         whole = encoded(message, same)
         self.long += len(whole) > 60_000
         found = []
-        for datagram in apps(resolve(PIECES, 'pieces_of'), whole, self.lives[sender], self.long):
-            datagram = bytes(datagram)
+        for datagram in map(octets, fn(PIECES, 'pieces_of')(whole, self.lives[sender], self.long)):
             self.numbers[sender, to, datagram] = number
             if self.links[sender].sent(now, to, datagram):
                 found.append(Carried(sender, to, number, datagram))
@@ -79,7 +77,7 @@ class Copying:
         total = int.from_bytes(datagram[20:24], 'little')
         arrived = self.arrived_of.setdefault((to, self.lives[to], number), set())
         arrived.add(datagram)
-        if len(arrived) < app(resolve(PIECES, 'piece_count'), total):
+        if len(arrived) < fn(PIECES, 'piece_count')(total):
             return False
         arrived.clear()
         return True

@@ -3,17 +3,18 @@ from __future__ import annotations
 
 import os
 import sys
-from typing import Iterator, NamedTuple
+from typing import Any, Iterator, NamedTuple
 
 TOP = os.path.dirname(os.path.dirname(os.path.abspath(__file__)))
 sys.path[:0] = [os.path.join(TOP, 'bench', 'definitions'), os.path.join(TOP, 'tools')]
-import antt  # noqa: E402
-
-antt.DROPS = []  # Rows say why they drop an input; this is set before `run` looks up the first definition.
+import loaded  # noqa: E402
+import plays  # noqa: E402
 import quorum_file  # noqa: E402, F401
-import run  # noqa: E402
-from antt import Con, Rec, Tup, app  # noqa: E402
+from antt import Long, Made, Record, fields_of  # noqa: E402
+from plays import Play  # noqa: E402
 from schedules import TIMERS, faults_of  # noqa: E402
+
+loaded.load(is_watched=True)  # Rows say why they drop an input.
 
 # The prefixes of a store whose numbers are shown.
 PREFIXES = b'paxos', b'monitor', b'mon_sync', b'kv', b'logm'
@@ -46,7 +47,7 @@ class Step(NamedTuple):
     changes: list[tuple[int, str, str, str]]
     drops: list[Drop]
     looks: list[dict[str, str]]
-    play: run.Play
+    play: Play
 
     @property
     def reasons(self) -> list[str]:
@@ -57,17 +58,15 @@ class Step(NamedTuple):
         return not self.changes and len(self.lines) == 1
 
 
-def shown(value) -> str:
+def shown(value: Any) -> str:
     """A value of the definitions as text."""
-    if isinstance(value, Rec):
-        return '{' + ', '.join(f'{name} {shown(part)}' for name, part in value.d.items()) + '}'
-    if isinstance(value, Con):
-        if value.n in ('None', 'Some'):
-            return shown(value.a[0]) if value.a else '-'
-        return value.n.lower() + ('(' + ', '.join(map(shown, value.a)) + ')' if value.a else '')
-    if isinstance(value, Tup):
-        return '(' + ', '.join(map(shown, value.a)) + ')'
-    if isinstance(value, (tuple, list)):
+    if isinstance(value, Record):
+        return '{' + ', '.join(f'{name} {shown(part)}' for name, part in fields_of(value)) + '}'
+    if isinstance(value, Made):
+        if value.name in ('None', 'Some'):
+            return shown(value.args[0]) if value.args else '-'
+        return value.name.lower() + ('(' + ', '.join(map(shown, value.args)) + ')' if value.args else '')
+    if isinstance(value, (tuple, Long)):
         if len(value) == 15 and all(isinstance(part, bool) for part in value):
             return '{' + ','.join(str(rank) for rank, is_in in enumerate(value) if is_in) + '}'
         return '[' + ', '.join(map(shown, value)) + ']'
@@ -77,31 +76,30 @@ def shown(value) -> str:
     return {True: 'yes', False: 'no'}.get(value, str(value)) if isinstance(value, bool) else str(value)
 
 
-def remembered(state) -> dict[str, str]:
+def remembered(state: Any) -> dict[str, str]:
     """The parts of a monitor's state that aren't in its store, each as text."""
-    if state.n == 'None':
+    if state is None:
         return {'up': 'no'}
     found = {'up': 'yes'}
-    for part, value in state.a[0].d.items():
+    for part, value in fields_of(state):
         if part == 'timers':
-            found |= {f'timer {name}': 'off' if timer.n == 'None' else f'at {timer.a[0]}' for name, timer in zip(TIMERS, value)}
-        elif isinstance(value, Rec):
-            found |= {f'{part}.{name}': shown(field) for name, field in value.d.items() if name != 'scores'}
+            found |= {f'timer {name}': f'at {timer.args[0]}' if timer.args else 'off' for name, timer in zip(TIMERS, value)}
+        elif isinstance(value, Record):
+            found |= {f'{part}.{name}': shown(field) for name, field in fields_of(value) if name != 'scores'}
         else:
             found[part] = shown(value)
     return found
 
 
-def kept(store) -> dict[str, str]:
+def kept(store: Any) -> dict[str, str]:
     """The numbers of a monitor's store."""
     return {f'store {prefix.decode()}/{key.decode()}': str(int.from_bytes(value, 'little'))
-            for (prefix, key), value in store.d.items() if prefix in PREFIXES and len(value) == 8 and not key.isdigit()}
+            for (prefix, key), value in store.entries.items() if prefix in PREFIXES and len(value) == 8 and not key.isdigit()}
 
 
-def looks(play) -> list[dict[str, str]]:
+def looks(play: Play) -> list[dict[str, str]]:
     """What each monitor remembers and has in its store, as texts by name."""
-    world = play.scene.d['world'].d
-    return [{**remembered(app(world['state'], rank)), **kept(app(world['store'], rank))} for rank in range(play.n)]
+    return [{**remembered(play.state(rank)), **kept(play.world.store(rank))} for rank in range(play.n)]
 
 
 def lines_of(octets: bytes) -> list[str]:
@@ -111,11 +109,11 @@ def lines_of(octets: bytes) -> list[str]:
     return octets.decode('ascii').splitlines()
 
 
-def after(play: run.Play, line: str, before: list[dict[str, str]] | None = None) -> Step:
+def after(play: Play, line: str, before: list[dict[str, str]] | None = None) -> Step:
     """The event of a line after a run, which isn't changed. `before` are the looks of that run, if they are known. Raises Refused if a number runs out; the
     program stops then, too."""
     before, play, number = before or looks(play), play.copy(), play.events + 1
-    antt.DROPS.clear()
+    loaded.drops().clear()
     if not play.take(line):
         raise Refused(f'line {number + 1}, {line}: the run stops there, {shown(play.stop)}')
     now = looks(play)
@@ -123,13 +121,13 @@ def after(play: run.Play, line: str, before: list[dict[str, str]] | None = None)
                for rank in range(play.n) for part in {**before[rank], **now[rank]} if before[rank].get(part) != now[rank].get(part)]
     # A kill between two events is written as a crash in a timer that isn't set. That this timer is dropped explains nothing, so it is left out.
     is_crash = any(it.startswith('  crashed ') for it in play.trace)
-    drops = [Drop(*drop) for drop in dict.fromkeys(antt.DROPS) if not (is_crash and drop[0] == 'take_timer')]
+    drops = [Drop(*drop) for drop in dict.fromkeys(loaded.drops()) if not (is_crash and drop.row == 'take_timer')]
     return Step(number, play.trace, changes, drops, now, play)
 
 
 def steps(schedule: list[str]) -> Iterator[Step]:
     """The events of a schedule, run one after the other. Raises Refused if the run stops in one."""
-    play, before = run.Play(schedule[0]), None
+    play, before = Play(schedule[0]), None
     for line in schedule[1:]:
         step = after(play, line, before)
         yield step
@@ -138,4 +136,4 @@ def steps(schedule: list[str]) -> Iterator[Step]:
 
 def trace_of(lines: list[str]) -> str:
     """The trace of a schedule, up to the event at which the run stops."""
-    return run.played('\n'.join(lines) + '\n').ended()
+    return plays.played('\n'.join(lines) + '\n').ended()

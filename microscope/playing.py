@@ -10,11 +10,13 @@ import re
 import time
 from typing import NamedTuple
 
+from played import Play, Refused, Step, after, lines_of
 import exercises
+import loaded
 import rules
 import safety
 from cards import card, shortened, value_of
-from played import Refused, Step, after, lines_of, run
+from natives import transaction_of
 from schedules import MOST_EVENTS, fault_of_event
 from words import Sent, Story, paragraph_of, sends_of, time_of, why
 
@@ -39,7 +41,7 @@ class Flight(NamedTuple):
 class Moment(NamedTuple):
     """A game after an act: the run, the time, the messages by number, and the tears that wait for a monitor's next write. If the act made an event: the
     step, its sentence, the clauses of `Safe` that don't hold after it, and its line."""
-    play: run.Play
+    play: Play
     now: int
     wire: dict[int, Flight]
     tears: dict[int, str]
@@ -60,7 +62,7 @@ class Game:
     def begin(self, header: str):
         lines_of(f'{header}\n'.encode())
         self.header, self.branch = header, self.branch + 1
-        self.moments, self.at = [Moment(run.Play(header), 0, {}, {}, None, 'nothing has happened yet', {}, None)], 0
+        self.moments, self.at = [Moment(Play(header), 0, {}, {}, None, 'nothing has happened yet', {}, None)], 0
 
     @property
     def here(self) -> Moment:
@@ -104,7 +106,7 @@ class Game:
         self.since_forgotten += 1
         if self.since_forgotten > FORGET_AFTER:
             self.since_forgotten = 0
-            run.antt.forget()
+            loaded.forget()
 
     def wire_after(self, step: Step, line: str, now: int) -> dict[int, Flight]:
         wire = dict(self.here.wire)
@@ -281,11 +283,11 @@ class Game:
     def log(self) -> list[list]:
         """The entries of the log, and whether each was acknowledged."""
         acknowledged = {version for version, _ in safety.acknowledged(self.here.play)}
-        entries = self.here.play.scene.d['world'].d['log']
+        entries = self.here.play.world.log
         found = []
         for version, entry in enumerate(entries, 1):
-            ops = run.tx_of(entry)
-            found.append([version, shortened(value_of(ops.a[0])) if ops.n == 'Ok' else '?', version in acknowledged])
+            value = transaction_of(entry)
+            found.append([version, shortened(value_of(value.args[0])) if value.name == 'Ok' else '?', version in acknowledged])
         return found
 
     def judged(self) -> dict | None:

@@ -5,7 +5,9 @@ from __future__ import annotations
 import os
 from typing import NamedTuple
 
-from played import TOP, Refused, antt, run
+from played import TOP, Refused
+import loaded
+from antt import Fault
 
 PROTOCOL = 'mon_msg.specs.Protocol.'
 # A log that is trimmed after three versions. The program keeps 500 to 750.
@@ -99,13 +101,14 @@ def asked_for(asked) -> Rule | None:
 
 def take(rule: Rule | None, is_true: bool = False):
     """Reads the definitions anew, under a changed rule. With `is_true` they are the true ones, with the constants of that rule."""
-    run.reload({} if rule is None or is_true else rule.changes, {} if rule is None else rule.constants)
+    loaded.load({} if rule is None or is_true else rule.changes, {} if rule is None else rule.constants)
     if rule is not None and not is_true:
         for module in rule.changes:
-            file = os.path.join(antt.ROOT, *module.split('.')) + '.antt'
+            library = loaded.Loaded.program.library
+            file = library.file_of(module)
             if not os.path.isfile(file):
                 raise Refused(f'{file} is not there')
             try:
-                antt.module_of(module)
-            except ValueError as why:
-                raise Refused(os.path.relpath(str(why), TOP)) from None
+                library.module(module)
+            except Fault as why:
+                raise Refused(f'{os.path.relpath(why.file, TOP)}: {why.what}') from None

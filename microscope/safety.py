@@ -3,7 +3,8 @@ from __future__ import annotations
 
 from typing import NamedTuple
 
-from played import run
+from played import Play
+from judging import unsafe
 
 
 class Clause(NamedTuple):
@@ -41,21 +42,20 @@ def said(part: str, number: int) -> str:
     return SAYS[part].format(number + (part == 'asked'))
 
 
-def broken(play: run.Play) -> dict[str, str]:
+def broken(play: Play) -> dict[str, str]:
     """The clauses that don't hold after a run, each with the first thing that is wrong."""
     found = {}
-    for part, number in run.unsafe(play.scene.d['world'], play.n, play.writes):
+    for part, number in unsafe(play.world, play.n, play.writes):
         found.setdefault(next(clause.name for clause in CLAUSES if part in clause.parts), said(part, number))
     return found
 
 
-def acknowledged(play: run.Play) -> list[tuple[int, int]]:
+def acknowledged(play: Play) -> list[tuple[int, int]]:
     """The acknowledged versions, each with its epoch."""
-    found = [it.d['what'].d for it in play.scene.d['world'].d['acknowledged']]
-    return [(it['version'], it['epoch']) for it in found]
+    return [(it.what.version, it.what.epoch) for it in play.world.acknowledged]
 
 
-def said_of(play: run.Play) -> str:
+def said_of(play: Play) -> str:
     """Whether a run is safe, as text."""
     found = broken(play)
     return 'the run is safe' if not found else 'the run is UNSAFE: ' + '; '.join(f'{name}: {what}' for name, what in found.items())

@@ -11,8 +11,11 @@ import random
 import time
 from typing import Callable, Iterator, NamedTuple
 
+from played import TIMERS, Play
+import loaded
 import safety
-from played import TIMERS, app, run
+from judging import epoch_of
+from texts import NAMES
 
 LEADS = 'Active', 'Updating'
 # The kinds of messages in a quorum. In a walk one of them is slow.
@@ -25,7 +28,7 @@ class Course:
     """A run that goes on at random: its lines, the messages that have not arrived, and the time."""
 
     def __init__(self, header: str):
-        self.play, self.lines, self.now, self.waiting, self.asked = run.Play(header), [header], 0, [], 0
+        self.play, self.lines, self.now, self.waiting, self.asked = Play(header), [header], 0, [], 0
 
     def copy(self) -> Course:
         other = Course.__new__(Course)
@@ -38,26 +41,26 @@ class Course:
         if not self.play.take(line):
             raise LookupError(line)
         self.lines.append(line)
-        self.waiting += [(number, it.d['message'].d['from'], it.d['to'], run.NAMES[it.d['message'].d['body'].n])
+        self.waiting += [(number, it.message.from_, it.to, NAMES[it.message.body.name])
                          for number, it in enumerate(self.messages()[seen:], seen + 1)]
         return self.play.trace[at:]
 
     def messages(self):
-        return self.play.scene.d['world'].d['messages']
+        return self.play.world.messages
 
     def state(self, rank: int):
-        return app(self.play.scene.d['world'].d['state'], rank)
+        return self.play.state(rank)
 
     def up(self) -> list[int]:
-        return [rank for rank in range(self.play.n) if self.state(rank).n == 'Some']
+        return [rank for rank in range(self.play.n) if self.state(rank) is not None]
 
     def leaders(self) -> list[int]:
-        return [rank for rank in self.up() if self.state(rank).a[0].d['phase'].n in LEADS]
+        return [rank for rank in self.up() if self.state(rank).phase.name in LEADS]
 
     def timers(self, ranks) -> list[tuple[int, int, str]]:
         """The end, rank and name of each timer of these monitors."""
-        return sorted((timer.a[0], rank, name) for rank in ranks if self.state(rank).n == 'Some'
-                      for name, timer in zip(TIMERS, self.state(rank).a[0].d['timers']) if timer.n == 'Some')
+        return sorted((timer.args[0], rank, name) for rank in ranks if self.state(rank) is not None
+                      for name, timer in zip(TIMERS, self.state(rank).timers) if timer.args)
 
     def deliver(self, place: int) -> list[str]:
         return self.take(f'deliver {self.waiting.pop(place)[0]} {self.now}')
@@ -78,7 +81,7 @@ def part(course: Course, group: tuple[int, ...], restarted: tuple[int, ...], sti
     course.waiting.clear()
     course.now += 1
     for rank in group:
-        if rank in restarted or course.state(rank).n == 'None':
+        if rank in restarted or course.state(rank) is None:
             course.take(f'start {rank} {course.now}')
     before = epochs(course)
     for _ in range(PART):
@@ -103,11 +106,11 @@ def within(course: Course, group: tuple[int, ...]):
 
 
 def epochs(course: Course) -> list[int]:
-    return [run.epoch_of(app(course.play.scene.d['world'].d['store'], rank)) for rank in range(course.play.n)]
+    return [epoch_of(course.play.world.store(rank)) for rank in range(course.play.n)]
 
 
 def is_of(course: Course, rank: int, group: tuple[int, ...]) -> bool:
-    quorum = course.state(rank).a[0].d['leader'].d['quorum']
+    quorum = course.state(rank).leader.quorum
     return all(member in group for member, is_in in enumerate(quorum) if is_in)
 
 
@@ -190,7 +193,7 @@ def step(course: Course, chance: random.Random, is_calm: bool, slow: tuple[str, 
         course.waiting.pop(next_of(course, chance, slow))
         return []
     if draw < 0.88:
-        idle = [rank for rank in course.leaders() if course.state(rank).a[0].d['phase'].n == 'Active']
+        idle = [rank for rank in course.leaders() if course.state(rank).phase.name == 'Active']
         return course.write(chance.choice(idle)) if idle else []
     if draw < 0.91 and up:
         return course.ask(chance.choice(up), 'show kv')
@@ -265,12 +268,12 @@ def search(opening: str, seed: int, seconds: float, header: str = 'monitors 3 cl
             if time.process_time() > end:
                 return None
         events += course.play.events - base.play.events
-        run.antt.forget()
+        loaded.forget()
 
 
 def first_of(lines: list[str], broken: dict[str, str], runs: int, events: int) -> Found:
     """The shortest prefix of a schedule that isn't safe."""
-    play = run.Play(lines[0])
+    play = Play(lines[0])
     for at, line in enumerate(lines[1:], 2):
         play.take(line)
         if early := safety.broken(play):

@@ -4,7 +4,7 @@ from __future__ import annotations
 import re
 from typing import NamedTuple
 
-from played import run
+from played import Play
 from schedules import DELIVERY, MOST_MESSAGE_NUMBER
 
 SENT = re.compile(r'^(\d+) |^  send (\d+) ', re.MULTILINE)
@@ -101,7 +101,7 @@ class Prefixes:
     """Replays by the definitions. The lines that a schedule has in common with the one before it aren't run again."""
 
     def __init__(self, header: str):
-        self.lines, self.plays, self.traces = [header], [run.Play(header)], [[header]]
+        self.lines, self.plays, self.traces = [header], [Play(header)], [[header]]
 
     def is_taken(self, place: int, line: str) -> bool:
         """Runs the line at this place after those before it. Returns whether the run goes on."""
@@ -122,7 +122,7 @@ class Prefixes:
         for held in (self.lines, self.plays, self.traces):
             del held[count:]
         last = self.plays[-1]
-        end = [f'end events={last.events} log={len(last.scene.d["world"].d["log"])}'] if has_ended else []
+        end = [f'end events={last.events} log={len(last.world.log)}'] if has_ended else []
         return Ended(0, ''.join(line + '\n' for lines in [*self.traces, end] for line in lines))
 
     def __call__(self, lines: list[str]) -> Ended:

@@ -7,9 +7,10 @@ import random
 import re
 from typing import NamedTuple
 
+from played import Play, Refused, lines_of, quorum_file
 from copying import Carried, Copying
-from played import Refused, app, lines_of, quorum_file, run
 from schedules import IMAGES, MOST_EVENTS, TIMERS, Fault, fault_of_event, fault_of_header, is_within
+from texts import NAMES
 
 # The actions at a time with their forms; and the form of a request, with what comes before its value or text.
 FORMS = {
@@ -20,7 +21,7 @@ FORMS = {
 REQUEST = re.compile(r'(\s*at\s+\S+\s+client\s+\S+\s+\S+\s+\S+\s+(?:set\s+\S+|log))(?:\s(.*))?')
 COMMENT = re.compile(r'(?:^|\s)#.*')
 LINK = re.compile(r'(\d+)>(\d+)')
-KINDS = frozenset(run.NAMES.values())
+KINDS = frozenset(NAMES.values())
 MOST_LATENCY = 2**32
 
 
@@ -191,7 +192,7 @@ class Simulation:
     copies before timers."""
 
     def __init__(self, scenario: Scenario):
-        self.scenario, self.play = scenario, run.Play(scenario.header)
+        self.scenario, self.play = scenario, Play(scenario.header)
         self.schedule, self.marks = [scenario.header], {}
         self.now, self.cut, self.dead, self.tears, self.named = 0, set(), set(), {}, []
         # The settings of each link. The key None has those of all other links.
@@ -200,7 +201,7 @@ class Simulation:
         self.copying = Copying(self.play.n) if scenario.copies else None
 
     def world(self):
-        return self.play.scene.d['world'].d
+        return self.play.world
 
     def of_link(self, what: str, link: tuple[int, int]):
         return self.network[what].get(link, self.network[what][None])
@@ -218,11 +219,11 @@ class Simulation:
 
     def send(self, number: int):
         """A monitor sends the message of this number."""
-        message = self.world()['messages'][number - 1].d
+        envelope = self.world().messages[number - 1]
         if self.copying:
-            self.put_all(self.copying.sends(self.now, number, message['message'], message['to']))
+            self.put_all(self.copying.sends(self.now, number, envelope.message, envelope.to))
         else:
-            self.put(Carried(message['message'].d['from'], message['to'], number, b''))
+            self.put(Carried(envelope.message.from_, envelope.to, number, b''))
 
     def put_all(self, going: list[Carried]):
         for carried in going:
@@ -231,7 +232,7 @@ class Simulation:
     def put(self, carried: Carried):
         """Puts a message, or a datagram of it, on the wire, once for each time that it will arrive."""
         link = carried.sender, carried.to
-        named = self.next_of(run.NAMES[self.world()['messages'][carried.number - 1].d['message'].d['body'].n], link)
+        named = self.next_of(NAMES[self.world().messages[carried.number - 1].message.body.name], link)
         is_lost = self.happens(self.of_link('loss', link)) or named is not None and named.what == 'lose'
         if link in self.cut or is_lost:
             return
@@ -254,7 +255,7 @@ class Simulation:
             self.play.take(line)
             self.dead.add(rank)
         self.schedule.append(line)
-        while self.seen < len(self.world()['messages']):
+        while self.seen < len(self.world().messages):
             self.seen += 1
             self.send(self.seen)
 
@@ -262,10 +263,9 @@ class Simulation:
         """The time, rank and name of the timer that fires next."""
         found = []
         for rank in range(self.play.n):
-            state = app(self.world()['state'], rank)
-            if rank not in self.dead and state.n != 'None':
-                timers = zip(TIMERS, state.a[0].d['timers'])
-                found += [(timer.a[0], rank, name) for name, timer in timers if timer.n == 'Some']
+            state = self.play.state(rank)
+            if rank not in self.dead and state is not None:
+                found += [(timer.args[0], rank, name) for name, timer in zip(TIMERS, state.timers) if timer.args]
         return min(found, default=None)
 
     def next_copies(self):

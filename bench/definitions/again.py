@@ -8,61 +8,58 @@ import re
 import sys
 
 sys.path.insert(0, os.path.dirname(os.path.abspath(__file__)))
-import antt
-from antt import Con, app, apps, nat, resolve
+import loaded
+from antt import Made, octets, single
+from loaded import fn
 
 WORLD, SENDING = 'mon_resend.specs.World', 'mon_resend.specs.Sending'
 NEVER = 2 ** 64 - 1
-IDLE = Con('Idle')
-
-antt.NATIVE['byteorder.specs.Endian.little_number'] = nat(2)(lambda n, octets: int.from_bytes(bytes(octets[:n]), 'little'))
-# a step asks several times what its datagram is
-antt.MEMO['mon_resend.specs.Datagrams.part_of'] = 64
+IDLE = single('Idle')
 
 
 def part_of(datagram):
     """Which part of its message a datagram is, or None: a constructor Whole, First or Later, the first two with the message's header."""
-    return app(resolve('mon_resend.specs.Datagrams', 'part_of'), datagram)
+    return fn('mon_resend.specs.Datagrams', 'part_of')(datagram)
 
 
 class Link:
     """A monitor's link: the copies that it keeps, and its steps."""
 
     def __init__(self):
-        self.copies, self.run = resolve(WORLD, 'fresh'), 0
+        self.copies, self.run = fn(WORLD, 'fresh'), 0
 
     def sent(self, now, to, datagram):
         """The monitor sends a datagram to another one. Returns whether it goes on the wire now."""
-        goes = apps(resolve(WORLD, 'is_sent_now'), to, datagram, now, self.copies)
-        self.copies = apps(resolve(WORLD, 'sent'), True, to, datagram, now, self.copies)
+        goes = fn(WORLD, 'is_sent_now')(to, datagram, now, self.copies)
+        self.copies = fn(WORLD, 'sent')(True, to, datagram, now, self.copies)
         return goes
 
     def arrived(self, now, sender, datagram):
         """A datagram arrives from a monitor. Returns whether it is handed up, and what is sent then, as pairs of a monitor and a datagram."""
-        return self.took(now, Con('Datagram', (Con('Monitor', (sender,)), datagram)))
+        return self.took(now, Made('Datagram', Made('Monitor', sender), datagram))
 
     def rested(self, now):
         """Nothing arrives. Returns what is sent then."""
         return self.took(now, IDLE)[1]
 
     def took(self, now, got):
-        is_kept = apps(resolve(SENDING, 'isnt_handed_up'), got, now, self.copies)
-        again = apps(resolve(SENDING, 'may_go'), got, self.run)
-        after = apps(resolve(SENDING, 'with_got'), True, got, now, self.copies)
-        going = apps(resolve(WORLD, 'all_due_copies'), again, now, after)
-        self.copies = apps(resolve(WORLD, 'all_passed'), again, now, after)
-        self.run = apps(resolve(SENDING, 'run_after'), got, self.run)
-        return got.n == 'Datagram' and not is_kept, [(out.d['to'].a[0], out.d['bytes']) for out in going]
+        is_kept = fn(SENDING, 'isnt_handed_up')(got, now, self.copies)
+        again = fn(SENDING, 'may_go')(got, self.run)
+        after = fn(SENDING, 'with_got')(True, got, now, self.copies)
+        going = fn(WORLD, 'all_due_copies')(again, now, after)
+        self.copies = fn(WORLD, 'all_passed')(again, now, after)
+        self.run = fn(SENDING, 'run_after')(got, self.run)
+        return got.name == 'Datagram' and not is_kept, [(out.to.args[0], octets(out.bytes)) for out in going]
 
     def due(self):
         """The time of the next copy, or None."""
-        due = app(resolve(WORLD, 'due_of'), self.copies)
+        due = fn(WORLD, 'due_of')(self.copies)
         return None if due == NEVER else due
 
     def kept(self, rank):
         """The datagrams that are kept for a monitor, each with its note."""
-        shelf = apps(resolve(WORLD, 'box_of'), rank, self.copies).d['shelf']
-        return [(kept.d['out'].d['bytes'], kept.d['note'].d) for kept in shelf]
+        shelf = fn(WORLD, 'box_of')(rank, self.copies).shelf
+        return [(octets(kept.out.bytes), kept.note) for kept in shelf]
 
 
 # ---- the cases of the tests, in crates/resend_tests/src
@@ -75,7 +72,7 @@ STEP = re.compile(r'\((\w+), (Sends|SendsToAnother|Hears|Rests), (\w+), (\w+), (
 def cases():
     """The cases of the tests: for each its name and its steps. A step has a time, what is done, a message's kind, epoch and number, how many datagrams are sent
     then, and whether a datagram that arrives is handed up."""
-    texts = [open(os.path.join(antt.ROOT, 'resend_tests', 'src', name)).read() for name in ('again.rt', 'again_calls.rt', 'again_copies.rt', 'again_rows.rt')]
+    texts = [open(os.path.join(loaded.ROOT, 'resend_tests', 'src', name)).read() for name in ('again.rt', 'again_calls.rt', 'again_copies.rt', 'again_rows.rt')]
     bytes_of = {name: int(byte) for text in texts for name, byte in BYTE.findall(text)}
 
     def number(word):

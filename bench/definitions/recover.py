@@ -16,71 +16,71 @@ import subprocess
 import sys
 
 import fuzz
-import run
+import loaded
+from antt import Made, octets, record
+from loaded import fn
+from natives import transaction_text
+from plays import Play
+from texts import TIMER
 
 RECORDS, READINGS = 'mon_msg.specs.Protocol.Records', 'mon_msg.specs.Protocol.Readings'
 PLANS, PLAN = 'quorum_elects.specs.Plans', 'quorum_recovers.specs.Plan'
-SESSION, COMMAND = run.Rec({'client': 4_000_000_000, 'id': 9_000_000}), run.Con('Set', (b'recovered', b'x'))
-TIMERS = {name: word for word, name in run.TIMER.items()}
+SESSION, COMMAND = record(client=4_000_000_000, id=9_000_000), Made('Set', b'recovered', b'x')
+TIMERS = {name: word for word, name in TIMER.items()}
 
 
-def line_of(event: run.Con) -> str:
+def line_of(event: Made) -> str:
     """A planned event, as a schedule has it."""
-    plain = event.a[0]
-    if plain.n == 'Start':
-        return 'start %d %d' % plain.a
-    if plain.n == 'Deliver':
-        return 'deliver %d %d' % plain.a
-    if plain.n == 'Ring':
-        rank, timer, at = plain.a
-        return f'timer {rank} {TIMERS[timer.n]} {at}'
-    rank, at, session, request = plain.a
-    return f'client {rank} {at} {session.d["client"]} {session.d["id"]} set {request.a[0].decode()} {request.a[1].decode()}'
+    plain = event.args[0]
+    if plain.name == 'Start':
+        return 'start %d %d' % plain.args
+    if plain.name == 'Deliver':
+        return 'deliver %d %d' % plain.args
+    if plain.name == 'Ring':
+        rank, timer, at = plain.args
+        return f'timer {rank} {TIMERS[timer.name]} {at}'
+    rank, at, session, request = plain.args
+    return f'client {rank} {at} {session.client} {session.id} set {request.args[0].decode()} {request.args[1].decode()}'
 
 
 class Way:
     """The way back of a majority: the events that follow the plan of the definitions, each of which delivers the newest message."""
 
-    def __init__(self, play: run.Play, majority: list[int]):
-        self.play, self.sent, self.lines = play, len(self.world_of(play).d['messages']), []
+    def __init__(self, play: Play, majority: list[int]):
+        self.play, self.sent, self.lines = play, len(play.world.messages), []
         members = tuple(rank in majority for rank in range(15))
-        self.steps = run.apps(run.fn(PLAN, 'way_back'), play.ms, members, SESSION, COMMAND)
-
-    @staticmethod
-    def world_of(play: run.Play):
-        return play.scene.d['world']
+        self.steps = fn(PLAN, 'way_back')(play.monitors, members, SESSION, COMMAND)
 
     def take(self, planned):
-        event = run.apps(run.fn(PLANS, 'event_of'), self.sent, self.world_of(self.play), planned)
-        if event.n == 'None':
+        event = fn(PLANS, 'event_of')(self.sent, self.play.world, planned)
+        if event.name == 'None':
             raise ValueError(f'there is no message for {planned!r}')
-        self.lines.append(line_of(event.a[0]))
+        self.lines.append(line_of(event.args[0]))
         if not self.play.take(self.lines[-1]):
             raise ValueError(f'the run stops at {self.lines[-1]!r}')
 
     def go(self):
         for step in self.steps:
-            for planned in run.app(step, self.world_of(self.play)):
+            for planned in step(self.play.world):
                 self.take(planned)
 
     def replied(self) -> bool:
-        return any(reply.d['session'] == SESSION for reply in self.world_of(self.play).d['replied'])
+        return any(reply.session == SESSION for reply in self.play.world.replied)
 
 
-def is_near(play: run.Play, rank: int) -> bool:
+def is_near(play: Play, rank: int) -> bool:
     """Whether the monitor has the whole log, or all of it but the last version and that as its pending value."""
-    world = play.scene.d['world'].d
-    read = run.app(run.fn(READINGS, 'readings_of'), run.app(world['store'], rank))
-    end = len(world['log'])
-    if read.d['marked'] or read.d['last'] not in (end, end - 1):
+    read = fn(READINGS, 'readings_of')(play.world.store(rank))
+    end = len(play.world.log)
+    if read.marked or read.last not in (end, end - 1):
         return False
-    pending = run.app(run.fn(RECORDS, 'pending'), read)
-    return read.d['last'] == end or pending.n == 'Some' and bytes(run.tx_text(pending.a[0].d['value'])) == bytes(world['log'][end - 1])
+    pending = fn(RECORDS, 'pending')(read)
+    return read.last == end or pending.name == 'Some' and transaction_text(pending.args[0].value) == octets(play.world.log[end - 1])
 
 
-def allowed_in(play: run.Play) -> list[int]:
-    rule = play.ms.d['rule']
-    return [rank for rank in range(play.n) if rule.n == 'Classic' or not rule.a[0][rank]]
+def allowed_in(play: Play) -> list[int]:
+    rule = play.monitors.rule
+    return [rank for rank in range(play.n) if rule.name == 'Classic' or not rule.args[0][rank]]
 
 
 def most_events(n: int) -> int:
@@ -88,7 +88,7 @@ def most_events(n: int) -> int:
     return 2 * n * n + 14 * n + 5
 
 
-def outcome(seed: int, schedule: str, play: run.Play, program: str | None, longest: collections.Counter) -> str:
+def outcome(seed: int, schedule: str, play: Play, program: str | None, longest: collections.Counter) -> str:
     """How a majority fares after the run of a seed. Notes the longest way of each number of monitors."""
     near = [rank for rank in range(play.n) if is_near(play, rank)]
     least = play.n // 2 + 1
@@ -118,7 +118,7 @@ def outcomes(seed: int, events: int, every: int, program: str | None, longest: c
     """How a majority fares at the end of the run of a seed, and at regular intervals before it."""
     found = []
 
-    def seen(lines: list[str], play: run.Play):
+    def seen(lines: list[str], play: Play):
         if play.events % every == 0 and play.events < events:
             other = play.copy()
             other.trace = list(play.trace)
@@ -137,7 +137,7 @@ def main(arguments: list[str]) -> int:
             found[result.split(':')[0]] += 1
             if result.startswith('WRONG'):
                 print(result, flush=True)
-        run.antt.forget()
+        loaded.forget()
     print(', '.join(f'{name} {number}' for name, number in sorted(found.items())))
     for n, number in sorted(longest.items()):
         print(f'{n} monitors: at most {number} events of {most_events(n)}')
@@ -145,5 +145,4 @@ def main(arguments: list[str]) -> int:
 
 
 if __name__ == '__main__':
-    sys.setrecursionlimit(100_000)
     sys.exit(main(sys.argv[1:]))
