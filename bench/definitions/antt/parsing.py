@@ -5,7 +5,7 @@ free.
 """
 from __future__ import annotations
 
-from typing import Callable, Dict, List, Optional, Tuple
+from typing import Callable, Dict, List, Optional, Tuple, TypeVar
 
 from . import nodes
 from .nodes import Expression, Fault, Pattern
@@ -21,6 +21,7 @@ KEYWORDS = {'where', 'then', 'else', 'in', 'as', 'do', 'use', 'module', 'pub', '
 SMALL = 'true', 'false', 'zero', 'suc', 'tt'
 NOTHING = Token('end', '', 0, -1, True, -1, -1)
 ANYWHERE = -1
+Item = TypeVar('Item')
 
 
 def is_constructor(name: str) -> bool:
@@ -222,9 +223,9 @@ class Parser:
         items = self.several(self.expression)
         return items[0] if len(items) == 1 else nodes.Pair(token.line, tuple(items))
 
-    def several(self, read_one: Callable) -> list:
+    def several(self, read_one: Callable[[], Item]) -> List[Item]:
         """One or more items between commas, and the parenthesis that closes them."""
-        items: list = []
+        items: List[Item] = []
 
         def read() -> None:
             items.append(read_one())
@@ -305,7 +306,8 @@ class Parser:
 
     def clause(self, column: int, read_locals: 'Callable[[Parser, int], Tuple[Dict[str, nodes.Definition], int]]') -> nodes.Clause:
         """A clause that begins at this column: its name, patterns, body, and the definitions of its `where`, which `read_locals` reads."""
-        line, patterns, local = self.tokens[self.at].line, [], {}
+        line, patterns = self.tokens[self.at].line, []
+        local: Dict[str, nodes.Definition] = {}
         self.columns.append(column)
         self.at += 1
         while not self.is_at('='):

@@ -30,7 +30,7 @@ def joined(first: Any, second: Any) -> Any:
 
 
 def compared(a: Any, b: Any) -> int:
-    return (a > b) - (a < b)
+    return int(a > b) - int(a < b)
 
 
 def replaced(items: Any, index: int, value: Any) -> Any:
@@ -67,7 +67,7 @@ def mapped(f: Callable, value: Made) -> Made:
     return some(f(value.args[0])) if value.args else value
 
 
-def then_compared(f: Callable, g: Callable, a: Any, b: Any) -> int:
+def then_compared(f: Callable, g: Callable, a: Any, b: Any) -> Any:
     return f(a)(b) or g(a)(b)
 
 

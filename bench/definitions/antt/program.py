@@ -111,9 +111,9 @@ class Program:
 
     def kept(self, key: str, function: Callable) -> Callable:
         """A function that keeps its values, if the host wants that: by its arguments if they are numbers or bytes, and else by their identity."""
-        most = self.host.kept.get(key)
-        if most is None:
+        if key not in self.host.kept:
             return function
+        most = self.host.kept[key]
         values: Dict[Any, Any] = {}
         self.caches.append(values)
 

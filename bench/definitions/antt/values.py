@@ -63,7 +63,7 @@ class Record:
     FIELDS: Tuple[str, ...] = ()
 
     def __eq__(self, other: object) -> bool:
-        return self is other or type(self) is type(other) and parts(self) == parts(other)
+        return self is other or isinstance(other, Record) and type(self) is type(other) and parts(self) == parts(other)
 
     def __hash__(self) -> int:
         return hash(parts(self))
@@ -73,7 +73,8 @@ class Record:
 
 
 def parts(made: Record) -> Tuple[Any, ...]:
-    return tuple(getattr(made, name) for name in made.__slots__)
+    slots: Tuple[str, ...] = made.__slots__
+    return tuple(getattr(made, name) for name in slots)
 
 
 def fields_of(made: Record) -> Iterator[Tuple[str, Any]]:

@@ -6,7 +6,7 @@ function is written by `ends`, whose forms end in `return`.
 from __future__ import annotations
 
 import re
-from typing import Dict, Iterable, List, NamedTuple, Optional, Sequence, Set, Tuple, Union
+from typing import Callable, Dict, Iterable, List, NamedTuple, Optional, Sequence, Set, Tuple, Union
 
 from . import nodes
 from .modules import Constant, Constructor, Global, Library, Meaning, Module, Native, Primitive
@@ -278,8 +278,7 @@ class Writer(Spelling):
         form = self.FORMS.get(type(node))
         if form is None:
             raise self.fault(node, f'{node!r} is no expression')
-        text: str = form(self, node, scope, lines)
-        return text
+        return form(self, node, scope, lines)
 
     def of_number(self, node: nodes.Number, scope: Scope, lines: Lines) -> str:
         return self.number(node.value)
@@ -307,9 +306,11 @@ class Writer(Spelling):
         return self.item(base, int(node.part)) if node.part.isdigit() else self.field(base, node.part)
 
     def of_apply(self, node: nodes.Apply, scope: Scope, lines: Lines) -> str:
-        function, arguments = node.function, list(node.arguments)
+        function: Expression = node.function
+        arguments = list(node.arguments)
         while isinstance(function, nodes.Apply):
-            function, arguments = function.function, [*function.arguments, *arguments]
+            arguments = [*function.arguments, *arguments]
+            function = function.function
         texts = [self.expression(argument, scope, lines) for argument in arguments]
         found = self.meaning_of(function, scope)
         if found is not None:
@@ -366,8 +367,7 @@ class Writer(Spelling):
         if node.sign not in self.SIGNS:
             raise self.fault(node, f'{node.sign} makes a type, which has no value')
         left, right = (self.expression(side, scope, lines) for side in (node.left, node.right))
-        text: str = self.SIGNS[node.sign](self, left, right)
-        return text
+        return self.SIGNS[node.sign](self, left, right)
 
     def of_cons(self, node: nodes.Operator, scope: Scope, lines: Lines) -> str:
         items, tail = [], node
@@ -434,12 +434,12 @@ class Writer(Spelling):
             function = self.apply(function, argument)
         return function
 
-    FORMS = {
+    FORMS: Dict[type, Callable[..., str]] = {
         nodes.Number: of_number, nodes.Text: of_text, nodes.Nil: of_nil, nodes.Pair: of_pair, nodes.Name: of_name, nodes.Dot: of_dot,
         nodes.Apply: of_apply, nodes.Lambda: of_lambda, nodes.If: of_if, nodes.Let: apart, nodes.Do: apart, nodes.Elim: apart,
         nodes.Record: of_record, nodes.Operator: of_operator,
     }
-    SIGNS = {
+    SIGNS: Dict[str, 'Callable[[Writer, str, str], str]'] = {
         '&&': lambda self, a, b: self.both([a, b]), '||': lambda self, a, b: self.either(a, b), '==': lambda self, a, b: self.equal(a, b),
         '++': lambda self, a, b: self.call(self.host('joined'), [a, b]), '+': lambda self, a, b: self.sum(a, b),
         '-': lambda self, a, b: self.difference(a, b), '*': lambda self, a, b: self.product(a, b), '/': lambda self, a, b: self.quotient(a, b),
