@@ -4,3 +4,4 @@ pub mod Acts
 pub mod Rows
 pub mod Runs
 pub mod Lagging
+pub mod Datagrams
