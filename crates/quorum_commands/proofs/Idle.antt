@@ -268,8 +268,8 @@ module _ (me : Me) (now : ℕ) (w : Readings) (s : State) (Settled : Session →
       drops_found = λ found A. (A.0, tt);
       queues = λ c o short A. absurd A.1;
       forwards = λ c u peon short fits A. absurd A.1;
-      routes = λ f e seq r C t A. (record { out = routes_fair f e seq r C t; clients = inl (refl, refl); leads = λ z. inl (z, (refl, refl)); last = λ a. (a.none, refl) }, tt);
-      answers = λ {x = x} h r k A. (sends (answers_to me (epoch_of x.readings) (origin_of h) r) (answers_fair (epoch_of x.readings) x h r k A.1) A.0, tt);
+      routes = λ f e seq r C t A. record { out = routes_fair f e seq r C t; clients = inl (refl, refl); leads = λ z. inl (z, (refl, refl)); last = λ a. refl };
+      answers = λ {x = x} h r k A. idle _ (sends (answers_to me (epoch_of x.readings) (origin_of h) r) (answers_fair (epoch_of x.readings) x h r k A.1) A.0);
     }
 
     pub idles : Then Idle (react me shared now w s came)

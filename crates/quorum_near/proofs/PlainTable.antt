@@ -127,10 +127,10 @@ module _ (me : Me) (shared : List Entry) (now : ℕ) (w : Readings) (s : State) 
     makes_value = λ c o ops short e active A. A;
     proposes_found = λ found A. A;
     drops_found = λ found A. A;
-    queues = λ c o short A. A;
-    forwards = λ {x = x} c u peon short fits A. (A.0, all_append (SaysAs w) x.out (message_to me (epoch_of x.readings) (body.Forward x.state.clients.next_seq c) x.state.peon.leader ∷ []) A.1 (tt, tt));
-    routes = λ f e seq r C k A. (A.0, all_append (SaysAs w) [] _ A.1 (all_of (SaysAs w) (λ (a : Asked). sent.Reply a.session r) (λ a. tt) _));
-    answers = λ {x = x} h r k A. (A.0, all_append (SaysAs w) x.out (answers_to me (epoch_of x.readings) (origin_of h) r) A.1 (answers_as (epoch_of x.readings) (origin_of h) r));
+    queues = λ c o short A. record { changes = inl A.0; sends = A.1 };
+    forwards = λ {x = x} c u peon short fits A. record { changes = inl A.0; sends = all_append (SaysAs w) x.out (message_to me (epoch_of x.readings) (body.Forward x.state.clients.next_seq c) x.state.peon.leader ∷ []) A.1 (tt, tt) };
+    routes = λ f e seq r C k A. record { changes = inl A.0; sends = all_append (SaysAs w) [] _ A.1 (all_of (SaysAs w) (λ (a : Asked). sent.Reply a.session r) (λ a. tt) _) };
+    answers = λ {x = x} h r k A. record { changes = inl A.0; sends = all_append (SaysAs w) x.out (answers_to me (epoch_of x.readings) (origin_of h) r) A.1 (answers_as (epoch_of x.readings) (origin_of h) r) };
   }
 
   -- whatever comes

@@ -228,10 +228,10 @@ module _ (me : Me) (now : ℕ) (made : Made) (shared : List Entry) (sharing : Al
     makes_value = λ {x = x} c o ops short e active A. (A.0, made x.readings (stored_now A.0) c (asked_of me o) ops A.1.0 (asked_rank o A.1.1) A.0.readings.own.last short e);
     proposes_found = λ found A. A;
     drops_found = λ found A. (A.0, tt);
-    queues = λ {x = x} c o short A. (kept x A.0 A.0.state.found A.0.state.value A.0.state.pn A.0.state.stage (all_append WaitingFine x.state.clients.queue (record { command = c; origin = o } ∷ []) A.0.state.queue (A.1, tt)), tt);
-    forwards = λ {x = x} c u peon short fits A. (tell_fine me (body.Forward x.state.clients.next_seq c) x.state.peon.leader A.0 A.1.0, tt);
-    routes = λ f e seq r C k A. (more_sent _ A.0 (all_of (SentOwn me) (λ (a : Asked). sent.Reply a.session r) (λ a. tt) (filter (λ (a : Asked). eqb a.seq seq) s.clients.sessions)), tt);
-    answers = λ {x = x} h r k A. (more_sent (answers_to me (epoch_of x.readings) (origin_of h) r) A.0 (answers_fine me now w0 (epoch_of x.readings) (origin_of h) r A.0.readings.own.epoch), tt);
+    queues = λ {x = x} c o short A. ended_at (kept x A.0 A.0.state.found A.0.state.value A.0.state.pn A.0.state.stage (all_append WaitingFine x.state.clients.queue (record { command = c; origin = o } ∷ []) A.0.state.queue (A.1, tt)));
+    forwards = λ {x = x} c u peon short fits A. ended_at (tell_fine me (body.Forward x.state.clients.next_seq c) x.state.peon.leader A.0 A.1.0);
+    routes = λ f e seq r C k A. ended_at (more_sent _ A.0 (all_of (SentOwn me) (λ (a : Asked). sent.Reply a.session r) (λ a. tt) (filter (λ (a : Asked). eqb a.seq seq) s.clients.sessions)));
+    answers = λ {x = x} h r k A. ended_at (more_sent (answers_to me (epoch_of x.readings) (origin_of h) r) A.0 (answers_fine me now w0 (epoch_of x.readings) (origin_of h) r A.0.readings.own.epoch));
   }
 
   -- what holds when it is over, and how often the monitor was started then

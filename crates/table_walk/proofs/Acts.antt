@@ -152,7 +152,7 @@ module _ {me : Me} {now : ℕ} {shared : List Entry} {w : Readings} {s : State} 
       (both_then (P Nothing) (λ y. y.state ≡ x.state) (learn (suc x.readings.last) (value ∷ []) x) (learned (suc x.readings.last) (value ∷ []) (accepted_by_all e k) A) (same_state x (learn (suc x.readings.last) (value ∷ []) x) (learns (suc x.readings.last) (value ∷ []) x))) (λ y B.
       let o = y.state.leader.origin in
       let C = sends_to (members me y.state.leader.quorum) (body.Commit (suc x.readings.last) (value ∷ [])) (inl (value, o, refl, refl)) (b.takes_value value k.said (ap (λ (z : State). z.leader.value) B.1 ∙ e) (disarms timer.Accept B.0)) in
-      ends (b.answers (ValueOf value o) (reply.Done (suc x.readings.last)) (learned_value (suc x.readings.last)) (active (ap (λ (z : State). is_leading z.phase) B.1 ∙ leads) C)))
+      done (b.answers (ValueOf value o) (reply.Done (suc x.readings.last)) (learned_value (suc x.readings.last)) (active (ap (λ (z : State). is_leading z.phase) B.1 ∙ leads) C)))
     where
       leads : Leads x
       leads = begun_leads x.state.phase (and_three (is_one_of (phase.Previous ∷ phase.Updating ∷ []) x.state.phase) (eqb k.epoch (epoch_of x.readings)) (has x.state.leader.quorum k.sender) (and_three (of_member (phase.Previous ∷ phase.Updating ∷ []) k.sender k.epoch x) (eqb k.pn x.state.leader.pn) (eqb k.v (suc x.readings.last)) k.tested).0).0
@@ -161,7 +161,7 @@ module _ {me : Me} {now : ℕ} {shared : List Entry} {w : Readings} {s : State} 
   unfolding begin begin_alone
   begins {x = x} z value o k A = let v = suc x.readings.last in where_fits Q which.Version v _ (λ short. by_test (is_alone me x.state.leader.quorum)
       (λ _. and_then (λ y. P (ValueOf value o) y × (y.state ≡ x.state)) Q (learn v (value ∷ []) x) _ (both_then (P (ValueOf value o)) (λ y. y.state ≡ x.state) (learn v (value ∷ []) x) (learned v (value ∷ []) alone A) (same_state x (learn v (value ∷ []) x) (learns v (value ∷ []) x)))
-      (λ y B. ends (b.answers (ValueOf value o) (reply.Done v) (learned_value v) (leads_at stage.Active (ap (λ (q : State). is_leading q.phase) B.1 ∙ k) B.0))))
+      (λ y B. done (b.answers (ValueOf value o) (reply.Done v) (learned_value v) (leads_at stage.Active (ap (λ (q : State). is_leading q.phase) B.1 ∙ k) B.0))))
       (λ _. done (b.proposes z value o short k A)))
 
   begins_found : {x : Course} (found : Option Found) → Leads x → P (FoundOf found) x → Then Q (begin_found me now found x)

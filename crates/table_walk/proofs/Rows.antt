@@ -237,23 +237,23 @@ module _ {me : Me} {now : ℕ} {shared : List Entry} {w : Readings} {s : State} 
     where
       by : suc (service_last x.readings (service_of c)) ≤ 2 ^ 62 → (r : Result (List Op) CommandRefused) → value x.readings c (asked_of me o) ≡ r → Then Q (begin_made me now o r x)
       by short (Ok ops) e = a.begins stage.Updating ops (Some o) (active_leads x.state.phase active) (b.makes_value c o ops short e active A)
-      by short (Err y) e = ends b (b.timers _ (b.answers (CommandOf c o) (refusal y) (refused y active short e) A))
+      by short (Err y) e = done (b.answers (CommandOf c o) (refusal y) (refused y active short e) (b.timers _ A))
 
   leader_asked : {x : Course} (c : Command) (o : Origin) → P (CommandOf c o) x → Then Q (at_leader me now c o x)
   leader_asked {x = x} c o A =
-      by_test (is_too_long c) (λ t. ends b (b.answers (CommandOf c o) (too_long c) (too_much t) A)) (λ short.
+      by_test (is_too_long c) (λ t. done (b.answers (CommandOf c o) (too_long c) (too_much t) A)) (λ short.
       by_test (may_propose me now x && not (has_queue x)) (λ t. proposes c o (and_three (same_phase x.state.phase phase.Active) (is_standing me now x.state) (not (has_queue x)) t).0 A) (λ _.
-      by_test (leb MOST_WAITING (length x.state.clients.queue)) (λ _. ends b (b.answers (CommandOf c o) (reply.Busy MOST_WAITING) busy A)) (λ _. ends b (b.queues c o short A))))
+      by_test (leb MOST_WAITING (length x.state.clients.queue)) (λ _. done (b.answers (CommandOf c o) (reply.Busy MOST_WAITING) busy A)) (λ _. done (b.queues c o short A))))
 
   peon_asked : {x : Course} (c : Command) (u : Session) → is_peon x.state.phase ≡ true → P (CommandOf c (origin.Session u)) x → Then Q (at_peon me c u x)
   peon_asked {x = x} c u peon A = let h = CommandOf c (origin.Session u) in
-      by_test (is_too_long c) (λ t. ends b (b.answers h (too_long c) (too_much t) A)) (λ short.
-      by_test (leb MOST_WAITING (length x.state.clients.sessions)) (λ _. ends b (b.answers h (reply.Busy MOST_WAITING) busy A))
-      (λ _. where_fits Q which.Seq x.state.clients.next_seq _ (λ fits. ends b (b.forwards c u peon short fits A))))
+      by_test (is_too_long c) (λ t. done (b.answers h (too_long c) (too_much t) A)) (λ short.
+      by_test (leb MOST_WAITING (length x.state.clients.sessions)) (λ _. done (b.answers h (reply.Busy MOST_WAITING) busy A))
+      (λ _. where_fits Q which.Seq x.state.clients.next_seq _ (λ fits. done (b.forwards c u peon short fits A))))
 
   asks : {x : Course} (c : Command) (u : Session) → P (CommandOf c (origin.Session u)) x → Then Q (ask me now u c x)
   unfolding ask
-  asks {x = x} c u A = by_test (is_leading x.state.phase) (λ _. leader_asked c (origin.Session u) A) (λ _. by_test (is_peon x.state.phase) (λ peon. peon_asked c u peon A) (λ _. ends b (b.answers (CommandOf c (origin.Session u)) reply.Unavailable unserved A)))
+  asks {x = x} c u A = by_test (is_leading x.state.phase) (λ _. leader_asked c (origin.Session u) A) (λ _. by_test (is_peon x.state.phase) (λ peon. peon_asked c u peon A) (λ _. done (b.answers (CommandOf c (origin.Session u)) reply.Unavailable unserved A)))
 
   pub forwarded : {x : Course} (f e seq : ℕ) (c : Command) → HeardFrom me came f e (body.Forward seq c) → P Nothing x → Then Q (hear_forward me now f e seq c x)
   unfolding hear_forward
@@ -263,7 +263,7 @@ module _ {me : Me} {now : ℕ} {shared : List Entry} {w : Readings} {s : State} 
 
   pub routed : (f e seq : ℕ) (r : Reply) → HeardFrom me came f e (body.Route seq r) → P Nothing (at_rest w s) → Then Q (hear_route f e seq r (at_rest w s))
   unfolding hear_route
-  routed f e seq r C A = by_test (not (of_leader f e (at_rest w s))) (λ _. ends b A) (λ t. ends b (b.routes f e seq r C (not-false _ t) A))
+  routed f e seq r C A = by_test (not (of_leader f e (at_rest w s))) (λ _. ends b A) (λ t. done (b.routes f e seq r C (not-false _ t) A))
 
   pub due : {x : Course} → came ≡ input.Timer timer.Propose → P Nothing x → Then Q (propose_due me now x)
   unfolding propose_due propose_next
@@ -275,8 +275,8 @@ module _ {me : Me} {now : ℕ} {shared : List Entry} {w : Readings} {s : State} 
 
   reads : {x : Course} (u : Session) (reading : Readings → Reply) → (readable x.readings.last me.member.monitors (lease_of x.state) now ≡ true → MayAnswer me now x (ReadOf u) (reading x.readings)) → P (ReadOf u) x → Then Q (read me now u reading x)
   reads {x = x} u reading k A =
-      by_test (not (is_member x.state.phase)) (λ _. ends b (b.answers (ReadOf u) reply.Unavailable unread A)) (λ _.
-      by_test (not (readable x.readings.last me.member.monitors (lease_of x.state) now)) (λ _. ends b (b.answers (ReadOf u) (reply.NotReadable x.readings.last (is_standing me now x.state)) not_readable A)) (λ t. ends b (b.answers (ReadOf u) (reading x.readings) (k (not-false _ t)) A)))
+      by_test (not (is_member x.state.phase)) (λ _. done (b.answers (ReadOf u) reply.Unavailable unread A)) (λ _.
+      by_test (not (readable x.readings.last me.member.monitors (lease_of x.state) now)) (λ _. done (b.answers (ReadOf u) (reply.NotReadable x.readings.last (is_standing me now x.state)) not_readable A)) (λ t. done (b.answers (ReadOf u) (reading x.readings) (k (not-false _ t)) A)))
 
   pub client_asked : {x : Course} (u : Session) (r : Request) → P (asked_by r u) x → Then Q (hear_client me now u r x)
   unfolding hear_client

@@ -286,12 +286,12 @@ pub record Steps (me : Me) (now : ℕ) (shared : List Entry) (w : Readings) (s :
   pub takes_forwarded : {x : Course} (f e seq : ℕ) (c : Command) → HeardFrom me came f e (body.Forward seq c) → (of_member leading f e x && ltb (slice_index_or x.state.clients.taken f 0) seq) ≡ true → P Nothing x → P (CommandOf c (origin.Forwarded f seq)) (clients_are (record x.state.clients { taken = slice_set x.state.clients.taken f seq }) x)
   pub takes_found : {x : Course} → HeardLast me came ⊎ (x.state.leader.found ≡ pending x.readings) → P Nothing x → P (FoundOf x.state.leader.found) (leader_is (record x.state.leader { found = None }) x)
   pub takes_value : {f e pn v : ℕ} {x : Course} (value : List Op) → HeardFrom me came f e (body.Accept pn v) → x.state.leader.value ≡ Some value → P Nothing x → P (ValueOf value x.state.leader.origin) (leader_is (record x.state.leader { value = None; origin = None }) x)
-  -- what becomes of it
+  -- What becomes of it. An event ends with a command that waits or is forwarded, and with an answer.
   pub makes_value : {x : Course} (c : Command) (o : Origin) (ops : List Op) → suc (service_last x.readings (service_of c)) ≤ 2 ^ 62 → value x.readings c (asked_of me o) ≡ Ok ops → same_phase x.state.phase phase.Active ≡ true → P (CommandOf c o) x → P (ValueOf ops (Some o)) x
   pub proposes_found : {x : Course} (found : Found) → P (FoundOf (Some found)) x → P (ValueOf found.value None) x
   pub drops_found : {x : Course} (found : Option Found) → P (FoundOf found) x → P Nothing x
-  pub queues : {x : Course} (c : Command) (o : Origin) → is_too_long c ≡ false → P (CommandOf c o) x → P Nothing (queue_up c o x)
-  pub forwards : {x : Course} (c : Command) (u : Session) → is_peon x.state.phase ≡ true → is_too_long c ≡ false → x.state.clients.next_seq ≤ 2 ^ 62 → P (CommandOf c (origin.Session u)) x → P Nothing (x ▸ wait_under x.state.clients.next_seq u ▸ send me x.state.peon.leader (body.Forward x.state.clients.next_seq c))
+  pub queues : {x : Course} (c : Command) (o : Origin) → is_too_long c ≡ false → P (CommandOf c o) x → Q (queue_up c o x)
+  pub forwards : {x : Course} (c : Command) (u : Session) → is_peon x.state.phase ≡ true → is_too_long c ≡ false → x.state.clients.next_seq ≤ 2 ^ 62 → P (CommandOf c (origin.Session u)) x → Q (x ▸ wait_under x.state.clients.next_seq u ▸ send me x.state.peon.leader (body.Forward x.state.clients.next_seq c))
   pub routes : (f e seq : ℕ) (r : Reply) → HeardFrom me came f e (body.Route seq r) → of_leader f e (at_rest w s) ≡ true → P Nothing (at_rest w s)
-      → P Nothing (at_rest w s ▸ clients_are (record s.clients { sessions = filter (λ (a : Asked). not (eqb a.seq seq)) s.clients.sessions }) ▸ reply_each (filter (λ (a : Asked). eqb a.seq seq) s.clients.sessions) r)
-  pub answers : {x : Course} (h : InHand) (r : Reply) → MayAnswer me now x h r → P h x → P Nothing (answer_any me (origin_of h) r x)
+      → Q (at_rest w s ▸ clients_are (record s.clients { sessions = filter (λ (a : Asked). not (eqb a.seq seq)) s.clients.sessions }) ▸ reply_each (filter (λ (a : Asked). eqb a.seq seq) s.clients.sessions) r)
+  pub answers : {x : Course} (h : InHand) (r : Reply) → MayAnswer me now x h r → P h x → Q (answer_any me (origin_of h) r x)

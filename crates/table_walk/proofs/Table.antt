@@ -108,11 +108,11 @@ module _ {me : Me} {now : ℕ} {shared : List Entry} {w : Readings} {s : State} 
   unstarted (input.Client u r) is boots A = by r (A (λ e. cc))
     where
       by : (r : Request) → P (asked_by r u) (at_rest w s) → Then Q (Ok (reply_to u reply.Unavailable (at_rest w s)))
-      by (request.Set key value) A = ends b (b.answers (asked_by (request.Set key value) u) reply.Unavailable unserved A)
-      by (request.Remove key) A = ends b (b.answers (asked_by (request.Remove key) u) reply.Unavailable unserved A)
-      by (request.Log text) A = ends b (b.answers (asked_by (request.Log text) u) reply.Unavailable unserved A)
-      by (request.Show v) A = ends b (b.answers (ReadOf u) reply.Unavailable unread A)
-      by (request.Since v n) A = ends b (b.answers (ReadOf u) reply.Unavailable unread A)
+      by (request.Set key value) A = done (b.answers (asked_by (request.Set key value) u) reply.Unavailable unserved A)
+      by (request.Remove key) A = done (b.answers (asked_by (request.Remove key) u) reply.Unavailable unserved A)
+      by (request.Log text) A = done (b.answers (asked_by (request.Log text) u) reply.Unavailable unserved A)
+      by (request.Show v) A = done (b.answers (ReadOf u) reply.Unavailable unread A)
+      by (request.Since v n) A = done (b.answers (ReadOf u) reply.Unavailable unread A)
 
   runs : (c : Input) → came ≡ c → P (brought c) (at_rest w s) → Then Q (running me shared now c (at_rest w s))
   runs input.Start is A = ends b A
