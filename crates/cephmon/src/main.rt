@@ -1,17 +1,13 @@
 //! A quorum of monitors: replays its schedules, serves as one of its monitors, follows its maps, and works on the stores of stopped monitors.
 #![tactic(auto)]
 
-mod devices;
-mod naming;
-mod watching;
 mod words;
 
-use crate::devices::{Channel, CountedDisk, Devices, FileDisks, devices_of};
-use crate::naming::{
-    FIRST_STANDSTILL, MonitorLink, lives, new_life, report_room, report_standstill, room_line,
-    socket_of,
-};
 use crate::words::words_of;
+use cephmon_links::{
+    Channel, CountedDisk, Devices, FIRST_STANDSTILL, FileDisks, MonitorLink, NoDevices, devices_of,
+    lives, new_life, print, print_of, report_room, report_standstill, room_line, socket_of,
+};
 use cephmon_run::{Ended, Status, run};
 use mon_link::{Clock, Link, RunClock, StdinSource, StdoutSink, UdpLink};
 use mon_watch::Watched;
@@ -30,7 +26,16 @@ fn main(rt: HostRuntime) -> ExitCode {
 fn run_words(rt: &HostRuntime, words: &[String]) -> Status {
     match devices_of(rt, words) {
         Ok(devices) => run_on_devices(rt, words, devices),
-        Err(status) => status,
+        Err(why) => status_without(why),
+    }
+}
+
+/// How the program ends without devices.
+fn status_without(why: NoDevices) -> Status {
+    match why {
+        NoDevices::Name => Status::Words,
+        NoDevices::NoLife => Status::LinkFault,
+        NoDevices::OutOfMemory => Status::OutOfMemory,
     }
 }
 
@@ -141,7 +146,7 @@ fn run_over<L: Link>(rt: &HostRuntime, words: &[String], disks: FileDisks, link:
 fn print_short_room(rt: &HostRuntime, link: &mut UdpLink<HostRuntime>) {
     if let Some(room) = link.short_room() {
         if let Ok(line) = room_line(rt.alloc(), room) {
-            let _ = eprintln!(rt; "{line}");
+            print(rt, &line);
         }
     }
 }
@@ -149,26 +154,26 @@ fn print_short_room(rt: &HostRuntime, link: &mut UdpLink<HostRuntime>) {
 /// Prints on standard error, for each disk, the error that the system gave to its first call that failed.
 fn print_disk_failures(rt: &HostRuntime, disks: &FileDisks) {
     if let Some(said) = disks.a.inner.failure() {
-        let _ = eprintln!(rt; "disk a: {said}");
+        print_of(rt, "disk a", said);
     }
     if let Some(said) = disks.b.inner.failure() {
-        let _ = eprintln!(rt; "disk b: {said}");
+        print_of(rt, "disk b", said);
     }
 }
 
 /// Prints on standard error the error that the system gave to the first call of the link that failed.
 fn print_link_failure(rt: &HostRuntime, link: &UdpLink<HostRuntime>) {
     if let Some(said) = link.failure() {
-        let _ = eprintln!(rt; "link: {said}");
+        print_of(rt, "link", said);
     }
 }
 
-/// Prints on standard error how the program ends. If that can't be written, the status alone says it.
-fn print_status(rt: &impl Eprint, status: &Status) {
+/// Prints on standard error how the program ends. If that can't be written within a second, the status alone says it.
+fn print_status(rt: &HostRuntime, status: &Status) {
     match status {
         Status::Done => {}
         _ => {
-            let _ = eprintln!(rt; "{status}");
+            print(rt, status);
         }
     }
 }

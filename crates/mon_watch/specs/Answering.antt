@@ -1,5 +1,6 @@
 -- What a link that watches asks of the link below, and what it hands up.
 use Rattle.std.specs.Prelude.{◌≡◌, ◌⊎◌, ℕ, List, Option, Some, None, IfSome, IsSome, Result, Ok, Err, if◌then◌else◌}
+use Rattle.answer_times.specs.Times.{after_asking, is_answered}
 use Rattle.serde_json.specs.Written.{compact_text}
 use Rattle.mon_link.specs.Clocks.{Readings, reading}
 use Rattle.mon_link.specs.Links.{LinkState, CallsNext, CallsSend, count_after}
@@ -36,6 +37,15 @@ asker (Datagram (Monitor j) bytes) = None
 asker Idle = None
 asker Closed = None
 
+-- of the client that asked, what the table of times says: whether it is answered now, and the times that follow
+abbrev pub admitted : (now : ℕ) → (untils : List ℕ) → Option Asker → Option Asker
+admitted now untils None = None
+admitted now untils (Some asker) = if is_answered asker.client now untils then Some asker else None
+
+abbrev pub untils_after : (now : ℕ) → Option Asker → (untils : List ℕ) → List ℕ
+untils_after now None untils = untils
+untils_after now (Some asker) untils = after_asking asker.client now untils
+
 -- the result of a send: one that failed is lost and no error; that memory ran out is an error
 abbrev pub after_send : Result (Unit {0}) Stop → Result (Unit {0}) Stop
 after_send (Ok x) = Ok tt
@@ -64,24 +74,34 @@ abbrev pub handed : Got → Result (Unit {0}) Stop → Result Got Stop
 handed got (Ok x) = Ok (passed got)
 handed got (Err e) = Err e
 
--- The link below gave `got`. The clock is read once, `got` is noted, and an answer is sent to a client that asked.
-pub record Answers (m : Member) (clock : Option Readings) (got : Got) (result : Result Got Stop) (before after : Notes)
+-- what is noted of a monitor, and until when each client waits for an answer
+pub record Noted : Type 0 where
+  pub notes : Notes
+  pub untils : List ℕ
+
+abbrev pub noted : Notes → List ℕ → Noted
+noted notes untils = record { notes = notes; untils = untils }
+
+-- The link below gave `got`. The clock is read once, `got` is noted, and an answer is sent to a client that asked and
+-- doesn't wait.
+pub record Answers (m : Member) (clock : Option Readings) (got : Got) (result : Result Got Stop) (before after : Noted)
     (old new : LinkState) : Type 0 where
   pub now : ℕ
   pub shows : IfSome clock (λ r. now ≡ reading r)
-  pub notes : after ≡ notes_got now (passed got) before
+  pub notes : after.notes ≡ notes_got now (passed got) before.notes
+  pub untils : after.untils ≡ untils_after now (asker got) before.untils
   pub went : Result (Unit {0}) Stop
-  pub sends : SendsAnswer (asker got) m after went old new
-      ⊎ (IsSome (asker got) × (went ≡ Err OutOfMemory) × (new ≡ old))
+  pub sends : SendsAnswer (admitted now before.untils (asker got)) m after.notes went old new
+      ⊎ (IsSome (admitted now before.untils (asker got)) × (went ≡ Err OutOfMemory) × (new ≡ old))
   pub hands : result ≡ handed got went
 
 -- An error of the link below ended the call; anything else was handed up after answering.
-abbrev pub Passes : (m : Member) → Option Readings → Result Got Stop → Result Got Stop → (before after : Notes) → LinkState → LinkState → Type 0
+abbrev pub Passes : (m : Member) → Option Readings → Result Got Stop → Result Got Stop → (before after : Noted) → LinkState → LinkState → Type 0
 Passes m clock (Err e) result before after old new = (result ≡ Err e) × (after ≡ before) × (new ≡ old)
 Passes m clock (Ok got) result before after old new = Answers m clock got result before after old new
 
 -- The link below was asked once, with the same wait, and then only to send an answer.
-pub record AsksOnce (m : Member) (clock : Option Readings) (wait : ℕ) (result : Result Got Stop) (before after : Notes)
+pub record AsksOnce (m : Member) (clock : Option Readings) (wait : ℕ) (result : Result Got Stop) (before after : Noted)
     (old new : LinkState) : Type 0 where
   pub gave : Result Got Stop
   pub between : LinkState

@@ -145,7 +145,8 @@ impl Said {
 
     /// Writes a line if the monitor has its whole store again, and one if it does something else than before.
     pub(crate) fn changes<S: LineReceiver + Drop>(&mut self, watch: &mut Watch<S>, notes: &Notes)
-        ensures { watch.new.member ≡ watch.old.member }
+        ensures member { watch.new.member ≡ watch.old.member }
+        ensures answered { watch.new.answered ≡ watch.old.answered }
     {
         let seen = &notes.seen;
         if self.source.is_some() && seen.source.is_none() {
@@ -209,7 +210,8 @@ impl Said {
 
     /// Writes lines about slow syncs and silent monitors, at most once a second.
     pub(crate) fn passes<S: LineReceiver + Drop>(&mut self, watch: &mut Watch<S>, notes: &Notes)
-        ensures { watch.new.member ≡ watch.old.member }
+        ensures member { watch.new.member ≡ watch.old.member }
+        ensures answered { watch.new.answered ≡ watch.old.answered }
     {
         if notes.now < self.due {
             return;

@@ -3,7 +3,7 @@
 ghost use Rattle.std.specs.Prelude.{◌≡◌, ◌⊎◌, Some, Err, IfErr, IfOk, IsSome};
 ghost use Rattle.mon_link.specs.Links.{CallsSend, count_after};
 ghost use Rattle.mon_types.specs.declared.names.Stop.TheVariants.{OutOfMemory as no_memory};
-ghost use Rattle.mon_watch.specs.Answering.{AsksOnce, SendsAnswer, SendsTo, after_send, answer, asked_by, asker, passed};
+ghost use Rattle.mon_watch.specs.Answering.{AsksOnce, SendsAnswer, SendsTo, admitted, after_send, answer, asked_by, asker, noted, passed, untils_after};
 ghost use Rattle.mon_watch.specs.Requests.{request_of};
 ghost use Rattle.mon_watch.specs.Traffic.{no_notes, notes_got, notes_sent};
 
@@ -12,25 +12,28 @@ use crate::notes::Notes;
 use crate::report::{Report, report_text};
 use crate::request::{Asker, answer_of, is_watch, read_status_request};
 use crate::times::DiskTimes;
+use answer_times::AnswerTimes;
 use mon_bytes::{Bytes, OutOfMemory};
 use mon_link::{Clock, Got, Link, Peer};
-use mon_types::{Member, Stop};
+use mon_types::{Member, Moment, Stop};
 use std::alloc::Global;
 use std::cell::Cell;
 use std::rc::Rc;
 
-/// The monitor that is watched, the counts of its two disks, and the receiver of lines about it.
+/// The monitor that is watched, the counts of its two disks, until when clients wait for an answer, and the receiver of
+/// lines about it.
 #[derive(Drop)]
 pub struct Watch<S: LineReceiver + Drop> {
     pub member: Member,
     pub a: Rc<Cell<DiskTimes>>,
     pub b: Rc<Cell<DiskTimes>>,
+    pub answered: AnswerTimes,
     pub lines: S,
     pub alloc: Global,
 }
 
 /// A link that passes on what its monitor sends and gets, except datagrams of the watch. It notes the headers of these
-/// messages, writes lines about what they show, and answers clients that ask for it.
+/// messages, writes lines about what they show, and answers clients that ask for it, each at most once in a second.
 #[derive(Drop)]
 pub struct Watched<L: Link + Drop, C: Clock + Drop, S: LineReceiver + Drop> {
     pub inner: L,
@@ -105,6 +108,7 @@ impl<L: Link + Drop, C: Clock + Drop, S: LineReceiver + Drop> Watched<L, C, S> {
         ensures inner { result.inner ≡ inner }
         ensures clock { result.clock ≡ clock }
         ensures member { result.watch.member ≡ watch.member }
+        ensures answered { result.watch.answered ≡ watch.answered }
         ensures notes { result.notes ≡ no_notes }
         ensures losses { result.losses ≡ 0 }
     {
@@ -118,10 +122,26 @@ impl<L: Link + Drop, C: Clock + Drop, S: LineReceiver + Drop> Watched<L, C, S> {
         }
     }
 
+    /// The client, if one asked that is answered now.
+    fn admits(&mut self, asker: Option<Asker>, now: Moment) -> Option<Asker>
+        ensures admitted { result ≡ admitted now self.old.watch.answered asker }
+        ensures after { self.new.watch.answered ≡ untils_after now asker self.old.watch.answered }
+        ensures kept { (self.new.notes ≡ self.old.notes) × (self.new.watch.member ≡ self.old.watch.member) × (self.new.losses ≡ self.old.losses) }
+        ensures below { self.new.inner ≡ self.old.inner }
+    {
+        let asker = asker?;
+        if self.watch.answered.admit(asker.client, now) {
+            Some(asker)
+        } else {
+            None
+        }
+    }
+
     /// Sends this to a client. What couldn't be sent is lost.
     fn sends_to(&mut self, client: u32, bytes: &[u8]) -> Result<(), Stop>
         ensures sends { SendsTo client bytes.now result (L.state self.old.inner) (L.state self.new.inner) }
         ensures kept { (self.new.notes ≡ self.old.notes) × (self.new.watch.member ≡ self.old.watch.member) × (self.new.losses ≡ self.old.losses) }
+        ensures answered { self.new.watch.answered ≡ self.old.watch.answered }
         ensures memory { IfErr result (λ e. e ≡ no_memory) }
         ensures faults { (L.state self.new.inner).faults ≡ (L.state self.old.inner).faults }
     {
@@ -133,6 +153,7 @@ impl<L: Link + Drop, C: Clock + Drop, S: LineReceiver + Drop> Watched<L, C, S> {
         ensures sends { SendsAnswer (Some asker) self.old.watch.member self.old.notes result (L.state self.old.inner) (L.state self.new.inner)
             ⊎ ((result ≡ Err no_memory) × (L.state self.new.inner ≡ L.state self.old.inner)) }
         ensures kept { (self.new.notes ≡ self.old.notes) × (self.new.watch.member ≡ self.old.watch.member) × (self.new.losses ≡ self.old.losses) }
+        ensures answered { self.new.watch.answered ≡ self.old.watch.answered }
         ensures memory { IfErr result (λ e. e ≡ no_memory) }
         ensures faults { (L.state self.new.inner).faults ≡ (L.state self.old.inner).faults }
     {
@@ -154,6 +175,7 @@ impl<L: Link + Drop, C: Clock + Drop, S: LineReceiver + Drop> Watched<L, C, S> {
         ensures sends { SendsAnswer asker self.old.watch.member self.old.notes result (L.state self.old.inner) (L.state self.new.inner)
             ⊎ (IsSome asker × (result ≡ Err no_memory) × (L.state self.new.inner ≡ L.state self.old.inner)) }
         ensures kept { (self.new.notes ≡ self.old.notes) × (self.new.watch.member ≡ self.old.watch.member) × (self.new.losses ≡ self.old.losses) }
+        ensures answered { self.new.watch.answered ≡ self.old.watch.answered }
         ensures memory { IfErr result (λ e. e ≡ no_memory) }
         ensures faults { (L.state self.new.inner).faults ≡ (L.state self.old.inner).faults }
     {
@@ -169,19 +191,21 @@ impl<L: Link + Drop, C: Clock + Drop, S: LineReceiver + Drop> Link for Watched<L
 
     ghost state = { λ r. record { observed = None; faults = (L.state r.inner).faults; losses = r.losses } };
 
-    /// Asks the link below once, with the same wait. Then it writes lines and answers a client that asked. If memory
-    /// runs out for the answer, that is the error, and what was received is dropped.
+    /// Asks the link below once, with the same wait. Then it writes lines and answers a client that asked and doesn't
+    /// wait. If memory runs out for the answer, that is the error, and what was received is dropped.
     fn next(&mut self, wait: u64) -> Result<Got, Stop>
-        ensures asks { AsksOnce self.old.watch.member (C.left self.old.clock) wait result self.old.notes self.new.notes
+        ensures asks { AsksOnce self.old.watch.member (C.left self.old.clock) wait result
+            (noted self.old.notes self.old.watch.answered) (noted self.new.notes self.new.watch.answered)
             (L.state self.old.inner) (L.state self.new.inner) }
         ensures member { self.new.watch.member ≡ self.old.watch.member }
         ensures losses { self.new.losses ≡ self.old.losses }
     {
         let got = self.inner.next(wait)?;
-        let now = self.clock.now().get();
+        let moment = self.clock.now();
         let asker = asker(&got);
+        let asker = self.admits(asker, moment);
         let got = passed(got);
-        self.notes.gets(&got, now);
+        self.notes.gets(&got, moment.get());
         self.said.passes(&mut self.watch, &self.notes);
         match self.answers_if(asker) {
             Ok(()) => Ok(got),
@@ -197,6 +221,7 @@ impl<L: Link + Drop, C: Clock + Drop, S: LineReceiver + Drop> Link for Watched<L
         ensures sends { CallsSend to bytes.now result (L.state self.old.inner) (L.state self.new.inner) }
         ensures notes { self.new.notes ≡ notes_sent self.old.watch.member.rank to bytes.now self.old.notes }
         ensures member { self.new.watch.member ≡ self.old.watch.member }
+        ensures answered { self.new.watch.answered ≡ self.old.watch.answered }
         ensures losses { self.new.losses ≡ count_after result self.old.losses }
     {
         let shows = self.notes.sends(self.watch.member.rank, &to, bytes);

@@ -1,5 +1,6 @@
 //! What a link that watches its monitor answers, and what it passes on.
 
+use answer_times::AnswerTimes;
 use hex::{decode, encode};
 use mon_bytes::Bytes;
 use mon_link::{Got, Link, ListClock, MemoryLink, Peer};
@@ -28,15 +29,16 @@ impl LineReceiver for Kept {
 
 type Watching = Watched<MemoryLink, ListClock, Kept>;
 
-/// A link of monitor 0 of 3 that gives these datagrams, each in hexadecimal, at 1, 2, 3 .. s.
-fn watching(alloc: Global, datagrams: &[(Peer, &str)]) -> Result<Watching, Fail> {
+/// A link of monitor 0 of 3 that gives these datagrams, each in hexadecimal, at these times.
+fn watching_at(
+    alloc: Global,
+    datagrams: &[(Peer, &str)],
+    moments: Vec<Moment>,
+) -> Result<Watching, Fail> {
     let mut got = Vec::new(alloc);
-    let mut moments = Vec::new(alloc);
     for (from, digits) in datagrams {
         let bytes = Bytes::new(decode(alloc, digits)?);
         got.push(Got::Datagram { from: *from, bytes })?;
-        let count = got.len() as u64;
-        moments.push(Moment::known(1000 * count.min(60)))?;
     }
     let member = Member::new(Rank::known(0), 3).ok_or("a member")?;
     let link = MemoryLink::new(alloc, got, Vec::new(alloc), Vec::new(alloc));
@@ -44,6 +46,7 @@ fn watching(alloc: Global, datagrams: &[(Peer, &str)]) -> Result<Watching, Fail>
         member,
         a: Rc::new(alloc, Cell::new(DiskTimes::new()))?,
         b: Rc::new(alloc, Cell::new(DiskTimes::new()))?,
+        answered: AnswerTimes::new(alloc)?,
         lines: Kept {
             alloc,
             last: Rc::new(alloc, Cell::new(0))?,
@@ -51,6 +54,16 @@ fn watching(alloc: Global, datagrams: &[(Peer, &str)]) -> Result<Watching, Fail>
         alloc,
     };
     Ok(Watched::new(link, ListClock::new(moments), watch))
+}
+
+/// A link of monitor 0 of 3 that gives these datagrams, each in hexadecimal, at 1, 2, 3 .. s.
+fn watching(alloc: Global, datagrams: &[(Peer, &str)]) -> Result<Watching, Fail> {
+    let mut moments = Vec::new(alloc);
+    for _ in datagrams {
+        let count = moments.len() as u64 + 1;
+        moments.push(Moment::known(1000 * count.min(60)))?;
+    }
+    watching_at(alloc, datagrams, moments)
 }
 
 /// What a link gives next: a datagram in hexadecimal, or the name of what else.

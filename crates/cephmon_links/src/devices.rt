@@ -1,8 +1,11 @@
 //! The devices of the system that arguments name.
 
+ghost use Rattle.std.specs.Prelude.{◌≡◌, [], IfOk, string_bytes};
+ghost use Rattle.cephmon_links.specs.Devices.{AreAsked, AreFor, AreUnused, HaveFiles, IsClientOf, IsMonitorOf, IsUnused};
+
 use crate::naming::{FIRST_STANDSTILL, MonitorLink, greeting, lives, new_life};
+use crate::refused::NoDevices;
 use crate::watching::{Times, lines_of, share, watch};
-use cephmon_run::Status;
 use election_rules::Rule;
 use mon_bytes::{Items, Text};
 use mon_disk::{FileDisk, NodeDisks};
@@ -36,23 +39,30 @@ pub struct Devices {
     pub channel: Channel,
 }
 
-fn path(alloc: Global, name: &Text) -> Result<String, Status> {
+fn path(alloc: Global, name: &Text) -> Result<String, NoDevices>
+    ensures { IfOk result (λ path. string_bytes path ≡ name.now) }
+{
     match String::from_str(alloc, name.as_str()) {
         Ok(path) => Ok(path),
-        Err(_) => Err(Status::OutOfMemory),
+        Err(_) => Err(NoDevices::OutOfMemory),
     }
 }
 
 /// The addresses of all monitors, as a link takes them.
-pub fn peers(alloc: Global, addresses: &Items<Address>) -> Result<Vec<Address>, Status> {
+pub fn peers(alloc: Global, addresses: &Items<Address>) -> Result<Vec<Address>, NoDevices>
+    ensures { IfOk result (λ peers. peers.items ≡ addresses.now) }
+{
     match addresses.as_slice().to_vec(alloc) {
         Ok(peers) => Ok(peers),
-        Err(_) => Err(Status::OutOfMemory),
+        Err(_) => Err(NoDevices::OutOfMemory),
     }
 }
 
 /// The disks in two files, whose calls are added to these counts.
-fn counted_disks(rt: &HostRuntime, a: String, b: String, times: Times) -> FileDisks {
+fn counted_disks(rt: &HostRuntime, a: String, b: String, times: Times) -> FileDisks
+    ensures a { result.a.inner.path ≡ a }
+    ensures b { result.b.inner.path ≡ b }
+{
     NodeDisks {
         a: Timed::new(FileDisk::named(rt, a), RunClock::new(rt), times.a),
         b: Timed::new(FileDisk::named(rt, b), RunClock::new(rt), times.b),
@@ -60,7 +70,10 @@ fn counted_disks(rt: &HostRuntime, a: String, b: String, times: Times) -> FileDi
 }
 
 /// The disks in these two files.
-fn disks_in(rt: &HostRuntime, disk_a: &Text, disk_b: &Text) -> Result<FileDisks, Status> {
+fn disks_in(rt: &HostRuntime, disk_a: &Text, disk_b: &Text) -> Result<FileDisks, NoDevices>
+    ensures a { IfOk result (λ d. string_bytes d.a.inner.path ≡ disk_a.now) }
+    ensures b { IfOk result (λ d. string_bytes d.b.inner.path ≡ disk_b.now) }
+{
     let a = path(rt.alloc(), disk_a)?;
     let b = path(rt.alloc(), disk_b)?;
     let times = Times::new(rt)?;
@@ -68,7 +81,10 @@ fn disks_in(rt: &HostRuntime, disk_a: &Text, disk_b: &Text) -> Result<FileDisks,
 }
 
 /// Disks that are never called.
-fn no_disks(rt: &HostRuntime) -> Result<FileDisks, Status> {
+fn no_disks(rt: &HostRuntime) -> Result<FileDisks, NoDevices>
+    ensures a { IfOk result (λ d. string_bytes d.a.inner.path ≡ []) }
+    ensures b { IfOk result (λ d. string_bytes d.b.inner.path ≡ []) }
+{
     let times = Times::new(rt)?;
     let (a, b) = (String::new(rt.alloc()), String::new(rt.alloc()));
     Ok(counted_disks(rt, a, b, times))
@@ -82,19 +98,25 @@ fn monitor_channel(
     rule: Rule,
     addresses: &Items<Address>,
     times: Times,
-) -> Result<Channel, Status> {
+) -> Result<Channel, NoDevices>
+    ensures { IfOk result (IsMonitorOf member rule addresses.now) }
+{
     let life = new_life(rt)?;
     let lines = lines_of(rt)?;
-    let watch = watch(rt, member, times, share(&lines)?);
+    let watch = watch(rt, member, times, share(&lines)?)?;
     let link = greeting(rt, member, rule, addresses, lines)?;
     Ok(Channel::Monitor(lives(rt, link, life, FIRST_STANDSTILL, watch)))
 }
 
-fn client_channel(rt: &HostRuntime, addresses: Vec<Address>) -> Channel {
+fn client_channel(rt: &HostRuntime, addresses: Vec<Address>) -> Channel
+    ensures { IsClientOf addresses.items result }
+{
     Channel::Client(UdpLink::client(rt, addresses))
 }
 
-fn no_channel(rt: &HostRuntime) -> Channel {
+fn no_channel(rt: &HostRuntime) -> Channel
+    ensures { IsUnused result }
+{
     Channel::Unused(UdpLink::named(rt, Rank::known(0), Vec::new(rt.alloc())))
 }
 
@@ -107,7 +129,10 @@ fn monitor_devices(
     addresses: &Items<Address>,
     disk_a: &Text,
     disk_b: &Text,
-) -> Result<Devices, Status> {
+) -> Result<Devices, NoDevices>
+    ensures files { IfOk result (HaveFiles disk_a.now disk_b.now) }
+    ensures link { IfOk result (λ d. IsMonitorOf member rule addresses.now d.channel) }
+{
     let a = path(rt.alloc(), disk_a)?;
     let b = path(rt.alloc(), disk_b)?;
     let times = Times::new(rt)?;
@@ -117,7 +142,10 @@ fn monitor_devices(
 }
 
 /// The devices of a client.
-fn client_devices(rt: &HostRuntime, addresses: &Items<Address>) -> Result<Devices, Status> {
+fn client_devices(rt: &HostRuntime, addresses: &Items<Address>) -> Result<Devices, NoDevices>
+    ensures files { IfOk result (HaveFiles [] []) }
+    ensures link { IfOk result (λ d. IsClientOf addresses.now d.channel) }
+{
     let disks = no_disks(rt)?;
     let addresses = peers(rt.alloc(), addresses)?;
     Ok(Devices {
@@ -127,7 +155,10 @@ fn client_devices(rt: &HostRuntime, addresses: &Items<Address>) -> Result<Device
 }
 
 /// The devices of a command on the store in two files.
-fn store_devices(rt: &HostRuntime, disk_a: &Text, disk_b: &Text) -> Result<Devices, Status> {
+fn store_devices(rt: &HostRuntime, disk_a: &Text, disk_b: &Text) -> Result<Devices, NoDevices>
+    ensures files { IfOk result (HaveFiles disk_a.now disk_b.now) }
+    ensures link { IfOk result (λ d. IsUnused d.channel) }
+{
     let disks = disks_in(rt, disk_a, disk_b)?;
     Ok(Devices {
         disks,
@@ -136,7 +167,9 @@ fn store_devices(rt: &HostRuntime, disk_a: &Text, disk_b: &Text) -> Result<Devic
 }
 
 /// Devices that are never called.
-fn no_devices(rt: &HostRuntime) -> Result<Devices, Status> {
+fn no_devices(rt: &HostRuntime) -> Result<Devices, NoDevices>
+    ensures { IfOk result AreUnused }
+{
     let disks = no_disks(rt)?;
     Ok(Devices {
         disks,
@@ -146,7 +179,9 @@ fn no_devices(rt: &HostRuntime) -> Result<Devices, Status> {
 
 /// The devices that a task names. This fails if memory runs out; and for a monitor also if the name of its quorum is
 /// refused, or if the system gives no number of a life.
-fn devices_for(rt: &HostRuntime, task: &Task) -> Result<Devices, Status> {
+fn devices_for(rt: &HostRuntime, task: &Task) -> Result<Devices, NoDevices>
+    ensures { IfOk result (AreFor task.now) }
+{
     match task {
         Task::Node {
             member,
@@ -168,7 +203,9 @@ fn devices_for(rt: &HostRuntime, task: &Task) -> Result<Devices, Status> {
 
 /// The devices that arguments name; devices that are never called, if the arguments are refused. This fails if memory
 /// runs out, and as `devices_for` does.
-pub fn devices_of(rt: &HostRuntime, words: &[String]) -> Result<Devices, Status> {
+pub fn devices_of(rt: &HostRuntime, words: &[String]) -> Result<Devices, NoDevices>
+    ensures { IfOk result (AreAsked words.now) }
+{
     match read_words(rt.alloc(), words) {
         Ok(task) => {
             let devices = devices_for(rt, &task);
@@ -176,6 +213,6 @@ pub fn devices_of(rt: &HostRuntime, words: &[String]) -> Result<Devices, Status>
             devices
         }
         Err(WordsStop::Refused) => no_devices(rt),
-        Err(WordsStop::OutOfMemory) => Err(Status::OutOfMemory),
+        Err(WordsStop::OutOfMemory) => Err(NoDevices::OutOfMemory),
     }
 }

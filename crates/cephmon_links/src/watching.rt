@@ -1,8 +1,10 @@
 //! The counts of the calls of a monitor's disks, and the lines that a monitor writes on standard error.
 
-use cephmon_run::Status;
-use libc::net::{POLLOUT, poll};
-use libc::types::pollfd;
+ghost use Rattle.std.specs.Prelude.{◌≡◌, IfOk};
+
+use crate::refused::NoDevices;
+use crate::standard_error::StandardError;
+use answer_times::AnswerTimes;
 use mon_hello::Say;
 use mon_link::RunClock;
 use mon_types::Member;
@@ -15,33 +17,6 @@ use std::rc::Rc;
 const LOG: &str = "CEPHMON_LOG";
 
 const OFF: &[u8] = b"off";
-
-/// Lines on standard error. One that can't be written, or would have to wait for its reader, is left out.
-#[derive(Clone, Copy)]
-pub struct StandardError {
-    rt: HostRuntime,
-}
-
-/// Whether standard error takes a line at once.
-fn takes_at_once() -> bool {
-    let mut streams = [pollfd {
-        fd: 2,
-        events: POLLOUT,
-        revents: 0,
-    }];
-    let _ = poll(&mut streams, 0);
-    streams[0].revents & POLLOUT != 0
-}
-
-impl LineReceiver for StandardError {
-    fn take_line(&mut self, line: &str) {
-        if takes_at_once() {
-            let _ = eprintln!(self.rt; "{line}");
-        }
-    }
-
-    fn rest(&mut self) {}
-}
 
 /// The lines of a monitor, which several of its parts share.
 #[derive(Drop)]
@@ -75,7 +50,7 @@ fn is_off(rt: &HostRuntime) -> bool {
 }
 
 /// The lines of a monitor that starts now.
-pub fn lines_of(rt: &HostRuntime) -> Result<Lines, Status> {
+pub fn lines_of(rt: &HostRuntime) -> Result<Lines, NoDevices> {
     if is_off(rt) {
         return Ok(Lines {
             shared: Shared::silent(),
@@ -84,15 +59,15 @@ pub fn lines_of(rt: &HostRuntime) -> Result<Lines, Status> {
     let journal = Journal::new(StandardError { rt: *rt }, RunClock::new(rt), rt.alloc());
     match Shared::new(rt.alloc(), journal) {
         Ok(shared) => Ok(Lines { shared }),
-        Err(_) => Err(Status::OutOfMemory),
+        Err(_) => Err(NoDevices::OutOfMemory),
     }
 }
 
 /// Another handle of the same lines.
-pub fn share(lines: &Lines) -> Result<Lines, Status> {
+pub fn share(lines: &Lines) -> Result<Lines, NoDevices> {
     match lines.shared.share() {
         Ok(shared) => Ok(Lines { shared }),
-        Err(_) => Err(Status::OutOfMemory),
+        Err(_) => Err(NoDevices::OutOfMemory),
     }
 }
 
@@ -103,23 +78,23 @@ pub struct Times {
     pub b: Rc<Cell<DiskTimes>>,
 }
 
-fn new_times(rt: &HostRuntime) -> Result<Rc<Cell<DiskTimes>>, Status> {
+fn new_times(rt: &HostRuntime) -> Result<Rc<Cell<DiskTimes>>, NoDevices> {
     match Rc::new(rt.alloc(), Cell::new(DiskTimes::new())) {
         Ok(times) => Ok(times),
-        Err(_) => Err(Status::OutOfMemory),
+        Err(_) => Err(NoDevices::OutOfMemory),
     }
 }
 
-fn shared_times(times: &Rc<Cell<DiskTimes>>) -> Result<Rc<Cell<DiskTimes>>, Status> {
+fn shared_times(times: &Rc<Cell<DiskTimes>>) -> Result<Rc<Cell<DiskTimes>>, NoDevices> {
     match times.clone() {
         Ok(times) => Ok(times),
-        Err(_) => Err(Status::OutOfMemory),
+        Err(_) => Err(NoDevices::OutOfMemory),
     }
 }
 
 impl Times {
     /// Counts of no calls.
-    pub fn new(rt: &HostRuntime) -> Result<Times, Status> {
+    pub fn new(rt: &HostRuntime) -> Result<Times, NoDevices> {
         Ok(Times {
             a: new_times(rt)?,
             b: new_times(rt)?,
@@ -127,7 +102,7 @@ impl Times {
     }
 
     /// Another handle of the same counts.
-    pub fn share(&self) -> Result<Times, Status> {
+    pub fn share(&self) -> Result<Times, NoDevices> {
         Ok(Times {
             a: shared_times(&self.a)?,
             b: shared_times(&self.b)?,
@@ -136,12 +111,23 @@ impl Times {
 }
 
 /// The watch of a monitor, which reads these counts and writes these lines.
-pub fn watch(rt: &HostRuntime, member: Member, times: Times, lines: Lines) -> Watch<Lines> {
-    Watch {
+pub fn watch(
+    rt: &HostRuntime,
+    member: Member,
+    times: Times,
+    lines: Lines,
+) -> Result<Watch<Lines>, NoDevices>
+    ensures { IfOk result (λ watch. watch.member ≡ member) }
+{
+    let Ok(answered) = AnswerTimes::new(rt.alloc()) else {
+        return Err(NoDevices::OutOfMemory);
+    };
+    Ok(Watch {
         member,
         a: times.a,
         b: times.b,
+        answered,
         lines,
         alloc: rt.alloc(),
-    }
+    })
 }

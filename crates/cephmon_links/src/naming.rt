@@ -1,8 +1,15 @@
 //! The link of a monitor: it names its quorum, numbers its life, and is closed after its machine stood still.
 
+ghost use Rattle.std.specs.Prelude.{◌≡◌, Some, IfOk};
+ghost use Rattle.mon_hello.specs.Formats.{tag_of};
+ghost use Rattle.mon_resend.specs.World.{fresh};
+ghost use Rattle.mon_watch.specs.Traffic.{no_notes};
+ghost use Rattle.cephmon_links.specs.Lives.{next_most};
+
 use crate::devices::peers;
+use crate::refused::NoDevices;
+use crate::standard_error::print_of;
 use crate::watching::Lines;
-use cephmon_run::Status;
 use election_rules::Rule;
 use mon_bytes::{Items, OutOfMemory};
 use mon_hello::{Greeting, Heard, MOST_QUORUM_NAME, Own, QuorumName};
@@ -18,10 +25,13 @@ use std::fmt::Write;
 /// The environment variable with the name of a monitor's quorum.
 const QUORUM: &str = "CEPHMON_QUORUM";
 
+/// Why a name is refused.
+const REFUSED_NAME: &str = "more than 255 bytes, or not UTF-8";
+
 /// For how many milliseconds the machine may stand still in the first life of a monitor, and in any life at most.
 pub const FIRST_STANDSTILL: u64 = 10_000;
 
-const MOST_STANDSTILL: u64 = 120_000;
+pub(crate) const MOST_STANDSTILL: u64 = 120_000;
 
 /// A socket whose monitors greet one another.
 pub type GreetingLink = Greeting<UdpLink<HostRuntime>, RunClock<HostRuntime>, Lines>;
@@ -33,38 +43,38 @@ pub type NamedLink = Resending<Awake<Named<GreetingLink>, BootClock>, RunClock<H
 pub type MonitorLink = Watched<NamedLink, RunClock<HostRuntime>, Lines>;
 
 /// The name of the quorum in the environment; empty if there is none.
-fn quorum_name(rt: &HostRuntime) -> Result<QuorumName, Status> {
+fn quorum_name(rt: &HostRuntime) -> Result<QuorumName, NoDevices> {
     let mut bytes = [0; MOST_QUORUM_NAME];
     let count = match rt.var(QUORUM, &mut bytes) {
         Ok(count) => count,
-        Err(FillError::TooLong) => return Err(Status::Words),
+        Err(FillError::TooLong) => return Err(NoDevices::Name),
         Err(FillError::NotPresent) => 0,
     };
     let Ok(name) = Vec::from_slice(rt.alloc(), &bytes[..count]) else {
-        return Err(Status::OutOfMemory);
+        return Err(NoDevices::OutOfMemory);
     };
     match QuorumName::new(name) {
         Some(name) => Ok(name),
-        None => Err(Status::Words),
+        None => Err(NoDevices::Name),
     }
 }
 
 /// The name of the quorum. A name that is refused is reported on standard error.
-fn named_quorum(rt: &HostRuntime) -> Result<QuorumName, Status> {
+fn named_quorum(rt: &HostRuntime) -> Result<QuorumName, NoDevices> {
     let name = quorum_name(rt);
-    if let Err(Status::Words) = &name {
-        let _ = eprintln!(rt; "{QUORUM}: more than {MOST_QUORUM_NAME} bytes, or not UTF-8");
+    if let Err(NoDevices::Name) = &name {
+        print_of(rt, QUORUM, &REFUSED_NAME);
     }
     name
 }
 
 /// The number of a new life. If the system gives neither random bits nor the time, that is reported on standard error.
-pub fn new_life(rt: &HostRuntime) -> Result<Life, Status> {
+pub fn new_life(rt: &HostRuntime) -> Result<Life, NoDevices> {
     match mon_name::new_life(rt) {
         Ok(life) => Ok(life),
         Err(said) => {
-            let _ = eprintln!(rt; "link: no random bits and no time: {said}");
-            Err(Status::LinkFault)
+            print_of(rt, "link: no random bits and no time", &said);
+            Err(NoDevices::NoLife)
         }
     }
 }
@@ -75,12 +85,19 @@ fn own(
     member: Member,
     rule: Rule,
     addresses: &Items<Address>,
-) -> Result<Own, Status> {
+) -> Result<Own, NoDevices>
+    ensures member { IfOk result (λ own. own.member ≡ member) }
+    ensures rank { IfOk result (λ own. own.hello.rank ≡ member.rank) }
+    ensures monitors { IfOk result (λ own. own.hello.identity.monitors ≡ member.monitors) }
+    ensures rule { IfOk result (λ own. own.hello.identity.rule ≡ rule) }
+    ensures addresses { IfOk result (λ own. own.hello.addresses ≡ addresses.now) }
+    ensures tag { IfOk result (λ own. own.tag ≡ tag_of own.hello.identity) }
+{
     let name = named_quorum(rt)?;
     let addresses = Items::from_vec(peers(rt.alloc(), addresses)?);
     match Own::new(rt.alloc(), member, name, rule, addresses) {
         Ok(own) => Ok(own),
-        Err(OutOfMemory) => Err(Status::OutOfMemory),
+        Err(OutOfMemory) => Err(NoDevices::OutOfMemory),
     }
 }
 
@@ -97,17 +114,26 @@ pub fn greeting(
     rule: Rule,
     addresses: &Items<Address>,
     lines: Lines,
-) -> Result<GreetingLink, Status> {
+) -> Result<GreetingLink, NoDevices>
+    ensures socket { IfOk result (λ link. link.inner.own ≡ Some member.rank) }
+    ensures peers { IfOk result (λ link. link.inner.addresses.items ≡ addresses.now) }
+    ensures member { IfOk result (λ link. link.own.member ≡ member) }
+    ensures rank { IfOk result (λ link. link.own.hello.rank ≡ member.rank) }
+    ensures monitors { IfOk result (λ link. link.own.hello.identity.monitors ≡ member.monitors) }
+    ensures rule { IfOk result (λ link. link.own.hello.identity.rule ≡ rule) }
+    ensures addresses { IfOk result (λ link. link.own.hello.addresses ≡ addresses.now) }
+    ensures tag { IfOk result (λ link. link.own.tag ≡ tag_of link.own.hello.identity) }
+{
     let (rank, monitors) = (member.rank, member.monitors);
     let own = own(rt, member, rule, addresses)?;
     let Ok(heard) = heard(rt, monitors, own.tag) else {
         drop(own);
-        return Err(Status::OutOfMemory);
+        return Err(NoDevices::OutOfMemory);
     };
     let Ok(addresses) = peers(rt.alloc(), addresses) else {
         drop(own);
         drop(heard);
-        return Err(Status::OutOfMemory);
+        return Err(NoDevices::OutOfMemory);
     };
     let socket = UdpLink::named(rt, rank, addresses);
     Ok(Greeting::new(socket, RunClock::new(rt), lines, own, heard))
@@ -121,7 +147,15 @@ pub fn lives(
     life: Life,
     most: u64,
     watch: Watch<Lines>,
-) -> MonitorLink {
+) -> MonitorLink
+    ensures below { result.inner.inner.inner.inner ≡ link }
+    ensures tag { result.inner.inner.inner.tag ≡ link.own.tag }
+    ensures life { result.inner.inner.inner.life ≡ life }
+    ensures most { result.inner.inner.gaps.most ≡ most }
+    ensures copies { result.inner.copies ≡ fresh }
+    ensures member { result.watch.member ≡ watch.member }
+    ensures notes { result.notes ≡ no_notes }
+{
     let tag = link.own.tag;
     let named = Named::new(link, tag, life, rt.alloc());
     let awake = Awake::new(named, BootClock::new(), most);
@@ -137,7 +171,9 @@ pub fn socket_of(link: &mut MonitorLink) -> &mut UdpLink<HostRuntime> {
 /// The bound on a standstill in the next life, in milliseconds, after a life with the bound `most` that lasted `lived`
 /// milliseconds. It doubles, up to `MOST_STANDSTILL`, if that life was shorter than `MOST_STANDSTILL`: then each
 /// iteration may be slower than the bound. Otherwise it is `FIRST_STANDSTILL` again.
-fn next_most(most: u64, lived: u64) -> u64 {
+fn next_most(most: u64, lived: u64) -> u64
+    ensures { result ≡ next_most most lived }
+{
     if lived < MOST_STANDSTILL {
         most.saturating_mul(2).min(MOST_STANDSTILL)
     } else {
@@ -156,7 +192,9 @@ fn standstill_line(alloc: Global, most: u64, next: u64) -> Result<String, AllocE
 }
 
 /// Reports that the machine stood still. Returns the bound on a standstill in the next life, in milliseconds.
-pub fn report_standstill(lines: &mut Lines, alloc: Global, most: u64, lived: u64) -> u64 {
+pub fn report_standstill(lines: &mut Lines, alloc: Global, most: u64, lived: u64) -> u64
+    ensures { result ≡ next_most most lived }
+{
     let next = next_most(most, lived);
     if let Ok(line) = standstill_line(alloc, most, next) {
         lines.take_line(line.as_str());

@@ -1,0 +1,17 @@
+//! The files and the socket that arguments name, with what is around them: the links of a monitor, the counts of its disks,
+//! and lines on standard error.
+#![tactic(auto)]
+
+mod devices;
+mod naming;
+mod refused;
+mod standard_error;
+mod watching;
+
+pub use devices::{Channel, CountedDisk, Devices, FileDisks, devices_of};
+pub use naming::{
+    FIRST_STANDSTILL, MonitorLink, lives, new_life, report_room, report_standstill, room_line,
+    socket_of,
+};
+pub use refused::NoDevices;
+pub use standard_error::{print, print_of};
