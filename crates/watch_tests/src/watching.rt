@@ -111,6 +111,51 @@ fn a_request_is_answered(rt: HostRuntime) -> Result<(), Fail> {
     Ok(())
 }
 
+const OTHER: Peer = Peer::Client(8);
+
+/// A client that shares its time with the client 7.
+const SHARING: Peer = Peer::Client(1_031);
+
+/// When a client asks, in milliseconds, and how many answers were sent then in all. The clock goes back before the last.
+const ANSWERS: &[(u64, usize)] = &[
+    (1_000, 1),
+    (1_001, 1),
+    (1_002, 2),
+    (1_999, 2),
+    (1_999, 2),
+    (2_000, 3),
+    (2_001, 3),
+    (2_002, 4),
+    (5, 5),
+];
+
+#[test]
+fn a_client_is_answered_once_per_second(rt: HostRuntime) -> Result<(), Fail> {
+    let alloc = rt.alloc();
+    let mut moments = Vec::new(alloc);
+    for (time, _) in ANSWERS {
+        moments.push(Moment::known(*time % 60_000))?;
+    }
+    let askers = [
+        (CLIENT, REQUEST),
+        (CLIENT, REQUEST),
+        (OTHER, REQUEST),
+        (CLIENT, REQUEST),
+        (SHARING, REQUEST),
+        (CLIENT, REQUEST),
+        (OTHER, REQUEST),
+        (OTHER, REQUEST),
+        (CLIENT, REQUEST),
+    ];
+    let mut link = watching_at(alloc, &askers, moments)?;
+    for (time, answers) in ANSWERS {
+        assert!(rt; next_of(alloc, &mut link)?.as_str() == "idle");
+        assert!(rt; link.inner.sent().len() == *answers, "at {time} ms");
+    }
+    drop(link);
+    Ok(())
+}
+
 /// A request that is cut at each byte, is too long, or has another first byte.
 const FAULTY: &[(&str, &str)] = &[
     ("", ""),
