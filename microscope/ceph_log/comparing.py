@@ -161,6 +161,8 @@ class Comparison:
             if event.is_message('LAST_CHUNK'):
                 sends = sends + self.replayed(shadow, now)
         weigh(verdict, event, end, shadow, sends, True)
+        if event.kind == 'propose' and end is event and bool(reaction.answers) != bool(event.answers):
+            verdict.differ('answer', f'{event.answers} clients are answered before the value is committed, by the table {reaction.answers}')
         if not verdict.is_same:
             self.explain(event, end, verdict, shadow)
         shadow.set_to(end.after, now)

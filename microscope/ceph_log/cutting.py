@@ -6,6 +6,7 @@ from typing import Iterator
 
 from .lines import LINE, PREFIXED, rows_of
 from .messages import MATCHED, message_of
+from .monitor import ANSWER
 from .patterns import CAME, LOGIC, MON, WENT, name_of
 
 PATH = re.compile(r'(?<![\w.:/])/(?:[\w.+-]+/)+[\w.+-]*')
@@ -28,7 +29,7 @@ class Cutter:
             if came is not None:
                 return True
             went = WENT.match(text)
-            return went is not None and message_of(went[3]).kind in MATCHED
+            return went is not None and (message_of(went[3]).kind in MATCHED or went[3].startswith(ANSWER))
         found, logic = MON.match(text), LOGIC.match(text)
         if found is None and logic is None:
             return text.startswith(BEGINS) or name_of('daemon', text) is not None

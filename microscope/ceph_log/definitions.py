@@ -20,12 +20,13 @@ MOST = 15
 
 
 class Reaction(NamedTuple):
-    """What the table says: the operations on the store, the messages as (kind, receiver, epoch, arguments of the body), and the next state. `refusal` is set
-    instead if a number runs out."""
+    """What the table says: the operations on the store, the messages as (kind, receiver, epoch, arguments of the body), the next state, and how many clients
+    are answered. `refusal` is set instead if a number runs out."""
     operations: tuple
     sends: list[tuple[str, int, int, tuple]]
     state: Value
     refusal: str = ''
+    answers: int = 0
 
 
 def con(name: str, *arguments: Value) -> Value:
@@ -106,7 +107,7 @@ def react(me: Value, now: int, store: dict, state: Value, came: Value) -> Reacti
     done = found.a[0].d
     sends = [(run.NAMES[send.a[1].d['body'].n], send.a[0], send.a[1].d['epoch'], send.a[1].d['body'].a) for send in done['sends']
              if len(send.a) == 2 and isinstance(send.a[1], antt.Rec) and 'body' in send.a[1].d]
-    return Reaction(done['transaction'], sends, done['state'])
+    return Reaction(done['transaction'], sends, done['state'], answers=len(done['sends']) - len(sends))
 
 
 def applied(operations: tuple, store: dict) -> dict:

@@ -27,7 +27,7 @@ DIFFERENCES = {difference.name: difference for difference in [
     Difference('learns-first', 'The values of a LAST are stored before its number is compared, so also those of one with another number.',
                'the number of a LAST is compared first'),
     Difference('pending-hidden', 'A peon whose last version is below that of the COLLECT doesn\'t report its pending value.',
-               'a LAST carries the pending value in any case'),
+               'a whole LAST carries the pending value, if there is one'),
     Difference('commit-later', 'What all accepted is committed after a write in the background. An election in between waits for that write.',
                'a transaction is synced before the next input'),
     Difference('monmap', 'A version that changes the monmap or the strategy ends the quorum.', '1 to 15 monitors, fixed'),

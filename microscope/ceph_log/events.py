@@ -51,7 +51,7 @@ class Event:
     or other. `order` is the index of the first line that handled it. `moment` is its time by the clock of the first monitor.
     """
     __slots__ = ('rank', 'kind', 'at', 'moment', 'file', 'line', 'message', 'timer', 'facts', 'sends', 'before', 'after', 'order', 'index', 'number',
-                 'verdict', 'sent', 'is_routine', 'last_at')
+                 'verdict', 'sent', 'is_routine', 'last_at', 'answers')
 
     def __init__(self, rank: int | None, kind: str, line: Line, message: Message | None = None, timer: str | None = None, index: int = 0):
         self.rank, self.kind, self.at, self.moment, self.last_at = rank, kind, line.at, line.at, line.at
@@ -62,6 +62,7 @@ class Event:
         self.after: Known | None = None
         self.order, self.number, self.verdict, self.is_routine = 0, 0, None, False
         self.sent: Message | None = None
+        self.answers = 0  # to clients that this event sent
 
     @property
     def where(self) -> str:

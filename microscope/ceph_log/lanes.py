@@ -10,6 +10,8 @@ from .quorum import Quorum
 from .sentences import cause
 
 STATES = {'probing': 'probing', 'synchronizing': 'synchronizing', 'electing': 'electing', 'leader': 'leader', 'peon': 'peon'}
+# A monitor that writes nothing for so long stands still.
+STILL = 5 * SECOND
 LOST = {'lease': 'lost its leases', 'leaseack': 'lost acknowledgements', 'accept': 'lost ACCEPTs', 'collect': 'lost LASTs', 'sync': 'lost its provider'}
 
 
@@ -29,9 +31,19 @@ def lane(q: Quorum, rank: int, asked: Asked) -> list[tuple[int, int, str]]:
     end = max(event.moment for event in q.events)
     last = monitor.events[-1].moment if monitor.events else end
     close(found, state, since, max(last, since) if state != 'down' else end)
+    found += still(q, rank)
     window = asked.window
     return [((max(begin, window.begin) - q.begin) // 1000, (min(to, window.end) - q.begin) // 1000, name) for begin, to, name in found
             if to > window.begin and begin < window.end]
+
+
+def still(q: Quorum, rank: int) -> list[tuple[int, int, str]]:
+    """The times in which a monitor wrote nothing though others ping it each second: it stood still."""
+    monitor = q.monitors[rank]
+    if not monitor.levels.get('ms'):
+        return []
+    return [(before.moment, event.moment, 'still') for before, event in zip(monitor.events, monitor.events[1:])
+            if event.moment - before.moment > STILL and event.kind != 'start' and before.kind != 'stop']
 
 
 def close(found: list, state: str, since: int, until: int) -> int:

@@ -10,6 +10,7 @@ from .opening import opening
 from .patterns import CAME, LOGIC, MEMBER, MEMBERS, MON, PAXOS_STATE, STARTING, WENT, name_of
 
 OWN = ('mon', 'paxos', 'elector', 'logic')
+ANSWER = 'mon_command_ack('
 
 
 class Monitor:
@@ -196,11 +197,12 @@ class Monitor:
         own, to, text = found.groups()
         if to.strip() == own.strip():
             return
-        receiver, message = self.addresses.get(to.strip()), message_of(text)
+        receiver, message, event = self.addresses.get(to.strip()), message_of(text), self.current.get(line.thread)
         if receiver is None and message.kind in ('OTHER', 'ROUTE'):
+            if event is not None and text.startswith(ANSWER):
+                event.answers += 1
             return
         message.sender, message.receiver, message.at, message.where, message.address = self.rank, receiver, line.at, line.where, to.strip()
-        event = self.current.get(line.thread)
         if event is None:
             if message.kind == 'OTHER':
                 return

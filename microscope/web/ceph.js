@@ -34,6 +34,7 @@ function draw() {
       if (end < from || begin > to || state === 'down') continue;
       const left = x(Math.max(begin, from)), rect = add(svg, 'rect', { x: left, y: y + 4, width: Math.max(1, x(Math.min(end, to)) - left), height: LANE - 8 });
       rect.style.fill = `var(--${state})`;
+      if (state === 'still') rect.style.opacity = 0.75;
       add(rect, 'title', {}, `${lane.name} ${state}, ${clock(begin)} to ${clock(end)}`);
     }
     for (const [rank, ms, kind, text, number] of LOG.marks) {
@@ -67,7 +68,7 @@ function bars(svg, x, from, to, y) {
 
 function say() {
   zoom.replaceChildren(`${clock(view[0])} to ${clock(view[1])}`);
-  for (const state of ['leader', 'peon', 'electing', 'probing', 'synchronizing']) {
+  for (const state of ['leader', 'peon', 'electing', 'probing', 'synchronizing', 'still']) {
     const key = document.createElement('span');
     key.className = 'key';
     key.style.setProperty('--of', `var(--${state})`);
