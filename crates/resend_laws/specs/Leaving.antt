@@ -20,7 +20,8 @@ leaving (Passes again now) c = all_due_copies again now c
 abbrev pub LeavesIn : ℕ → Outgoing → List Step → Copies → Type 0
 LeavesIn zero x steps c = Unit {0}
 LeavesIn (suc n) x [] c = ⊥
-LeavesIn (suc n) x (s ∷ steps) c = (IsOneOf (leaving s c) x × LeavesIn n x steps (step s c)) ⊎ LeavesIn (suc n) x steps (step s c)
+LeavesIn (suc n) x (s ∷ steps) c =
+    (IsOneOf (leaving s c) x × LeavesIn n x steps (step s c)) ⊎ LeavesIn (suc n) x steps (step s c)
 
 -- ---- a copy is kept
 
@@ -40,9 +41,11 @@ IsKept rank x c = SomeAt rank x (λ n. Unit {0}) c
 abbrev pub IsNotEnded : (rank : ℕ) → Outgoing → List Step → Copies → Type 0
 IsNotEnded rank x [] c = Unit {0}
 IsNotEnded rank x (Sends memory to bytes now ∷ steps) c =
-    IsKept rank x (step (Sends memory to bytes now) c) × IsNotEnded rank x steps (step (Sends memory to bytes now) c)
+    IsKept rank x (step (Sends memory to bytes now) c)
+    × IsNotEnded rank x steps (step (Sends memory to bytes now) c)
 IsNotEnded rank x (Hears memory from bytes now ∷ steps) c =
-    IsKept rank x (step (Hears memory from bytes now) c) × IsNotEnded rank x steps (step (Hears memory from bytes now) c)
+    IsKept rank x (step (Hears memory from bytes now) c)
+    × IsNotEnded rank x steps (step (Hears memory from bytes now) c)
 IsNotEnded rank x (Passes again now ∷ steps) c = IsNotEnded rank x steps (step (Passes again now) c)
 
 -- The copy is sent again by time, and wasn't sent as a copy yet.

@@ -49,8 +49,8 @@ pub fn law_tried()
 pub fn law_leaves()
     ensures due { (c : Copies) (rank : ℕ) (x : Outgoing) (again : Bool) (now : ℕ)
         → SomeAt rank x (λ n. is_due again now n ≡ true) c → IsOneOf (all_due_copies again now c) x }
-    ensures asked { (n : Note) (h : Header) (again : Bool) (since now : ℕ) → is_asked_again n.header h ≡ true → since ≤ now
-        → is_due again now (after (Asked h) since n) ≡ true }
+    ensures asked { (n : Note) (h : Header) (again : Bool) (since now : ℕ) → is_asked_again n.header h ≡ true
+        → since ≤ now → is_due again now (after (Asked h) since n) ≡ true }
     ensures again { (n : Note) (wait now : ℕ) → 1000 ≤ wait → n.every ≤ wait → way_of n.header.kind ≡ ByTime
         → n.held ≡ false → is_due true now n ≡ true → IsDueAgain wait now n (after_sending now n) }
     ensures each_round { (c : Copies) (rank : ℕ) (x : Outgoing) (wait since : ℕ) (steps : List Step) → 1000 ≤ wait

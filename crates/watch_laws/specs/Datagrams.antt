@@ -62,9 +62,12 @@ IsToClient d = (client : ℕ) × (d.to ≡ Client client)
 abbrev pub AreOf : List Sent → List Outgoing → Type 0
 AreOf [] ds = ds ≡ []
 AreOf (sent.Message to m ∷ out) ds =
-    HasText m × ((boot : ℕ) × (seq : ℕ) × (rest : List Outgoing) × (ds ≡ map (to_peer (Monitor to)) (pieces_of (text m) boot seq) ++ rest) × AreOf out rest)
+    HasText m
+    × ((boot : ℕ) × (seq : ℕ) × (rest : List Outgoing)
+    × (ds ≡ map (to_peer (Monitor to)) (pieces_of (text m) boot seq) ++ rest) × AreOf out rest)
 AreOf (sent.Reply session r ∷ out) ds =
-    (these : List Outgoing) × (rest : List Outgoing) × AllByRecursion IsToClient these × (ds ≡ these ++ rest) × AreOf out rest
+    (these : List Outgoing) × (rest : List Outgoing) × AllByRecursion IsToClient these
+    × (ds ≡ these ++ rest) × AreOf out rest
 
 -- ---- what a monitor's core sent since it started
 
@@ -84,10 +87,11 @@ module _ (i : ℕ) where
   -- after events from a world on
   unfoldable pub sent_from : Monitors → World → List Event → List Sent → List Sent
   sent_from ms w [] out = out
-  sent_from ms w (e ∷ es) out = sent_on (λ next. sent_from ms next es (sent_at e (meets ms w (plain_of e)) out)) out (happens ms w e)
+  sent_from ms w (e ∷ es) out =
+      sent_on (λ next. sent_from ms next es (sent_at e (meets ms w (plain_of e)) out)) out (happens ms w e)
 
--- After any events of two monitors or more, let a link have watched a monitor that is up since it started, and been given
--- the datagrams of what its core sent, while anything arrived. What it shows is true, or lags.
+-- After any events of two monitors or more, let a link have watched a monitor that is up since it started. Let it have
+-- been given the datagrams of what its core sent, while anything arrived. What it shows is true, or lags.
 abbrev pub LinkIsSo : Type 0
 LinkIsSo =
     (ms : Monitors) (events : List Event) → AllFit ms.count events → 1 < ms.count
