@@ -26,7 +26,8 @@ def numbered(event: Event) -> bool:
 
 
 def comes_back(event: Event) -> bool:
-    return event.is_message('PROPOSE') and event.before.epoch % 2 == 0 and event.message.fields['e'] < event.before.epoch and event.has('start_election')
+    epoch = event.message.fields.get('e') if event.is_message('PROPOSE') else None
+    return epoch is not None and event.before.epoch % 2 == 0 and epoch < event.before.epoch and event.has('start_election')
 
 
 RULES: dict[str, Callable[[Event], bool]] = {
