@@ -5,6 +5,7 @@ no definition, such as a type, doesn't matter until then.
 """
 from __future__ import annotations
 
+import functools
 import os
 import re
 from typing import Dict, List, Mapping, NamedTuple, Optional, Sequence, Set, Tuple, Union
@@ -176,6 +177,12 @@ class Module:
         return found, faults
 
 
+@functools.lru_cache(maxsize=1024)
+def module_of(path: str, file: str, source: str) -> Module:
+    """The module of a text. Programs under different rules share those that no rule changes."""
+    return Module(path, file, source)
+
+
 def locals_of(parser: Parser, at: int) -> Tuple[Dict[str, Definition], int]:
     """The definitions of a `where`, and the place after them."""
     scanner = Scanner(parser.tokens)
@@ -215,7 +222,7 @@ class Library:
             if source.count(old) != 1:
                 raise Fault(file, 0, f'it has {source.count(old)} times {old!r}')
             source = source.replace(old, new)
-        return Module(path, file, source)
+        return module_of(path, file, source)
 
     def module_passed_on(self, path: str) -> Optional[Module]:
         """A module under the name that its parent gives it: `pub use Rattle.CRATE.specs.NAME`, or `.. as OTHER`."""

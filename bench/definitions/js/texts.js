@@ -69,11 +69,11 @@ function eventOf(line) {
 const ranksText = members => RANKS.filter(rank => members[rank]).join(',') || '-';
 const cookieText = cookie => `${cookie.boot}.${cookie.seq}`;
 const keyText = key => (key.name === 'Start' || key.name === 'Done' ? key.name.toLowerCase() : `${$octets(key.args[0])}/${$octets(key.args[1])}`);
-const bit = test => (test ? 1 : 0);
+const bit = value => (typeof value === 'boolean' ? Number(value) : value);
 
 function chunkText(last, [cookie, place, values, entries, end]) {
   const where = `cookie=${cookieText(cookie)} at=${place.version} key=${keyText(place.key)}`;
-  return ` ${where} values=${values.length} keys=${entries.length} ${last}=${typeof end === 'boolean' ? bit(end) : end}`;
+  return ` ${where} values=${values.length} keys=${entries.length} ${last}=${bit(end)}`;
 }
 
 const FIELDS = {
