@@ -12,6 +12,7 @@ PRINTED = {
     'cases/cookie_outlived': (5, 100),
     'cases/floor_holds': (36, 100),
     'cases/sent_keys_change': (83, 100),
+    'cases/lagging_pair': (171, 100),
 }
 
 
