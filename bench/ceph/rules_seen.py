@@ -78,15 +78,19 @@ class Times:
 
     def take_monitor(self, events: list[Event]):
         last: dict[str, int] = {}
+        pings: dict[int | None, list[int]] = collections.defaultdict(list)
         for event in events:
             if event.kind == 'start':
                 last.clear()
             for message in event.sends:
                 if message.kind == 'PING':
-                    self.add('between two pings to one monitor', last.get(f'ping {message.receiver}'), message.at)
-                    last[f'ping {message.receiver}'] = message.at
+                    pings[message.receiver].append(message.at)
             for fact in event.facts:
                 self.take_fact(event, fact, last)
+        for times in pings.values():
+            times.sort()
+            for before, now in zip(times, times[1:]):
+                self.add('between two pings to one monitor', before, now)
 
     def take_fact(self, event: Event, fact, last: dict[str, int]):
         if fact.name == 'extends':

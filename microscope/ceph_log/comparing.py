@@ -117,11 +117,27 @@ class Comparison:
         if opens is not None:
             made, promise, last, first = map(int, opens.args)
             shadow.open(made, promise, last, first)
+            pending = self.accepted_before(event, last + 1)
+            if pending is not None:
+                shadow.put_pending(*pending)
         events = self.q.monitors[event.rank].events[self.place[id(event)]:]
         epoch = next((int(fact.args[0]) for later in events for fact in later.facts if fact.name in ('init_epoch', 'first_epoch')), 1)
         shadow.put(b'monitor', b'election_epoch', epoch)
         shadow.is_known = True
         self.compare(event, event, shadow, now)
+
+    def accepted_before(self, start: Event, version: int) -> tuple[int, int] | None:
+        """The version and number of a value that a monitor accepted before it started again: the line that shows its store doesn't name that value."""
+        for event in reversed(self.q.monitors[start.rank].events[:self.place[id(start)]]):
+            accepts = event.get('accepts')
+            if accepts is not None and int(accepts.args[0]) == version and any(message.kind == 'ACCEPT' for message in event.sends):
+                return version, int(accepts.args[1])
+            begins = event.get('begins')
+            if begins is not None and int(begins.args[0]) == version and event.after.made and any(message.kind == 'BEGIN' for message in event.sends):
+                return version, event.after.made
+            if event.after.last >= version:
+                break
+        return None
 
     # -- reads
 

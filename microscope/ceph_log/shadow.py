@@ -109,9 +109,12 @@ class Shadow:
             return
         version, number = known.pending[0], known.pending[1] or 0
         if (self.number(PAXOS, b'pending_v'), self.number(PAXOS, b'pending_pn')) != (version, number):
-            self.store[PAXOS, b'%d' % version] = proved.text_of(version)
-            self.put(PAXOS, b'pending_v', version)
-            self.put(PAXOS, b'pending_pn', number)
+            self.put_pending(version, number)
+
+    def put_pending(self, version: int, number: int):
+        self.store[PAXOS, b'%d' % version] = proved.text_of(version)
+        self.put(PAXOS, b'pending_v', version)
+        self.put(PAXOS, b'pending_pn', number)
 
     def follows_another(self, known: Known) -> bool:
         if self.phase() != 'peon' or known.phase() != 'peon' or known.leader is None or not known.quorum:
