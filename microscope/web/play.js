@@ -1,6 +1,7 @@
 'use strict';
 const at = id => document.getElementById(id);
-let state = null, branch = 0, lines = [], running = false, waiting = Promise.resolve(), hinted = 0;
+const waiting = Promise.resolve();
+let state = null, lines = [], running = false, hinted = 0, shownHeader = null;
 
 // ---- elements
 
@@ -26,36 +27,50 @@ function button(text, title, act) {
   return made;
 }
 
-// ---- what is asked of the server, one after the other
+// ---- what is asked of the game
 
-function ask(path, body) {
-  waiting = waiting.then(async () => {
-    try {
-      const answer = await fetch(path, {method: 'POST', headers: {'Content-Type': 'application/json'}, body: JSON.stringify({...body, branch, known: lines.length})});
-      take(await answer.json());
-    } catch (why) {
-      running = false;
-      fault(`play doesn't answer any more: ${why.message}`);
-    }
-  });
+let game = null;
+
+// Does what is asked, and shows what there is then.
+function ask(what, body) {
+  let said = null;
+  try {
+    asks[what](body);
+  } catch (why) {
+    if (!(why instanceof Refused)) throw why;
+    said = why.message;
+  }
+  fault(said);
+  if (said && running) toggle();
+  state = game.view();
+  lines = state.lines;
+  draw();
   return waiting;
 }
 
-const act = (name, more = {}) => ask('act', {act: name, ...more});
+const asks = {
+  act: body => game.act(body),
+  new: ({header}) => game.begin(header),
+  load: ({text}) => game.load(linesOfText(game.definitions, text)),
+  set: settings,
+  view: () => {},
+};
+
+function settings(asked) {
+  if ('rule' in asked) game.under(DATA.rules.find(rule => rule.name === asked.rule) || null);
+  if ('exercise' in asked) game.exercise = asked.exercise in DATA.exercises ? asked.exercise : null;
+  if ('latency' in asked) game.latency = Math.max(0, Math.min(100000, Math.round(asked.latency) || 0));
+  if ('loss' in asked) game.loss = Math.max(0, Math.min(100, asked.loss || 0));
+}
+
+const act = (name, more = {}) => {
+  if (tourAt >= 0 && name !== 'go') leaveTour();
+  return ask('act', {act: name, ...more});
+};
 
 function fault(text) {
   at('fault').textContent = text || '';
   at('fault').hidden = !text;
-}
-
-function take(answer) {
-  fault(answer.fault);
-  if (answer.fault && running) toggle();
-  state = answer;
-  lines = answer.branch === branch ? lines.slice(0, answer.begin) : [];
-  branch = answer.branch;
-  lines.push(...answer.lines);
-  draw();
 }
 
 // ---- time by itself
@@ -77,6 +92,8 @@ async function toggle() {
 
 // ---- what is shown
 
+// A message that is due for longer than this, in milliseconds, is counted and not drawn: it may never arrive.
+const OVERDUE = 1000;
 const isUnderWay = it => !it.got.length && !it.dropped;
 const kindOf = it => !it.up ? 'down' : it.leads ? 'leads' : it.phase === 'peon' ? 'peon' : 'votes';
 
@@ -87,6 +104,8 @@ function draw() {
   at('timeline').max = state.count;
   at('timeline').value = state.at;
   at('rules').value = state.rule || '';
+  const [, count, rule] = state.header.split(' ');
+  if (state.header !== shownHeader) [shownHeader, at('monitors').value, at('elections').value] = [state.header, count, rule];
   at('exercise').value = state.exercise ? state.exercise.name : '';
   for (const name of ['latency', 'loss']) if (document.activeElement !== at(name)) at(name).value = state[name];
   at('lights').replaceChildren(...state.clauses.map(light));
@@ -116,7 +135,7 @@ function arenaSize() {
 }
 
 function drawArena() {
-  const {width, height} = arenaSize(), arena = at('arena'), nodes = [], lanes = [], marks = [];
+  const {width, height} = arenaSize(), arena = at('arena'), nodes = [], lanes = [];
   const isCrowd = state.monitors.length > 7, wide = isCrowd ? 74 : 116, high = isCrowd ? 24 : 44;
   arena.setAttribute('viewBox', `0 0 ${width} ${height}`);
   arena.classList.toggle('crowd', isCrowd);
@@ -124,28 +143,50 @@ function drawArena() {
     const {x, y} = spot(rank);
     for (let other = 0; other < rank; other++) lanes.push(drawn('line', {class: 'lane', x1: x, y1: y, x2: spot(other).x, y2: spot(other).y}));
     nodes.push(drawn('g', {}, drawn('rect', {class: `node ${kindOf(it)}`, x: x - wide / 2, y: y - high / 2, width: wide, height: high, rx: 9}),
-      drawn('text', {x, y: isCrowd ? y + 4 : y - 4}, `${rank}: ${it.phase}`),
-      ...(isCrowd ? [] : [drawn('text', {class: 'small', x, y: y + 13}, `epoch ${it.epoch}, last ${it.last}`)])));
+      drawn('text', {x, y: isCrowd ? y + 4 : y - 4}, `${rank}: ${termOf(it.phase)}`), drawn('title', {}, meaningOf(it.phase)),
+      ...(isCrowd ? [] : [drawn('text', {class: 'small', x, y: y + 13}, `${termOf('epoch')} ${it.epoch}, ${isFieldsWords ? 'commit' : 'last'} ${it.last}`)])));
   });
-  const places = {}, isMany = isCrowd || state.wire.filter(isUnderWay).length > 16;
-  for (const it of state.wire.filter(isUnderWay)) {
-    const lane = `${it.from} ${it.to}`, nth = places[lane] = (places[lane] || 0) + 1;
-    marks.push(mark(it, nth - 1, isMany));
-  }
-  arena.replaceChildren(...lanes, ...nodes, ...marks);
+  arena.replaceChildren(...lanes, ...nodes, ...marksOf(isCrowd));
 }
 
-function mark(it, nth, isMany) {
-  const from = spot(it.from), to = spot(it.to), took = it.due - it.time, done = took > 0 ? Math.min(1, Math.max(0, (state.now - it.time) / took)) : 1;
-  const part = Math.min(.7, Math.max(.3, .32 + .4 * done - .13 * (nth % 4))), length = Math.hypot(to.x - from.x, to.y - from.y) || 1;
-  const x = from.x + (to.x - from.x) * part - (to.y - from.y) / length * 11, y = from.y + (to.y - from.y) * part + (to.x - from.x) / length * 11;
-  const text = `${it.kind} →${it.to}`, wide = 6.9 * text.length + 14;
-  const made = drawn('g', {class: 'dot', style: `transform: translate(${x}px, ${y}px)`, tabindex: 0, role: 'button', 'data-number': it.number},
-    ...(isMany ? [drawn('rect', {x: -6, y: -6, width: 12, height: 12, rx: 6})] : [drawn('rect', {x: -wide / 2, y: -9, width: wide, height: 18, rx: 9}), drawn('text', {y: 4}, text)]),
-    drawn('title', {}, `message ${it.number}: ${it.kind} ${it.fields}`));
+// The marks of messages under way. Of each lane the first few have a label. The others, and those that are long overdue, are counted.
+function marksOf(isCrowd) {
+  const lanes = new Map(), most = isCrowd ? 1 : state.monitors.length > 3 ? 1 : 2;
+  for (const it of state.wire.filter(isUnderWay)) lanes.set(`${it.from} ${it.to}`, [...(lanes.get(`${it.from} ${it.to}`) || []), it]);
+  return [...lanes.values()].flatMap(found => {
+    const fresh = found.filter(it => it.due + OVERDUE >= state.now), labelled = fresh.slice(0, most), folded = found.length - labelled.length;
+    const isLate = fresh.length < found.length;
+    return [...labelled.map((it, nth) => mark(it, nth, isCrowd)), ...(folded ? [foldedMark(found[found.length - 1], folded, isLate)] : [])];
+  });
+}
+
+// Where a mark lies: at a part of the way from one monitor to another, beside the line.
+function placeOf(it, part) {
+  const from = spot(it.from), to = spot(it.to), length = Math.hypot(to.x - from.x, to.y - from.y) || 1;
+  return {x: from.x + (to.x - from.x) * part - (to.y - from.y) / length * 11, y: from.y + (to.y - from.y) * part + (to.x - from.x) / length * 11};
+}
+
+function mark(it, nth, isCrowd) {
+  const took = it.due - it.time, done = took > 0 ? Math.min(1, Math.max(0, (state.now - it.time) / took)) : 1;
+  const {x, y} = placeOf(it, Math.min(.7, Math.max(.34, .36 + .36 * done - .15 * (nth % 4)))), text = isCrowd ? termOf(it.kind) : `${termOf(it.kind)} →${it.to}`;
+  const made = pill(x, y, text, `message ${it.number}: ${it.kind} ${it.fields}. ${meaningOf(it.kind)}`);
+  made.dataset.number = it.number;
   made.addEventListener('click', press => menu(it, press));
   made.addEventListener('keydown', press => { if (press.key === 'Enter') menu(it, press); });
   return made;
+}
+
+function foldedMark(it, count, isLate) {
+  const {x, y} = placeOf(it, .24), made = pill(x, y, `+${count}`, `${count} more from ${it.from} to ${it.to}${isLate ? ', of which some are long overdue' : ''}: see Messages`);
+  made.classList.add('folded');
+  made.addEventListener('click', () => at('wire').scrollIntoView({block: 'nearest'}));
+  return made;
+}
+
+function pill(x, y, text, title) {
+  const wide = 6.9 * text.length + 14;
+  return drawn('g', {class: 'dot', style: `transform: translate(${x}px, ${y}px)`, tabindex: 0, role: 'button'},
+    drawn('rect', {x: -wide / 2, y: -9, width: wide, height: 18, rx: 9}), drawn('text', {y: 4}, text), drawn('title', {}, title));
 }
 
 function actsOf(it) {
@@ -180,18 +221,25 @@ function drawCards() {
     card.className = `card ${kindOf(it)}`;
     const [name, phase] = card.querySelector('h3').children;
     name.textContent = `monitor ${rank}`;
-    phase.textContent = it.marked ? `${it.phase}, taking a full copy` : it.phase;
-    card.querySelector('dl').replaceChildren(...facts(it, rank).flatMap(([key, value]) => [element('dt', '', key), element('dd', '', value)]));
+    phase.textContent = it.marked ? `${termOf(it.phase)}, taking a full copy` : termOf(it.phase);
+    phase.title = it.marked ? 'Its own store is of no use until the copy is whole.' : meaningOf(it.phase);
+    card.querySelector('dl').replaceChildren(...facts(it, rank).flatMap(([key, value]) => [term(key), element('dd', '', value)]));
     card.querySelector('.start').hidden = it.up;
     for (const name of ['.kill', '.asking', '.tear', '.show', '.again']) card.querySelector(name).hidden = !it.up;
     card.querySelector('.tear').value = it.tear || '';
   });
 }
 
+function term(name) {
+  const made = element('dt', '', termOf(name));
+  made.title = meaningOf(name);
+  return made;
+}
+
 function facts(it, rank) {
-  const found = [['epoch', String(it.epoch)], ['last', `${it.last}${it.promise ? `, promised ${it.promise}` : ''}`]];
+  const found = [['epoch', String(it.epoch)], ['last', String(it.last)], ...(it.promise ? [['promised', String(it.promise)]] : [])];
   if (it.leader !== null) found.push(['leader', it.leader === rank ? 'itself' : `monitor ${it.leader}`], ['quorum', it.quorum]);
-  if (it.votes !== null) found.push(['votes', `${it.votes} (${it.votes_of})`]);
+  if (it.votes !== null) found.push(it.votes_of === 'it voted for' ? ['voted for', `monitor ${it.votes}`] : ['votes', `${it.votes} ${it.votes_of}`]);
   if (it.pending) found.push(['accepted', `${it.pending.text}, as version ${it.pending.version} under ${it.pending.pn}`]);
   if (it.map) found.push(['map', it.map]);
   if (it.lease !== null) found.push(['lease', element('span', it.valid ? 'fresh' : 'stale', `${it.valid ? 'valid' : 'ended'}, to ${it.lease.toLocaleString('en')} ms`)]);
@@ -239,9 +287,15 @@ function drawWire() {
   at('wire').replaceChildren(...parts);
 }
 
+function kindText(kind) {
+  const made = element('span', 'kind', termOf(kind));
+  made.title = meaningOf(kind);
+  return made;
+}
+
 function message(it) {
   const what = it.dropped ? 'dropped' : it.got.length ? `${it.from} → ${it.to}, in event ${it.got.join(', ')}` : `due at ${it.due.toLocaleString('en')} ms`;
-  const made = element('div', isUnderWay(it) ? 'message' : 'message gone', element('span', 'kind', it.kind), ' ', element('span', 'fields', `${it.fields} · ${what}`), element('div', 'buttons', ...actsOf(it)));
+  const made = element('div', isUnderWay(it) ? 'message' : 'message gone', kindText(it.kind), ' ', element('span', 'fields', `${it.fields} · ${what}`), element('div', 'buttons', ...actsOf(it)));
   made.dataset.number = it.number;
   return made;
 }
@@ -252,8 +306,17 @@ function link(event, text) {
   return made;
 }
 
+// A reply that isn't plain, with its meaning.
+function inWords(line) {
+  const found = /^reply .* notreadable has=(\d+) lease=(\d)$/.exec(line);
+  if (!found) return line;
+  const [, has, lease] = found, lacks = has === '0' ? 'has no version yet' : `has version ${has}`;
+  return `${line}: it answers no read, since it ${lacks}${lease === '0' ? ` ${has === '0' ? 'and' : 'but'} no valid lease` : ''}`;
+}
+
 function drawLast() {
-  const it = state.last, list = element('ul', '', ...it.lines.map(line => element('li', line.split(' ')[0], line)));
+  const it = state.last, list = element('ul', '', ...it.lines.map(line => element('li', line.split(' ')[0], inWords(line))));
+  at('heading').textContent = it.heading;
   const parts = [element('b', '', it.heading), list];
   if (it.from) parts.push(element('p', 'quiet', 'Its message was sent in ', link(it.from), '.'));
   if (it.to.length) parts.push(element('p', 'quiet', 'What it sent arrived in ', ...it.to.flatMap((event, at) => [at ? ', ' : '', link(event)]), '.'));
@@ -272,7 +335,10 @@ function drawLast() {
 }
 
 function drawLog() {
-  const entries = state.log.slice(-8).map(([version, text, isAcknowledged]) => element('li', '', `${version}: ${text} `, element('span', isAcknowledged ? 'fresh' : 'quiet', isAcknowledged ? 'acknowledged' : 'not acknowledged')));
+  const entries = state.log.slice(-8).map(([version, text, isAcknowledged, isAnswered]) => {
+    const said = isAnswered ? 'its client is answered' : isAcknowledged ? 'acknowledged by the leader, its client is not answered' : 'not acknowledged';
+    return element('li', '', `${version}: ${text} `, element('span', isAnswered ? 'fresh' : 'quiet', said));
+  });
   at('log').replaceChildren(entries.length ? element('ul', '', ...entries) : element('p', 'quiet', 'It is empty.'));
 }
 
@@ -342,19 +408,33 @@ at('redo').onclick = () => act('redo');
 at('next').onclick = () => act('next');
 at('run').onclick = toggle;
 at('startall').onclick = startAll;
-at('new').onclick = () => ask('new', {header: `monitors ${at('monitors').value} ${at('elections').value}`});
+at('new').onclick = () => { leaveTour(); ask('new', {header: `monitors ${at('monitors').value} ${at('elections').value}`}); };
 at('load').onclick = () => at('file').click();
 at('file').onchange = async () => { const file = at('file').files[0]; if (file) await ask('load', {text: await file.text()}); at('file').value = ''; };
 at('save').onclick = () => save('played.schedule', [state.header, ...lines.slice(0, state.at).map(([line]) => line), ''].join('\n'));
-at('savetrace').onclick = async () => save('played.trace', await (await fetch('trace')).text());
+at('savetrace').onclick = () => save('played.trace', [...game.trace(), ''].join('\n'));
 at('help').onclick = () => at('helping').showModal();
+at('tourbegin').onclick = beginTour;
+at('fieldswords').onchange = () => { isFieldsWords = at('fieldswords').checked; draw(); };
 at('timeline').oninput = () => act('go', {event: Number(at('timeline').value)});
 at('exercise').onchange = () => { hinted = 0; ask('set', {exercise: at('exercise').value || null}); };
+at('scenario').onchange = () => {
+  const found = DATA.scenarios[at('scenario').value];
+  if (found) ask('load', {text: [...found, ''].join('\n')});
+  at('scenario').value = '';
+};
 at('rules').onchange = () => ask('set', {rule: at('rules').value || null});
 for (const name of ['latency', 'loss']) at(name).onchange = () => ask('set', {[name]: Number(at(name).value)});
 
-fetch('lists').then(answer => answer.json()).then(({exercises, rules}) => {
-  at('exercise').append(...exercises.map(name => new Option(name, name)));
-  at('rules').append(...rules.map(([name, text]) => new Option(`${name}: ${text}`, name)));
-  ask('view', {}).then(() => { at('monitors').value = state.monitors.length; at('elections').value = state.header.split(' ')[2]; });
-});
+function begin() {
+  const {lines: [header, ...events], rule, exercise, isTour} = DATA.begin;
+  at('exercise').append(...Object.keys(DATA.exercises).map(name => new Option(name, name)));
+  at('rules').append(...DATA.rules.map(({name, changed}) => new Option(`${name}: ${changed}`, name)));
+  at('scenario').append(...Object.keys(DATA.scenarios).map(name => new Option(name.replace(/_/g, ' '), name)));
+  game = new Game(header, DATA.rules.find(it => it.name === rule) || null);
+  game.exercise = exercise;
+  ask('load', {text: [header, ...events, ''].join('\n')});
+  if (isTour) beginTour();
+}
+
+begin();
