@@ -246,32 +246,46 @@ OPENINGS: dict[str, tuple[Callable[[Course], None], list]] = {
 
 
 class Found(NamedTuple):
-    """A schedule after which a clause of `Safe` doesn't hold: its lines up to the first such event, that clause, what is wrong, and how many runs and events
-    the search took."""
+    """A schedule after which a clause of `Safe` doesn't hold: its lines up to the first such event, that clause, and what is wrong."""
     lines: list[str]
     clause: str
     what: str
+
+
+class Searched(NamedTuple):
+    """A search: its opening and the events of that, its seed, how many runs it took and how many events they had after the opening, the seconds of a
+    processor, and what it found, or None."""
+    opening: str
+    begin: int
+    seed: int
     runs: int
     events: int
+    seconds: float
+    found: Found | None
+
+    def __str__(self):
+        return (f'seed {self.seed}: {self.runs:,} runs of {self.events:,} events, from the opening `{self.opening}` of {self.begin} events, '
+                f'in {self.seconds:.0f} seconds of a processor')
 
 
-def search(opening: str, seed: int, seconds: float, header: str = 'monitors 3 classic') -> Found | None:
-    """The first unsafe run that is found within this number of seconds of processor time, or None."""
+def search(opening: str, seed: int, seconds: float, header: str = 'monitors 3 classic') -> Searched:
+    """Searches for an unsafe run for at most this number of seconds of processor time."""
     begin, kinds = OPENINGS[opening]
-    base, end, events = Course(header), time.process_time() + seconds, 0
+    base, begun, events = Course(header), time.process_time(), 0
     begin(base)
     for number in itertools.count(1):
         chance, course = random.Random(f'{seed} {number}'), base.copy()
         for reached in kinds[number % len(kinds)](course, chance):
-            if broken := safety.broken(reached.play):
-                return first_of(reached.lines, broken, number, events + course.play.events - base.play.events)
-            if time.process_time() > end:
-                return None
+            broken, spent = safety.broken(reached.play), time.process_time() - begun
+            if broken or spent > seconds:
+                found = first_of(reached.lines, broken) if broken else None
+                return Searched(opening, base.play.events, seed, number, events + course.play.events - base.play.events, spent, found)
         events += course.play.events - base.play.events
         loaded.forget()
+    raise AssertionError
 
 
-def first_of(lines: list[str], broken: dict[str, str], runs: int, events: int) -> Found:
+def first_of(lines: list[str], broken: dict[str, str]) -> Found:
     """The shortest prefix of a schedule that isn't safe."""
     play = Play(lines[0])
     for at, line in enumerate(lines[1:], 2):
@@ -280,4 +294,4 @@ def first_of(lines: list[str], broken: dict[str, str], runs: int, events: int) -
             lines, broken = lines[:at], early
             break
     clause, what = next(iter(broken.items()))
-    return Found(lines, clause, what, runs, events)
+    return Found(lines, clause, what)
