@@ -282,7 +282,19 @@ const $caches = [];
 // A function that keeps this number of values by the identity of its arguments.
 function $kept(most, f) {
   let values = new Map(), count = 0;
-  $caches.push(() => { values = new Map(); count = 0; });
+  $caches.push(() => { [values, count] = [new Map(), 0]; });
+  const room = () => { if (++count > most) [values, count] = [new Map(), 1]; };
+  if (f.length === 1) {
+    return argument => {
+      let value = values.get(argument);
+      if (value === undefined) {
+        value = f(argument);
+        room();
+        values.set(argument, value);
+      }
+      return value;
+    };
+  }
   return (...args) => {
     const last = args.length - 1;
     let at = values;
@@ -290,7 +302,7 @@ function $kept(most, f) {
     const known = at === undefined ? undefined : at.get(args[last]);
     if (known !== undefined) return known;
     const value = f(...args);
-    if (++count > most) [values, count] = [new Map(), 1];
+    room();
     at = values;
     for (let place = 0; place < last; place++) {
       let next = at.get(args[place]);
