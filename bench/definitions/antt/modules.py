@@ -237,6 +237,16 @@ class Library:
 
     # ---- names
 
+    def same(self, found: Meaning) -> Optional[Meaning]:
+        """What a meaning of another library is here, or None if it is there with another number of arguments, or isn't there."""
+        if not isinstance(found, Global):
+            return found if isinstance(found, Native) and found.key in self.natives else None
+        module = self.module(found.module.path)
+        if module is None or found.definition.name not in module.declared:
+            return None
+        definition = module.definition(found.definition.name)
+        return Global(module, definition) if definition.arity() == found.definition.arity() else None
+
     def meaning_in(self, module: Module, name: str) -> Optional[Meaning]:
         """What a name means in a module, or None if it means nothing there."""
         key = f'{module.path}.{name}'

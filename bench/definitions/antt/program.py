@@ -138,12 +138,31 @@ def with_numbers(text: str, *values: Any) -> str:
     return f'{text} ({values[0]} and {values[1]})' if values and all(type(value) is int for value in values) else text
 
 
+# The units that were written, by writer, definition, whether it is watched, and constants.
+UNITS: Dict[Tuple[Any, ...], Unit] = {}
+MOST_UNITS = 50_000
+
+
+def unit_of(it: Global, writer: Type[Writer], library: Library, is_watched: bool) -> Unit:
+    """A definition that is written. One that another library wrote before is taken if it means the same here: what it needs takes as many arguments."""
+    key = writer, it.module, it.definition.name, is_watched, tuple(library.constants.items())
+    known = UNITS.get(key)
+    if known is not None:
+        needs = [library.same(need) for need in known.needs]
+        if None not in needs:
+            return known._replace(needs=list(filter(None, needs)))
+    if len(UNITS) >= MOST_UNITS:
+        UNITS.clear()
+    UNITS[key] = writer(library, it.module, it.definition, is_watched).unit()
+    return UNITS[key]
+
+
 def units_of(wanted: Global, writer: Type[Writer], library: Library, is_watched: bool) -> Iterator[Tuple[Global, Unit]]:
     """A definition and those that it needs, each after those that it needs itself."""
     done: Dict[str, Unit] = {}
 
     def visit(it: Global) -> Iterator[Tuple[Global, Unit]]:
-        unit = done[it.key] = writer(library, it.module, it.definition, is_watched).unit()
+        unit = done[it.key] = unit_of(it, writer, library, is_watched)
         for needed in unit.needs:
             if isinstance(needed, Global) and needed.key not in done:
                 yield from visit(needed)
