@@ -155,9 +155,6 @@ module _ (ms : Monitors) (q : List Bool) (pace : Pace) (many : 1 < ms.count) (wi
     mine : Fine q (member_of ms i (lt i qi)) (t.time + pace.clock i) (bound i) R.0.state
     mine = reacted q (bound i) me (shared_entries (t.world.store i)) now (readings_of (t.world.store i)) F.0 came R.0 many from F.2 R.1
 
-    abbrev Good : Timed → ℕ → Type 0
-    Good z j = (qj : has q j ≡ true) → IsSomeAnd (z.world.state j) (Fine q (member_of ms j (lt j qj)) (z.time + pace.clock j) (bound j))
-
     fine_next : (j : ℕ) → (qj : has q j ≡ true) → IsSomeAnd (next.world.state j) (Fine q (member_of ms j (lt j qj)) (next.time + pace.clock j) (bound j))
     fine_next j qj = subst (λ (u : ℕ). IsSomeAnd (next.world.state j) (Fine q (member_of ms j (lt j qj)) (u + pace.clock j) (bound j))) (sym went.time) (elim (cases_eq j i) [
       | inl e ↦ at_i e

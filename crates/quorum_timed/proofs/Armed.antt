@@ -86,9 +86,6 @@ module _ (b now : ℕ) (le : now ≤ b) where
           omega arith
       soon t end h (inr e) = G.soon t end (sym (elsewhere t u ts (Some v) e.1) ∙ h)
 
-  pub armed_once_good : (u : Timer) (ts : Timers) → Good b ts → Good b (armed_once now u ts)
-  armed_once_good u ts G = cond_both (not (is_armed u ts)) (armed now u ts) ts (Good b) (λ _. armed_good u ts G) (λ _. G)
-
 module _ (b : ℕ) where
   pub disarmed_good : (u : Timer) (ts : Timers) → Good b ts → Good b (disarmed u ts)
   disarmed_good u ts G = record { size = length-set ts (index_of u) None ∙ G.size; soon = λ t end h. soon t end h (eqb_tells (index_of t) (index_of u)) }
