@@ -87,6 +87,8 @@ class Comparison:
         """Looks whether the log has shown the whole state of a monitor that ran already when the log began."""
         if is_complete(event):
             shadow.set_to(state_of(self.q, event), now)
+            if event.is_message('LEASE'):
+                shadow.take_lease(now)
         self.skipped['before the state is known'] += 1
 
     def step(self, event: Event, shadow: Shadow, now: int):

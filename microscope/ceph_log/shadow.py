@@ -141,6 +141,10 @@ class Shadow:
             state = proved.changed(state, leader=self.leader(state.d['leader'], phase, quorum, known, now))
         self.state = state
 
+    def take_lease(self, now: int):
+        """Gives a peon a lease from now on."""
+        self.state = proved.changed(self.state, peon=proved.changed(self.state.d['peon'], lease=proved.some(now + LEASE)))
+
     def leader(self, old: Value, phase: str, quorum: tuple, known: Known, now: int) -> Value:
         own = proved.ranks([self.rank])
         value = proved.some(proved.value_of(self.last + 1)) if phase in ('previous', 'updating') else NONE
