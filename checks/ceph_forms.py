@@ -74,11 +74,13 @@ def moved(text, seconds):
 
 
 def clocks_are_measured():
+    from ceph_log.diagnosing import diagnosed
     from ceph_log.quorum import Quorum
     found = texts(SCENARIO)
     with TemporaryDirectory() as folder:
         q = Quorum(put(folder, logs({'a': found['a'], 'b': moved(found['b'], 3.7), 'c': moved(found['c'], -1.2)})))
     equal({rank: round(ahead / 1e6, 2) for rank, ahead in q.skewed.items()}, {1: 3.7, 2: -1.2})
+    equal('clocks differ' in [finding.condition.name for finding in diagnosed(q)], True)
 
 
 def dump_counts_once():

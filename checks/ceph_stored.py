@@ -25,6 +25,10 @@ RULES = {'majority': 'pacific_five', 'rival': 'pacific_uncommitted', 'any_votes'
          'early_answer': 'pacific_first'}
 
 
+# Scenarios in which nothing is wrong.
+CALM = ['pacific_alone', 'pacific_calm', 'pacific_first', 'pacific_lossy', 'pacific_pending_read']
+
+
 def levels_suffice(scenario: str) -> bool:
     return 'levels' not in scenario
 
@@ -99,6 +103,14 @@ def compares_from_the_middle():
         raise Failed(f'{errors}{output}')
 
 
+def conditions_are_named():
+    """Each condition is named in the logs of some scenario, but for clocks that differ, of which there is one on a machine. In calm logs none is."""
+    from ceph_log.conditions import CONDITIONS
+    named = {scenario: [name for name in CONDITIONS if f'\n{name.upper()}: ' in read(LOGS, scenario, 'diagnose.txt').decode()] for scenario in scenarios()}
+    equal({*CONDITIONS} - {name for names in named.values() for name in names}, {'clocks differ'})
+    equal({scenario: named[scenario] for scenario in CALM if named[scenario]}, {})
+
+
 def rows_are_there():
     """Each known difference has a row in docs/CEPH.md, which begins as the difference says."""
     from ceph_log.differences import DIFFERENCES
@@ -107,6 +119,7 @@ def rows_are_there():
 
 
 def checks_of_stored(check):
+    check('each condition is named in some logs, and none in calm ones', conditions_are_named)
     check('each known difference has its row in docs/CEPH.md', rows_are_there)
     for scenario in scenarios():
         for word in WORDS:
