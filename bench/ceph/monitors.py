@@ -28,11 +28,26 @@ admin_socket = {folder}/$name.asok
 run_dir = {folder}
 mon_data = {folder}/mon.$id
 pid_file = {folder}/$name.pid
-mon_allow_pool_delete = true
-mon_warn_on_insecure_global_id_reclaim_allowed = false
-mon_data_avail_warn = 2
-mon_data_avail_crit = 1
 {more}"""
+# The health of a quorum of few monitors on a full disk then doesn't change by itself.
+CALM = 'mon_warn_on_insecure_global_id_reclaim_allowed = false\nmon_data_avail_warn = 2\nmon_data_avail_crit = 1\n'
+
+
+def now() -> str:
+    """The time as logs have it."""
+    return datetime.datetime.now(datetime.timezone.utc).strftime('%Y-%m-%dT%H:%M:%S.%f+0000')
+
+
+def is_still(pid: int) -> bool:
+    """Whether each thread of a process is stopped by a signal, or has ended."""
+    states = []
+    for task in os.listdir(f'/proc/{pid}/task'):
+        try:
+            with open(f'/proc/{pid}/task/{task}/stat', encoding='ascii', errors='replace') as file:
+                states.append(file.read().rpartition(') ')[2][:1])
+        except FileNotFoundError:
+            pass
+    return all(state in 'TtXZ' for state in states)
 
 
 class Late(Exception):
@@ -78,7 +93,7 @@ class Monitors:
     """Monitors named a, b, c .., with ranks in this order. `programs` is the folder of ceph-mon and monmaptool, or empty for those on the path."""
 
     def __init__(self, folder: str, port: int, count: int = 3, more: str = '', levels: str = DETAILED, second: bool = False, apart: bool = False,
-                 programs: str = '', command: tuple[str, ...] = ()):
+                 programs: str = '', command: tuple[str, ...] = (), health: str = CALM):
         self.folder, self.names, self.programs = folder, 'abcdefghijklmno'[:count], programs
         shutil.rmtree(folder, ignore_errors=True)
         os.makedirs(folder)
@@ -90,7 +105,7 @@ class Monitors:
         self.second = second
         self.links = Links(self.ports, port + 2 * count) if apart else None
         self.library = library(folder) if apart else ''
-        self.configure(more + levels)
+        self.configure(health + more + levels)
 
     def path(self, *names: str) -> str:
         return os.path.join(self.folder, *names)
@@ -123,8 +138,7 @@ class Monitors:
     # -- acts
 
     def note(self, text: str):
-        now = datetime.datetime.now(datetime.timezone.utc).strftime('%Y-%m-%dT%H:%M:%S.%f+0000')
-        self.actions.append(f'{now} {text}')
+        self.actions.append(f'{now()} {text}')
 
     def start(self, names: str):
         for name in names:
@@ -148,7 +162,13 @@ class Monitors:
         self.signal(names, signal.SIGKILL)
 
     def pause(self, names: str):
+        """Pauses monitors, and waits until each thread of them stands still: on a busy machine this takes milliseconds."""
         self.signal(names, signal.SIGSTOP)
+        end = time.monotonic() + 10
+        while not all(is_still(self.running[name].pid) for name in names):
+            if time.monotonic() > end:
+                raise Late(f'{names} go on after SIGSTOP')
+            time.sleep(0.0005)
 
     def resume(self, names: str):
         self.signal(names, signal.SIGCONT)
@@ -182,6 +202,11 @@ class Monitors:
             self.clients[at] = Client(self.path(f'client{at}.conf'))
         return self.clients[at]
 
+    def leave(self, at: str = ''):
+        """Ends the client of one monitor, or of all."""
+        if at in self.clients:
+            self.clients.pop(at).end()
+
     def ask(self, at: str = '', **command) -> dict:
         self.note(f'ask {at or "any"}: {json.dumps(command)}')
         client = self.client(at)
@@ -211,6 +236,12 @@ class Monitors:
             return json.loads(done.stdout)
         except (subprocess.SubprocessError, ValueError):
             return {}
+
+    def daemon(self, name: str, *command: str):
+        """Asks a monitor by its admin socket."""
+        self.note(f'admin socket of {name}: {" ".join(command)}')
+        subprocess.run(['ceph', '--admin-daemon', self.path(f'mon.{name}.asok'), *command], check=True, stdout=subprocess.DEVNULL, stderr=subprocess.DEVNULL,
+                       timeout=60)
 
     def until_quorum(self, size: int | None = None, seconds: float = 120):
         """Waits for a quorum of this size, or of all."""
