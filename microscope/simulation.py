@@ -5,7 +5,7 @@ import heapq
 import itertools
 import random
 import re
-from typing import NamedTuple
+from typing import Iterator, NamedTuple
 
 from played import Play, Refused, lines_of, quorum_file
 from copying import Carried, Copying
@@ -14,7 +14,7 @@ from texts import NAMES
 
 # The actions at a time with their forms; and the form of a request, with what comes before its value or text.
 FORMS = {
-    'start': 'start R or start all', 'kill': 'kill R', 'tear': 'tear R DISK CALL IMAGE', 'client': 'client R C ID COMMAND', 'cut': 'cut SIDES, cut A>B,.. or cut -',
+    'start': 'start R or start all', 'kill': 'kill R', 'pause': 'pause R', 'resume': 'resume R', 'fill': 'fill R COUNT EVERY', 'tear': 'tear R DISK CALL IMAGE', 'client': 'client R C ID COMMAND', 'cut': 'cut SIDES, cut A>B,.. or cut -',
     'latency': 'latency L [A>B]', 'loss': 'loss PERCENT [A>B]', 'repeat': 'repeat PERCENT [A>B]', 'delay': 'delay PERCENT L [A>B]',
     'lose': 'lose KIND [A>B] [COUNT]', 'twice': 'twice KIND [A>B] [COUNT]', 'late': 'late KIND L [A>B] [COUNT]',
 }
@@ -91,7 +91,7 @@ class Scenario:
     """The commands of a scenario: its header, its seed, whether messages are sent again, what happens at which time, and its end."""
 
     def __init__(self, lines):
-        self.header, self.seed, self.copies, self.events, self.until = None, 0, False, [], None
+        self.header, self.seed, self.copies, self.events, self.until, self.filled = None, 0, False, [], None, 0
         for number, line in enumerate(lines, 1):
             words = words_of(line)
             if not words:
@@ -143,7 +143,13 @@ class Scenario:
         given = getattr(self, f'of_{name}', self.of_network)(time, name, rest)
         if given is None:
             raise Faulty(f"'{' '.join(words)}' isn't {FORMS[name]}")
-        self.events.append((time, name, given))
+        self.events += self.filling(time, *given) if name == 'fill' else [(time, name, given)]
+
+    def filling(self, time: int, rank: int, count: int, every: int) -> Iterator[tuple[int, str, list]]:
+        """The requests of a `fill`, by client 0."""
+        for number in range(count):
+            self.filled += 1
+            yield time + number * every, 'client', [rank, f'0 {self.filled} set k v{self.filled}']
 
     def rank(self, word: str) -> int:
         return numbered(word, self.monitors - 1, 'rank')
@@ -153,6 +159,11 @@ class Scenario:
 
     def of_kill(self, _time, _name, rest):
         return [self.rank(rest[0])] if len(rest) == 1 else None
+
+    of_pause = of_resume = of_kill
+
+    def of_fill(self, _time, _name, rest):
+        return [self.rank(rest[0]), numbered(rest[1], MOST_EVENTS, 'count', 1), numbered(rest[2], MOST_LATENCY, 'time')] if len(rest) == 3 else None
 
     def of_client(self, time, _name, rest):
         if len(rest) < 4:
@@ -193,8 +204,10 @@ class Simulation:
 
     def __init__(self, scenario: Scenario):
         self.scenario, self.play = scenario, Play(scenario.header)
-        self.schedule, self.marks = [scenario.header], {}
+        self.schedule, self.trace, self.marks = [scenario.header], [scenario.header], {}
         self.now, self.cut, self.dead, self.tears, self.named = 0, set(), set(), {}, []
+        # By paused monitor, what arrived at it since.
+        self.paused: dict[int, list[Carried]] = {}
         # The settings of each link. The key None has those of all other links.
         self.network = {'latency': {None: 1}, 'loss': {None: 0}, 'repeat': {None: 0}, 'delay': {None: (0, 0)}}
         self.chance, self.wire, self.seen, self.order = random.Random(scenario.seed), [], 0, itertools.count()
@@ -251,10 +264,11 @@ class Simulation:
         if not self.play.take(line):
             raise Faulty(f"the definitions refuse '{line}'")
         if before is not None and any(it.startswith('  store ') for it in self.play.trace[at:]):
-            self.play, line = before, f'{self.tears.pop(rank)} {line}'
+            self.play, line, at = before, f'{self.tears.pop(rank)} {line}', 0
             self.play.take(line)
             self.dead.add(rank)
         self.schedule.append(line)
+        self.trace += self.play.trace[at:]
         while self.seen < len(self.world().messages):
             self.seen += 1
             self.send(self.seen)
@@ -264,18 +278,21 @@ class Simulation:
         found = []
         for rank in range(self.play.n):
             state = self.play.state(rank)
-            if rank not in self.dead and state is not None:
+            if rank not in self.dead and rank not in self.paused and state is not None:
                 found += [(timer.args[0], rank, name) for name, timer in zip(TIMERS, state.timers) if timer.args]
         return min(found, default=None)
 
     def next_copies(self):
         """The time at which copies are sent next, and the monitor that sends them."""
-        due = [(self.copying.due(rank), rank) for rank in range(self.play.n) if rank not in self.dead] if self.copying else []
+        due = [(self.copying.due(rank), rank) for rank in range(self.play.n) if rank not in self.dead and rank not in self.paused] if self.copying else []
         return min((it for it in due if it[0] is not None), default=None)
 
     def deliver(self, carried: Carried):
         """A message arrives, or a datagram of one."""
         if carried.to in self.dead:
+            return
+        if carried.to in self.paused:
+            self.paused[carried.to].append(carried)
             return
         is_up, going = self.copying.arrives(self.now, carried) if self.copying else (True, [])
         self.put_all(going)
@@ -286,6 +303,8 @@ class Simulation:
         """Notes a change of the network before the next event, as text."""
         if name == 'cut':
             said = f'cut {rest[1]}' if rest[0] else 'the network is whole'
+        elif name in ('pause', 'resume'):
+            said = f'{name} {rest[0]}'
         elif name in ('lose', 'twice', 'late'):
             it = rest[0]
             said = f'{it.count} {it.kind}{f" {it.link[0]}>{it.link[1]}" if it.link else ""}: {it.what}{f" by {it.later} ms" if it.later else ""}'
@@ -294,17 +313,23 @@ class Simulation:
         self.marks.setdefault(len(self.schedule), []).append(f'{said}, at {self.now} ms')
 
     def act(self, name: str, rest: list):
-        if name in ('cut', 'lose', 'twice', 'late') or name in self.network and self.now > 0:
+        if name in ('cut', 'lose', 'twice', 'late', 'pause', 'resume') or name in self.network and self.now > 0:
             self.mark(name, rest)
         if name == 'start':
             for rank in rest:
                 self.dead.discard(rank)
+                self.paused.pop(rank, None)
                 if self.copying:
                     self.copying.starts(rank)
                 self.take(f'start {rank} {self.now}', rank)
         elif name == 'kill':
             self.take(f'crash a 1 0 timer {rest[0]} step {self.now}', -1)
             self.dead.add(rest[0])
+        elif name == 'pause':
+            self.paused.setdefault(rest[0], [])
+        elif name == 'resume':
+            for carried in self.paused.pop(rest[0], []):
+                heapq.heappush(self.wire, (self.now, next(self.order), carried))
         elif name == 'tear':
             self.tears[rest[0]] = rest[1]
         elif name == 'cut':
@@ -313,7 +338,7 @@ class Simulation:
             self.network[name] = {None: rest[1]} if rest[0] is None else {**self.network[name], rest[0]: rest[1]}
         elif name in ('lose', 'twice', 'late'):
             self.named.append(rest[0])
-        elif rest[0] not in self.dead:
+        elif rest[0] not in self.dead and rest[0] not in self.paused:
             self.take(f'client {rest[0]} {self.now} {rest[1]}', rest[0])
 
     def run(self) -> list[str]:
