@@ -70,7 +70,7 @@ class Looker(threading.Thread):
         self.load, self.rank, self.maps = load, rank, []
 
     def run(self):
-        with self.load.quorum.client(monitor=self.rank, timeout=0.5, patience=0.5, once=True) as client:
+        with self.load.quorum.client(monitor=self.rank, timeout=0.5, patience=0.5, once=True, onward=False) as client:
             while not self.load.ends.wait(self.load.look):
                 began = time.monotonic()
                 try:
@@ -80,20 +80,54 @@ class Looker(threading.Thread):
                 self.maps.append((began, time.monotonic(), found['paxos'], found['map']))
 
 
+class FreshReader(threading.Thread):
+    """A client that makes fresh reads without end. It makes a change of its own, a mark, and then reads `times` times, each time beginning with the next
+    monitor or always with `first`."""
+
+    def __init__(self, load: Load, pause: float, first: int | None, times: int):
+        super().__init__(daemon=True)
+        # When each mark was asked for and answered, and its version; when the mark of each read was asked for and when the read ended, the version that it
+        # showed, and its map.
+        self.load, self.pause, self.first, self.times, self.marks, self.maps = load, pause, first, times, [], []
+
+    def run(self):
+        ranks = len(self.load.quorum.addresses)
+        with self.load.quorum.client(timeout=self.load.timeout, patience=self.load.patience) as client:
+            while self.load.goes_on() and not self.load.ends.wait(self.pause):
+                try:
+                    self.read(client, ranks)
+                except (NotServed, Refused):
+                    pass
+
+    def read(self, client, ranks: int):
+        began = time.monotonic()
+        client.monitor = self.load.asked
+        client.asked = client.asked if self.load.asked is None else self.load.asked
+        version = client.fresh()
+        self.marks.append((began, time.monotonic(), version))
+        client.monitor = None
+        for _ in range(self.times):
+            client.asked = len(self.maps) % ranks if self.first is None else self.first
+            found = client.show('kv')
+            self.maps.append((began, time.monotonic(), found['paxos'], found['map']))
+
+
 class Load:
-    """Setters, each of which pauses after an answer, and a looker for each monitor, which reads every `look` seconds. If `asked` is a rank, all changes are
-    asked of that monitor. With `once` each change is sent once; without it a change is sent to the next monitor after `patience` seconds, until `timeout`."""
+    """Setters, each of which pauses after an answer; a looker for each monitor, which reads every `look` seconds; and `fresh` clients that make fresh reads. If
+    `asked` is a rank, all changes are asked of that monitor. With `once` each change is sent once; without it a change is sent to the next monitor after
+    `patience` seconds, until `timeout`."""
 
     def __init__(self, quorum, clients=3, pause=0.01, octets=0, patience=3.0, asked=None, most=None, seconds=None, name='c', keys=6, removes=False, once=True,
-                 timeout=None, look=0.1):
+                 timeout=None, look=0.1, fresh=1, fresh_pause=1.0, fresh_first=None, fresh_times=1):
         self.quorum, self.pause, self.octets, self.patience, self.asked, self.name = quorum, pause, octets, patience, asked, name
         self.keys, self.removes, self.once, self.timeout, self.look = keys, removes, once, timeout or patience, look
         self.left, self.lock, self.ends = most, threading.Lock(), threading.Event()
         self.end = None if seconds is None else time.monotonic() + seconds
         self.setters = [Setter(self, number) for number in range(clients)]
         self.lookers = [Looker(self, rank) for rank in quorum.ranks()]
+        self.readers = [FreshReader(self, fresh_pause, fresh_first, fresh_times) for _ in range(fresh)]
         self.began = time.monotonic()
-        for each in self.setters + self.lookers:
+        for each in self.setters + self.lookers + self.readers:
             each.start()
 
     def goes_on(self):
@@ -110,7 +144,7 @@ class Load:
 
     def stop(self):
         self.ends.set()
-        for each in self.setters + self.lookers:
+        for each in self.setters + self.lookers + self.readers:
             each.join()
 
     def answered(self):
@@ -147,22 +181,30 @@ class Judge:
             self.known[change.key].append((change.version, change.number, change.removed))
             if change.sure and not change.removed:
                 self.made[change.key][change.number] = max(change.version, self.made[change.key].get(change.number, 0))
-        self.order()
+        self.order(load)
         self.maps([(f'monitor {looker.rank}', paxos, shown) for looker in load.lookers for _, _, paxos, shown in looker.maps])
+        self.maps([('a fresh read', paxos, shown) for reader in load.readers for _, _, paxos, shown in reader.maps])
         self.rises(load.lookers)
         if final is not None:
             self.end(final)
 
-    def order(self):
-        """Each version is the reply to one change, and a change that began after another one's reply has a greater version."""
-        versions = collections.Counter(change.version for change in self.answered)
+    def order(self, load):
+        """Changes and fresh reads are linearizable, in whatever epochs and at whichever monitors: each takes effect after all that was answered before it was
+        asked for. A change takes effect at its version, which is the reply to no other one, and a read after the version that it shows."""
+        changes = [(change.began, change.ended, change.version) for change in self.answered] + [mark for reader in load.readers for mark in reader.marks]
+        fresh = [(began, ended, paxos) for reader in load.readers for began, ended, paxos, _ in reader.maps]
+        shown = [(began, ended, paxos) for looker in load.lookers for began, ended, paxos, _ in looker.maps]
+        versions = collections.Counter(version for _, _, version in changes)
         self.wrong += [f'version {version} is the reply to {count} changes' for version, count in versions.items() if count > 1]
-        events = sorted([(c.began, 1, c.version) for c in self.answered] + [(c.ended, 0, c.version) for c in self.answered])
+        # The places in the log: those of changes are even, and those of reads odd.
+        asked = [(began, 1, 2 * version) for began, _, version in changes] + [(began, 1, 2 * paxos + 1) for began, _, paxos in fresh]
+        answered = [(ended, 0, 2 * version) for _, ended, version in changes] + [(ended, 0, 2 * paxos + 1) for _, ended, paxos in fresh + shown]
         greatest = 0
-        for _, begins, version in events:
-            if begins and version < greatest:
-                self.wrong.append(f'version {version} was asked for after {greatest} was answered')
-            greatest = greatest if begins else max(greatest, version)
+        for _, begins, place in sorted(asked + answered):
+            if begins and place < greatest:
+                what = 'a map of version' if place % 2 else 'version'
+                self.wrong.append(f'{what} {place // 2} was asked for after {greatest // 2} was {"shown" if greatest % 2 else "answered"}')
+            greatest = greatest if begins else max(greatest, place)
 
     def maps(self, seen):
         """Each version has one map, with all changes that were answered up to it and nothing older."""
