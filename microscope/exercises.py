@@ -63,7 +63,7 @@ class Faulty(Exception):
 
 def names(folder: str = FOLDER) -> list[str]:
     """The names of a folder's exercises. Those of this folder come first, the easier before the harder."""
-    order = 'alone two_of_three lease made_twice no_reply retried half_a_write value_lost two_winners old_map catch_up'.split()
+    order = 'alone two_of_three lease made_twice no_reply retried half_a_write value_lost two_winners no_winner overtaken cookie courtesy old_map catch_up'.split()
     found = sorted(name[:-len('.exercise')] for name in os.listdir(folder) if name.endswith('.exercise'))
     return [name for name in order if name in found] + [name for name in found if name not in order]
 
