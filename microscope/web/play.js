@@ -149,15 +149,19 @@ function drawArena() {
   arena.replaceChildren(...lanes, ...nodes, ...marksOf(isCrowd));
 }
 
-// The marks of messages under way. Of each lane the first few have a label. The others, and those that are long overdue, are counted.
+// The marks of messages under way. Of each lane the first few have a label. The others, and those that are long overdue, are counted. The first ones lie above
+// the others.
 function marksOf(isCrowd) {
   const lanes = new Map(), most = isCrowd ? 1 : state.monitors.length > 3 ? 1 : 2;
   for (const it of state.wire.filter(isUnderWay)) lanes.set(`${it.from} ${it.to}`, [...(lanes.get(`${it.from} ${it.to}`) || []), it]);
-  return [...lanes.values()].flatMap(found => {
+  const labels = [], counts = [];
+  for (const found of lanes.values()) {
     const fresh = found.filter(it => it.due + OVERDUE >= state.now), labelled = fresh.slice(0, most), folded = found.length - labelled.length;
     const isLate = fresh.length < found.length;
-    return [...labelled.map((it, nth) => mark(it, nth, isCrowd)), ...(folded ? [foldedMark(found[found.length - 1], folded, isLate)] : [])];
-  });
+    labels.push(...labelled.map((it, nth) => mark(it, nth, isCrowd)));
+    if (folded) counts.push(foldedMark(found[found.length - 1], folded, isLate));
+  }
+  return [...counts, ...labels.reverse()];
 }
 
 // Where a mark lies: at a part of the way from one monitor to another, beside the line.
