@@ -190,10 +190,10 @@ class Comparison:
     def prepare(self, event: Event, end: Event, shadow: Shadow, now: int):
         """Gives the shadow what the log shows only now: a lease for a proposal of the services, and numbers of a log that began later than they were made."""
         if event.kind == 'propose' and shadow.phase() == 'active':
-            leader = shadow.state.d['leader']
-            lease = proved.inside(leader.d['lease'])
-            until = proved.some(now + 1) if lease is None or lease <= now else leader.d['lease']
-            clients = proved.booting(shadow.rank).d['clients']
+            leader = shadow.state.leader
+            lease = proved.inside(leader.lease)
+            until = proved.some(now + 1) if lease is None or lease <= now else leader.lease
+            clients = proved.booting(shadow.rank).clients
             shadow.state = proved.changed(shadow.state, leader=proved.changed(leader, lease=until), clients=clients)
         made = end.get('new_pn')
         if not shadow.are_numbers_known and made is not None:

@@ -12,11 +12,16 @@ from typing import Any, NamedTuple
 sys.path.insert(0, os.path.dirname(os.path.dirname(os.path.abspath(__file__))))
 import played  # noqa: E402
 import rules  # noqa: E402
-from played import Drop, antt, app, run  # noqa: E402
+import loaded  # noqa: E402
+import natives  # noqa: E402
+import texts  # noqa: E402
+from antt import NONE, Made, Map, changed, record, single, some  # noqa: E402
+from played import Drop  # noqa: E402
 
 Value = Any
-NONE: Value = antt.NONE
 MOST = 15
+__all__ = ['MOST', 'NONE', 'RULES', 'Reaction', 'Refused', 'Value', 'applied', 'booting', 'changed', 'con', 'identity', 'inside', 'members', 'number',
+           'phase_of', 'ranks', 'react', 'record', 'rule_of', 'some', 'take_rule', 'text_of', 'timer', 'value_of', 'why_dropped']
 
 
 class Reaction(NamedTuple):
@@ -31,25 +36,12 @@ class Reaction(NamedTuple):
 
 def con(name: str, *arguments: Value) -> Value:
     """A value of an enumeration."""
-    return antt.Con(name, arguments)
-
-
-def record(**fields: Value) -> Value:
-    return antt.Rec(fields)
-
-
-def changed(value: Value, /, **fields: Value) -> Value:
-    """A record with other fields."""
-    return antt.Rec({**value.d, **fields})
-
-
-def some(value: Value) -> Value:
-    return antt.Some(value)
+    return Made(name, *arguments) if arguments else single(name)
 
 
 def inside(value: Value) -> Value | None:
     """What an option has, or None."""
-    return value.a[0] if value.n == 'Some' else None
+    return value.args[0] if value.name == 'Some' else None
 
 
 def ranks(members) -> tuple[bool, ...]:
@@ -64,26 +56,26 @@ def members(bits: Value) -> tuple[int, ...]:
 @functools.lru_cache(maxsize=4096)
 def value_of(version: int) -> Value:
     """A value for a version. The logs don't show its contents, so it is only the same everywhere."""
-    return (antt.Con('Put', (b'x', b'v%d' % version, b'')),)
+    return (Made('Put', b'x', b'v%d' % version, b''),)
 
 
 @functools.lru_cache(maxsize=4096)
 def text_of(version: int) -> bytes:
     """The record of that value in a store."""
-    return run.tx_text(value_of(version))
+    return natives.transaction_text(value_of(version))
 
 
 def number(value: int) -> bytes:
-    return run.u64(value)
+    return value.to_bytes(8, 'little')
 
 
 def booting(rank: int) -> Value:
-    return app(run.fn(run.PR + 'State', 'booting'), rank)
+    return loaded.fn(loaded.PROTOCOL + 'State', 'booting')(rank)
 
 
 def rule_of(text: str) -> Value:
     """The rule of elections: classic, disallow=RANKS or connectivity=RANKS."""
-    return run.rule_of(text)
+    return texts.rule_of(text)
 
 
 def identity(rank: int, monitors: int, rule: str) -> Value:
@@ -91,36 +83,33 @@ def identity(rank: int, monitors: int, rule: str) -> Value:
 
 
 def phase_of(state: Value) -> str:
-    return run.PHASE[state.d['phase'].n]
+    return texts.PHASE[state.phase.name]
 
 
 def timer(name: str) -> Value:
-    return con('Timer', con(run.TIMER[name]))
+    return con('Timer', single(texts.TIMER[name]))
 
 
 def react(me: Value, now: int, store: dict, state: Value, came: Value) -> Reaction:
     """What a monitor does with an input at a time in milliseconds."""
-    antt.DROPS.clear()
-    found = run.reaction(me, now, antt.FinMap(store), state, came)
-    if found.n == 'Err':
-        return Reaction((), [], state, str(found.a[0]))
-    done = found.a[0].d
-    sends = [(run.NAMES[send.a[1].d['body'].n], send.a[0], send.a[1].d['epoch'], send.a[1].d['body'].a) for send in done['sends']
-             if len(send.a) == 2 and isinstance(send.a[1], antt.Rec) and 'body' in send.a[1].d]
-    return Reaction(done['transaction'], sends, done['state'], answers=len(done['sends']) - len(sends))
+    loaded.drops().clear()
+    found = loaded.reaction(me, now, Map(dict(store)), state, came)
+    if found.name == 'Err':
+        return Reaction((), [], state, str(found.args[0]))
+    done = found.args[0]
+    sends = [(texts.NAMES[message.body.name], to, message.epoch, message.body.args)
+             for to, message in (send.args for send in done.sends if send.name == 'Message')]
+    return Reaction(done.transaction, sends, done.state, answers=len(done.sends) - len(sends))
 
 
 def applied(operations: tuple, store: dict) -> dict:
     """A store after these operations."""
-    after = dict(store)
-    for operation in operations:
-        run.app_in(operation, after)
-    return after
+    return dict(natives.apply(operations, Map(dict(store))).entries)
 
 
 def why_dropped() -> list[str]:
     """Why rows dropped the last input, or did no more with it."""
-    return [str(Drop(*drop)) for drop in dict.fromkeys(antt.DROPS)]
+    return [str(Drop(*drop)) for drop in dict.fromkeys(loaded.drops())]
 
 
 def take_rule(name: str | None):
@@ -128,9 +117,10 @@ def take_rule(name: str | None):
     value_of.cache_clear()
     text_of.cache_clear()
     if name is None:
-        run.reload()
+        loaded.load()
     else:
-        run.reload(rules.named(name).changes)
+        rule = rules.named(name)
+        loaded.load(rule.changes, rule.constants)
 
 
 Refused = played.Refused

@@ -56,7 +56,7 @@ class Inputs:
         if not shadow.is_connected():
             return proved.con('Propose', NONE)
         sender = self.shadows.get(event.message.sender, shadow)
-        return proved.con('Propose', proved.some(sender.state.d['elector'].d['scores']))
+        return proved.con('Propose', proved.some(sender.state.elector.scores))
 
     def of_victory(self, event: Event, fields: dict, shadow: Shadow) -> Value:
         win = event.sent.event.get('win') if event.sent is not None and event.sent.event is not None else None
@@ -97,16 +97,16 @@ class Inputs:
         return self.cookies.get(fields.get('cookie') or '', proved.record(**FIRST_COOKIE))
 
     def of_cookie(self, event: Event, fields: dict, shadow: Shadow) -> Value:
-        return proved.con('Cookie', shadow.state.d['requester'].d['full'], self.cookie(fields), fields['last'] or 0)
+        return proved.con('Cookie', shadow.state.requester.full, self.cookie(fields), fields['last'] or 0)
 
     def of_get_chunk(self, event: Event, fields: dict, shadow: Shadow) -> Value:
         theirs = self.shadows.get(event.message.sender)
-        place = theirs.state.d['requester'].d['place'] if theirs else proved.record(version=0, key=proved.con('Start'))
+        place = theirs.state.requester.place if theirs else proved.record(version=0, key=proved.con('Start'))
         return proved.con('GetChunk', self.cookie(fields), place)
 
     def records(self, fields: dict, shadow: Shadow) -> tuple[Value, tuple]:
-        place = shadow.state.d['requester'].d['place']
-        return place, tuple(map(proved.value_of, range(place.d['version'] + 1, (fields['last'] or 0) + 1)))
+        place = shadow.state.requester.place
+        return place, tuple(map(proved.value_of, range(place.version + 1, (fields['last'] or 0) + 1)))
 
     def of_chunk(self, event: Event, fields: dict, shadow: Shadow) -> Value:
         place, records = self.records(fields, shadow)

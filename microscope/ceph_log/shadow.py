@@ -27,7 +27,7 @@ class Shadow:
 
     def is_connected(self) -> bool:
         """Whether its rule of elections compares scores."""
-        return self.me.d['rule'].n == 'Connectivity'
+        return self.me.rule.name == 'Connectivity'
 
     # -- the store
 
@@ -78,7 +78,7 @@ class Shadow:
         """When its lease ends, in milliseconds."""
         phase = self.phase()
         part = 'peon' if phase == 'peon' else 'leader' if phase in LEADS else None
-        return proved.inside(self.state.d[part].d['lease']) if part else None
+        return proved.inside(getattr(self.state, part).lease) if part else None
 
     # -- what the log shows
 
@@ -119,11 +119,11 @@ class Shadow:
     def follows_another(self, known: Known) -> bool:
         if self.phase() != 'peon' or known.phase() != 'peon' or known.leader is None or not known.quorum:
             return False
-        peon = self.state.d['peon'].d
-        return peon['leader'] != known.leader or proved.members(peon['quorum']) != known.quorum
+        peon = self.state.peon
+        return peon.leader != known.leader or proved.members(peon.quorum) != known.quorum
 
     def leads_others(self, known: Known) -> bool:
-        return bool(known.quorum) and self.phase() in LEADS and known.phase() in LEADS and proved.members(self.state.d['leader'].d['quorum']) != known.quorum
+        return bool(known.quorum) and self.phase() in LEADS and known.phase() in LEADS and proved.members(self.state.leader.quorum) != known.quorum
 
     def enter(self, phase: str, known: Known, now: int):
         """Puts the shadow into a phase, as far as a log shows what belongs to it."""
@@ -133,17 +133,17 @@ class Shadow:
         if phase == 'probing':
             state = proved.changed(state, prober=proved.record(outside=proved.ranks([self.rank])))
         elif phase == 'electing':
-            elector = proved.changed(state.d['elector'], candidate=True, acked=proved.ranks([self.rank]), deferred=NONE)
+            elector = proved.changed(state.elector, candidate=True, acked=proved.ranks([self.rank]), deferred=NONE)
             state = proved.changed(state, elector=elector)
         elif phase == 'peon':
             state = proved.changed(state, peon=proved.record(leader=known.leader or 0, quorum=quorum, lease=NONE))
         elif phase in LEADS:
-            state = proved.changed(state, leader=self.leader(state.d['leader'], phase, quorum, known, now))
+            state = proved.changed(state, leader=self.leader(state.leader, phase, quorum, known, now))
         self.state = state
 
     def take_lease(self, now: int):
         """Gives a peon a lease from now on."""
-        self.state = proved.changed(self.state, peon=proved.changed(self.state.d['peon'], lease=proved.some(now + LEASE)))
+        self.state = proved.changed(self.state, peon=proved.changed(self.state.peon, lease=proved.some(now + LEASE)))
 
     def leader(self, old: Value, phase: str, quorum: tuple, known: Known, now: int) -> Value:
         own = proved.ranks([self.rank])

@@ -50,7 +50,7 @@ def fields_of(kind: str, epoch: int, body: tuple) -> dict:
         return {'quorum': ','.join(map(str, proved.members(body[0]))) or '-', 'first': body[1], 'last': body[2]}
     if kind == 'LAST':
         pending = proved.inside(body[6])
-        return {'pn': body[0], 'first': body[1], 'last': body[2], 'pending': pending.d['pn'] if pending is not None else 0}
+        return {'pn': body[0], 'first': body[1], 'last': body[2], 'pending': pending.pn if pending is not None else 0}
     if kind == 'COMMIT':
         return {'v': body[0] + len(body[1]) - 1}
     return dict(zip(FIELDS.get(kind, ()), body))
