@@ -204,7 +204,7 @@ explained() {
         [[ $argument != -* ]] || { printf "'%s' begins with a hyphen, which no argument does" "$argument"; return; }
         [ ${#argument} -le 4096 ] || { printf 'an argument is longer than 4096 bytes'; return; }
     done
-    [ -n "${FORMS[$1]+is there}" ] || { printf "'%s' is no command" "$1"; return; }
+    [ -n "${FORMS[$1]+is there}" ] || { printf "'%s' is no command: the commands are %s" "$1" "${COMMAND_NAMES[*]}"; return; }
     read -ra names <<<"${FORMS[$1]}"
     [ ${#names[@]} = $(($# - 1)) ] || {
         case ${#names[@]} in
