@@ -17,9 +17,9 @@ usage: tools/client.py [--config FILE] [--monitor R] [--timeout SECONDS] [--once
     watch SERVICE [VERSION]   prints the map, and then each change as it is made, until it is stopped; with VERSION, the changes after it
 
 ADDRESSES are the addresses of all monitors in order of rank, as the monitors have them: 127.0.0.1:4000,127.0.0.1:4001,127.0.0.1:4002.
-Without ADDRESSES the client takes them from the file of the quorum: the one that --config names, or /etc/cephmon/quorum.ini. A monitor drops a request
-that names another number of monitors, and the client then reports that. If a monitor is silent, Busy, Unavailable or NotReadable, the next one is asked,
-until one serves the request or the timeout ends. The options stand before ADDRESSES and COMMAND. A KEY, VALUE or TEXT that begins with a hyphen
+Without ADDRESSES the client takes them from the file of the quorum: the one that --config or else CEPHMON_CONFIG names, or /etc/cephmon/quorum.ini. A
+monitor drops a request that names another number of monitors, and the client then reports that. If a monitor is silent, Busy, Unavailable or NotReadable,
+the next one is asked, until one serves the request or the timeout ends. The options stand before ADDRESSES and COMMAND. A KEY, VALUE or TEXT that begins with a hyphen
 stands after `--`, as in `set -- -key value`.
 
 An answer is one line of JSON, except with --raw. The status is

@@ -18,6 +18,7 @@ from __future__ import annotations
 
 import configparser
 import json
+import os
 import re
 import socket
 from typing import NamedTuple
@@ -26,8 +27,9 @@ from wire import MOST_MONITORS, MOST_QUORUM_NAME
 
 # The longest argument of the program, in bytes.
 MOST_ARGUMENT = 4_096
-# The file of an installed quorum.
-DEFAULT = '/etc/cephmon/quorum.ini'
+# The file that tools take if none is named: that of an installed quorum, unless this variable of the environment names another one.
+CONFIG = 'CEPHMON_CONFIG'
+DEFAULT = os.environ.get(CONFIG) or '/etc/cephmon/quorum.ini'
 NAMES = ['addresses', 'name', 'rule', 'folder', 'program']
 # The environment variable from which the program takes the name of its quorum. Without it the name is empty.
 VARIABLE = 'CEPHMON_QUORUM'
