@@ -1,13 +1,11 @@
 -- A leader's acts, elections and new beginnings, as `Saying` has them.
 use Rattle.election_rules.specs.Ranking.{allows}
-use Rattle.election_rules.specs.declared.scores.Scores.{Scores}
 use Rattle.log_model.proofs.Records.{run_from_length}
 use Rattle.mon_bytes.specs.declared.command.Command.{Command}
 use Rattle.mon_msg.proofs.Runs.{longest_is}
 use Rattle.mon_msg.specs.Protocol.Changes.{Change, Numbers}
 use Rattle.mon_msg.specs.Protocol.Collecting.{begin_found, collect, collect_with, commits_to, commits_with, missed, reign, settle}
 use Rattle.mon_msg.specs.Protocol.Course.{Course}
-use Rattle.mon_msg.specs.Protocol.Elections.{is_allowed, may_defer, stands_before, weigh}
 use Rattle.mon_msg.specs.Protocol.Entering.{bootstrap, elect, in_next_epoch, in_odd_epoch, is_even, next_even, own_table, win}
 use Rattle.mon_msg.specs.Protocol.Leading.{be_active, begin, begin_alone, begin_with, extend, is_alone}
 use Rattle.mon_msg.specs.Protocol.Learning.{learn}
@@ -42,7 +40,7 @@ use Rattle.quorum_walk.proofs.Walk.{Then, and_then, by_test, done, where_fits}
 use Rattle.std.proofs.Common.{Bool, List, None, Ok, Option, Some, [], ap, arith, eqb, inl, inr, length, length-append, ltb, map, max, not, refl, subst, suc, sym, true, ℕ, ◌&&◌, ◌++◌, ◌-◌, ◌<◌, ◌∙◌, ◌∷◌, ◌≡◌, ◌≤◌}
 use Rattle.std.proofs.lemmas.Bool.{cond_both, ltb-false, ltb-true}
 use Rattle.std.specs.List.{AllByRecursion, flat_map}
-use Rattle.std.specs.Prelude.{is_some, slice_index_or}
+use Rattle.std.specs.Prelude.{slice_index_or}
 
 module _ (me : Me) (now : ℕ) (w : Readings) (s : State) (came : Input) (From : ℕ → Command → Origin → Type 0) (Routed : (f e seq : ℕ) → Reply → Type 0) (Voted : (f pn v : ℕ) → Type 0) where
   abbrev Outcome : Course → Type 0
@@ -189,8 +187,3 @@ module _ (me : Me) (now : ℕ) (w : Readings) (s : State) (came : Input) (From :
   pub wins : (q : List Bool) (x : Course) → epoch_of x.readings ≡ epoch_of w → AllPlain x.out → Then Outcome (win me now q x)
   unfolding win
   wins q x e O = and_then (Next x) Outcome (in_next_epoch x) _ (next_epoch x O) (λ y P. reigns q y (inr (inl (let n = P.epoch in omega arith))) P.out)
-
-  pub weighs : (table : Scores) (f : ℕ) (x : Course) → AllPlain x.out → LeadAt x → Then Outcome (weigh me now table f x)
-  weighs table f x O L =
-      by_test (is_allowed me f && stands_before me table f me.member.rank) (λ _. by_test (may_defer me table f x.state.elector.deferred) (λ _. quiet _ (more x.out (message_to me (epoch_of x.readings) body.Ack f ∷ []) O (tt, tt)) L) (λ _. quiet x O L))
-      (λ _. by_test (not (is_some x.state.elector.deferred) && not x.state.elector.candidate) (λ _. elects x O) (λ _. quiet x O L))

@@ -2,7 +2,6 @@ pub mod Replies
 pub mod Ordering
 pub mod Saying
 pub mod Leading
-pub mod Hearing
 pub mod Rows
 pub mod Event
 pub mod Own

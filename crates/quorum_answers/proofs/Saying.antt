@@ -319,18 +319,30 @@ module _ (me : Me) (now : ℕ) (w : Readings) (s : State) (came : Input) (From :
 
   -- ---- small steps
 
+  pub all_says : (p : Phase) (e v : ℕ) (out : List Sent) → AllByRecursion IsAnswer out → AllByRecursion (SaysSent p e v) out
+  all_says p e v out k = all_map IsAnswer (SaysSent p e v) (answer_says p e v) out k
+
   all_say : (y : Course) → AllByRecursion IsAnswer y.out → AllByRecursion (SaysSent y.state.phase (epoch_of y.readings) y.readings.last) y.out
-  all_say y k = all_map IsAnswer _ (answer_says y.state.phase (epoch_of y.readings) y.readings.last) y.out k
+  all_say y k = all_says y.state.phase (epoch_of y.readings) y.readings.last y.out k
 
   plain_calm : (x : Sent) → IsPlain x → NoRefusal x
   plain_calm (sent.Message to m) k = tt
   plain_calm (sent.Reply t r) k = k
 
-  pub quiet : (y : Course) → AllPlain y.out → LeadAt y → Then Outcome (Ok y)
-  quiet y out lead = done (inl (record { out = all_say y (all_map IsPlain IsAnswer plain_answers y.out out); calm = inl (all_map IsPlain NoRefusal plain_calm y.out out); lead = lead }))
+  pub all_answers : (out : List Sent) → AllPlain out → AllByRecursion IsAnswer out
+  all_answers out k = all_map IsPlain IsAnswer plain_answers out k
 
-  pub answers : (y : Course) → AllByRecursion IsAnswer y.out → epoch_of y.readings ≡ epoch_of w → LeadAt y → Then Outcome (Ok y)
-  answers y out same lead = done (inl (record { out = all_say y out; calm = inr same; lead = lead }))
+  pub all_plain_calm : (out : List Sent) → AllPlain out → AllByRecursion NoRefusal out
+  all_plain_calm out k = all_map IsPlain NoRefusal plain_calm out k
+
+  pub quietly : (y : Course) → AllPlain y.out → LeadAt y → Outcome y
+  quietly y out lead = inl (record { out = all_say y (all_answers y.out out); calm = inl (all_plain_calm y.out out); lead = lead })
+
+  pub quiet : (y : Course) → AllPlain y.out → LeadAt y → Then Outcome (Ok y)
+  quiet y out lead = done (quietly y out lead)
+
+  pub answered : (y : Course) → AllByRecursion IsAnswer y.out → epoch_of y.readings ≡ epoch_of w → LeadAt y → Outcome y
+  answered y out same lead = inl (record { out = all_say y out; calm = inr same; lead = lead })
 
   pub to_each : (e : ℕ) (b : Body) → ((to : ℕ) → IsPlainBody to e b) → (tos : List ℕ) → AllPlain (map (message_to me e b) tos)
   to_each e b k tos = all_of IsPlain (message_to me e b) k tos
@@ -344,6 +356,20 @@ module _ (me : Me) (now : ℕ) (w : Readings) (s : State) (came : Input) (From :
   pub gathers_more : (cs more : List Change) (e : ℕ) → Gathers cs e → Gathers (cs ++ more) e
   gathers_more cs more e (inl k) = inl (k.0, same_more cs more e k.1)
   gathers_more cs more e (inr k) = inr k
+
+  goes_more : (cs more : List Change) (e v : ℕ) → Goes cs e v → Goes (cs ++ more) e v
+  goes_more cs more e v (inl k) = inl (k.0, same_more cs more e k.1, k.2)
+  goes_more cs more e v (inr (inl k)) = inr (inl (gathers_more cs more e k))
+  goes_more cs more e v (inr (inr k)) = inr (inr (record { epoch = same_more cs more e k.epoch; last = k.last; in_phase = k.in_phase; voter = k.voter; voted = k.voted; whole = k.whole }))
+
+  -- what else is written, if it changes neither the epoch nor the last version
+  pub lead_more : (p : Phase) (cs more : List Change) (e v : ℕ) (z : Option ℕ) → Lead p cs e v z → Lead p (cs ++ more) e v z
+  lead_more phase.Collecting cs more e v z k = gathers_more cs more e k
+  lead_more phase.Previous cs more e v z k = gathers_more cs more e k
+  lead_more phase.Active cs more e v z k = goes_more cs more e v k
+  lead_more phase.Updating cs more e v z k = goes_more cs more e v k
+  lead_more phase.Peon cs more e v z k = λ t. let l = k t in record { peon = l.peon; epoch = same_more cs more e l.epoch; how = l.how }
+  lead_more other cs more e v z k = tt
 
   pub peon_lead : (p : Phase) (cs : List Change) (e v : ℕ) (z : Option ℕ) → is_peon p ≡ true → (is_some z ≡ true → Leased cs e v) → Lead p cs e v z
   peon_lead p cs e v z t k = subst (λ (q : Phase). Lead q cs e v z) (sym (peon_is_peon p t)) k

@@ -20,6 +20,7 @@ use Rattle.mon_msg.specs.declared.clients.Clients.{Clients}
 use Rattle.mon_msg.specs.declared.input.Input.TheVariants as input
 use Rattle.mon_msg.specs.declared.input.Input.{Input}
 use Rattle.mon_msg.specs.declared.plan.Origin.TheVariants as origin
+use Rattle.mon_msg.specs.declared.plan.Origin.{Origin}
 use Rattle.mon_msg.specs.declared.plan.Sent.TheVariants as sent
 use Rattle.mon_msg.specs.declared.plan.Sent.{Sent}
 use Rattle.mon_msg.specs.declared.synchronization.SyncStage.TheVariants as sync
@@ -31,17 +32,18 @@ use Rattle.mon_wire.specs.declared.phase.Phase.TheVariants as phase
 use Rattle.mon_wire.specs.declared.phase.Phase.{Phase}
 use Rattle.mon_wire.specs.declared.phase.Timer.TheVariants as timer
 use Rattle.mon_wire.specs.declared.phase.Timer.{Timer}
+use Rattle.mon_wire.specs.declared.reply.Reply.TheVariants as reply
 use Rattle.mon_wire.specs.declared.reply.Reply.{Reply}
 use Rattle.mon_wire.specs.declared.request.Session.{Session}
 use Rattle.quorum_commands.proofs.Sends.{HandsNone}
 use Rattle.quorum_commands.specs.Unmade.{AcknowledgesNone}
 use Rattle.quorum_history.proofs.Phases.{no}
-use Rattle.std.proofs.Common.{Bool, List, None, Some, [], ap, arith, eqb, false, inl, inr, ltb, map, not, refl, subst, suc, sym, true, ℕ, ◌++◌, ◌+◌, ◌-◌, ◌<◌, ◌∙◌, ◌∷◌, ◌≡◌, ◌⊎◌}
+use Rattle.std.proofs.Common.{Bool, List, None, Option, Some, [], ap, arith, eqb, false, inl, inr, ltb, map, not, refl, subst, suc, sym, true, ℕ, ◌++◌, ◌<◌, ◌∙◌, ◌∷◌, ◌≡◌, ◌⊎◌}
 use Rattle.std.proofs.lemmas.Bool.{cond_both, eqb-false, eqb-true, not-true}
 use Rattle.std.specs.List.{AllByRecursion, filter}
 use Rattle.table_walk.proofs.Acts.{acts_of}
 use Rattle.table_walk.proofs.Lists.{Among, all_append, all_map, all_of}
-use Rattle.table_walk.proofs.Steps.{CommandOf, FoundOf, HeardFrom, HeardLast, InHand, MayAnswer, MayCopy, MayLead, MayLearn, MaySay, MaySend, MayWrite, Nothing, ReadOf, Steps, ValueOf, accepted_by_all, alone, brought, chosen, copied_chunk, copied_last_chunk, from_chunk, from_commit, from_last, from_last_chunk, leads_still, learned_value, only_member, origin_of, stood}
+use Rattle.table_walk.proofs.Steps.{ActSteps, FoundOf, HeardFrom, HeardLast, InHand, IsOwn, MayAnswer, MayCopy, MayLead, MayLearn, MayRaise, MaySay, MaySend, MayTell, MayWrite, Nothing, Steps, ValueOf, accepted_by_all, alone, brought, chosen, copied_chunk, copied_last_chunk, from_chunk, from_commit, from_last, from_last_chunk, leads_still, only_member, stood, unserved}
 use Rattle.table_walk.proofs.Table.{walked}
 use Rattle.table_walk.proofs.Walk.{Then, and_three}
 
@@ -175,31 +177,44 @@ module _ (me : Me) (now : ℕ) (w : Readings) (s : State) (Settled : Session →
     copies_none values entries (copied_chunk C) = several C
     copies_none values entries (copied_last_chunk C) = several C
 
-    writes_idle : (x : Course) (c : Change) → MayWrite me s came c → IdleIn x → IdleIn (change c x)
-    writes_idle x (Epoch e) k A = reads (play (Epoch e) x.readings) A.last A
-    writes_idle x (Numbers pn) k A = reads (play (Numbers pn) x.readings) A.last A
+    raises_idle : (x : Course) (c : Change) → MayRaise me came c → IdleIn x → IdleIn (change c x)
+    raises_idle x (Epoch e) k A = reads (play (Epoch e) x.readings) A.last A
+    raises_idle x (Numbers pn) k A = reads (play (Numbers pn) x.readings) A.last A
+    raises_idle x other k A = absurd k
+
+    writes_idle : (x : Course) (c : Change) → MayWrite me s came x c → IdleIn x → IdleIn (change c x)
     writes_idle x (Promise pn) k A = reads (play (Promise pn) x.readings) A.last A
     writes_idle x Unmark k A = reads (play Unmark x.readings) A.last A
     writes_idle x (Last v) k A = reads (play (Last v) x.readings) (λ a. absurd (a.replays k.1.0 v k.0 k.1.1)) A
     writes_idle x other k A = absurd k
 
-    says_fair : (h : InHand) (x : Course) (m : Body) → MaySay me shared h x m → HandsNone m
-    says_fair h x (body.Forward seq c) k = absurd k
-    says_fair h x (body.Route seq r) k = absurd k
-    says_fair h x other k = tt
+    says_fair : (x : Course) (m : Body) → MaySay me shared x m → HandsNone m
+    says_fair x (body.Forward seq c) k = absurd k
+    says_fair x (body.Route seq r) k = absurd k
+    says_fair x other k = tt
 
-    sends_fair : (h : InHand) (x : Course) (m : Sent) → MaySend me shared h x m → IsFair m
-    sends_fair h x (sent.Message to m) k = says_fair h x m.body k.2
-    sends_fair h x (sent.Reply t r) k = absurd k
+    sends_fair : (x : Course) (m : Sent) → MaySend me shared x m → IsFair m
+    sends_fair x (sent.Message to m) k = says_fair x m.body k.2
+    sends_fair x (sent.Reply t r) k = absurd k
 
-    answers_fair : (e : ℕ) (x : Course) (h : InHand) (r : Reply) → MayAnswer me now x h r → HandIdle h → AllFair (answers_to me e (origin_of h) r)
-    answers_fair e x (ValueOf value None) r (learned_value v) k = tt
-    answers_fair e x (ValueOf value (Some (origin.Session u))) r (learned_value v) k = ((λ z. absurd z), tt)
-    answers_fair e x (ValueOf value (Some (origin.Forwarded f seq))) r (learned_value v) k = ((λ z. z), tt)
-    answers_fair e x (CommandOf c o) r a k = absurd k
-    answers_fair e x (ReadOf u) r a k = absurd k
-    answers_fair e x (FoundOf found) r a k = tt
-    answers_fair e x Nothing r a k = tt
+    told_fair : (h : InHand) (x : Course) (m : Body) → MayTell me h x m → HandsNone m
+    told_fair h x (body.Forward seq c) k = absurd k
+    told_fair h x (body.Route seq r) k = absurd k
+    told_fair h x other k = tt
+
+    tells_fair : (h : InHand) (x : Course) (m : Sent) → IsOwn me x (MayTell me h x) m → IsFair m
+    tells_fair h x (sent.Message to m) k = told_fair h x m.body k.2
+    tells_fair h x (sent.Reply t r) k = absurd k
+
+    -- nothing that is in hand is answered
+    asked_none : (x : Course) {h : InHand} {r : Reply} → MayAnswer me now w s x h r → HandIdle h → ⊥
+    asked_none x (unserved t) k = k
+    asked_none x other k = k
+
+    acknowledged_fair : (e : ℕ) (o : Option Origin) (v : ℕ) → AllFair (answers_to me e o (reply.Done v))
+    acknowledged_fair e None v = tt
+    acknowledged_fair e (Some (origin.Session u)) v = ((λ z. absurd z), tt)
+    acknowledged_fair e (Some (origin.Forwarded f seq)) v = ((λ z. z), tt)
 
     leads_so : (x : Course) → MayLead me w s x → IdleIn x → Leads x.state.clients
     leads_so x (leads_still t) A = A.leads t
@@ -229,26 +244,17 @@ module _ (me : Me) (now : ℕ) (w : Readings) (s : State) (Settled : Session →
     rest = record { out = tt; clients = inl (refl, refl); leads = λ t. inl (t, (refl, refl)); last = λ a. (a.none, refl) }
 
     idling : Steps me now shared w s came Goes Idle
-    unfolding full_sync begin_with
+    unfolding full_sync
     idling = record {
       before = λ k. (rest, brings_none came none);
-      boots = λ is boots short. (reads (play (Boot (suc w.boot)) w) rest.last rest, tt);
       after = λ {x = x} A. idle x A.0;
       marks = λ f C why A. record { out = (tt, tt); clients = inl (refl, refl); leads = λ t. no t; last = λ a. absurd (several C a) };
       answers_probe = λ f e A. says _ (tt, tt);
-      proposes = λ {x = x} z value o short leads A. record {
-        out = all_append IsFair x.out _ A.0.out (all_of IsFair (message_to me (epoch_of x.readings) (body.Begin x.state.leader.pn (suc x.readings.last) value)) (λ to. tt) (members me x.state.leader.quorum));
-        clients = A.0.clients;
-        leads = λ t. A.0.leads leads;
-        last = λ a. (A.0.last a).1;
-      };
       votes = λ {x = x} f e pn v value C t A. record { out = all_append IsFair x.out (message_to me (epoch_of x.readings) (body.Accept pn v) f ∷ []) A.0.out (tt, tt); clients = A.0.clients; leads = A.0.leads; last = λ a. absurd (several C a) };
       writes = λ {x = x} c k A. (writes_idle x c k A.0, A.1);
-      learns = λ {x = x} v value values k short A. (reads _ (λ a. absurd (learns_none (value ∷ values) k A.1 a)) A.0, A.1);
       replays = λ left v end values t z e A. (reads _ (λ a. absurd (a.replays v end t z)) A.0, tt);
-      copies = λ v values entries k A. (reads _ (λ a. absurd (copies_none values entries k a)) A.0, A.1);
-      sends = λ {h = h} {x = x} more k A. (sends more (all_map (MaySend me shared h x) IsFair (sends_fair h x) more k) A.0, A.1);
-      enters = λ {x = x} p k A. (record { out = A.0.out; clients = A.0.clients; leads = λ t. leads_so x (k t) A.0; last = A.0.last }, A.1);
+      copies = λ v values entries t k A. (reads _ (λ a. absurd (copies_none values entries k a)) A.0, A.1);
+      sends = λ {x = x} more k A. (sends more (all_map (MaySend me shared x) IsFair (sends_fair x) more k) A.0, A.1);
       timers = λ ts A. A;
       elector = λ e A. A;
       prober = λ p A. A;
@@ -257,20 +263,38 @@ module _ (me : Me) (now : ℕ) (w : Readings) (s : State) (Settled : Session →
       requester = λ q k A. A;
       leader = λ l A. A;
       finds = λ l k A. A;
-      collects = λ q pn short A. A;
-      forgets = λ k A. (record { out = A.0.out; clients = inr refl; leads = λ t. no (sym k ∙ t); last = A.0.last }, A.1);
       takes_queued = λ q qs e is due A. no (sym none ∙ ap brings is);
       takes_forwarded = λ f e seq c C new A. absurd (forwards_none C);
-      takes_found = λ {x = x} how A. (A.0, found_none x how A.0);
-      takes_value = λ value C e A. (A.0, several C);
       makes_value = λ c o ops short e active A. absurd A.1;
-      proposes_found = λ found A. (A.0, λ a. let bad = A.1 a in absurd cc);
-      drops_found = λ found A. (A.0, tt);
       queues = λ c o short A. absurd A.1;
       forwards = λ c u peon short fits A. absurd A.1;
       routes = λ f e seq r C t A. record { out = routes_fair f e seq r C t; clients = inl (refl, refl); leads = λ z. inl (z, (refl, refl)); last = λ a. refl };
-      answers = λ {x = x} h r k A. idle _ (sends (answers_to me (epoch_of x.readings) (origin_of h) r) (answers_fair (epoch_of x.readings) x h r k A.1) A.0);
+      answers = λ {x = x} h r k A. absurd (asked_none x k A.1);
+    }
+
+    idling_within : ActSteps me now shared w s came Goes Idle
+    unfolding begin_with
+    idling_within = record {
+      boots = λ is boots short. (reads (play (Boot (suc w.boot)) w) rest.last rest, tt);
+      raises = λ {x = x} c k A. (raises_idle x c k A.0, A.1);
+      learns = λ {x = x} v value values k short A. (reads _ (λ a. absurd (learns_none (value ∷ values) k A.1 a)) A.0, A.1);
+      proposes = λ {x = x} z value o short leads A. record {
+        out = all_append IsFair x.out _ A.0.out (all_of IsFair (message_to me (epoch_of x.readings) (body.Begin x.state.leader.pn (suc x.readings.last) value)) (λ to. tt) (members me x.state.leader.quorum));
+        clients = A.0.clients;
+        leads = λ t. A.0.leads leads;
+        last = λ a. (A.0.last a).1;
+      };
+      tells = λ {h = h} {x = x} more k A. (sends more (all_map (IsOwn me x (MayTell me h x)) IsFair (tells_fair h x) more k) A.0, A.1);
+      leads = λ l A. A;
+      enters = λ {x = x} p k A. (record { out = A.0.out; clients = A.0.clients; leads = λ t. leads_so x (k t) A.0; last = A.0.last }, A.1);
+      collects = λ q pn short A. A;
+      forgets = λ k A. (record { out = A.0.out; clients = inr refl; leads = λ t. no (sym k ∙ t); last = A.0.last }, A.1);
+      takes_found = λ {x = x} how A. (A.0, found_none x how A.0);
+      takes_value = λ value C e A. (A.0, several C);
+      proposes_found = λ found A. (A.0, λ a. let bad = A.1 a in absurd cc);
+      drops_found = λ found A. (A.0, tt);
+      acknowledges = λ {x = x} v value o A. idle _ (sends (answers_to me (epoch_of x.readings) o (reply.Done v)) (acknowledged_fair (epoch_of x.readings) o v) A.0);
     }
 
     pub idles : Then Idle (react me shared now w s came)
-    idles = walked idling (acts_of idling)
+    idles = walked idling (acts_of idling idling_within)

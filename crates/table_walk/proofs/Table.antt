@@ -1,35 +1,38 @@
 -- The whole table, walked once: what a law shows of each step holds of every event.
 use Rattle.mon_bytes.specs.declared.entry.Entry.{Entry}
-use Rattle.mon_msg.specs.Protocol.Changes.{Epoch}
-use Rattle.mon_msg.specs.Protocol.Course.{Course, change_if, disarm}
+use Rattle.mon_msg.specs.Protocol.Course.{Course, disarm}
 use Rattle.mon_msg.specs.Protocol.Hearing.{hear, is_heard}
-use Rattle.mon_msg.specs.Protocol.Phases.{same_phase}
+use Rattle.mon_msg.specs.Protocol.Phases.{is_member, same_phase}
 use Rattle.mon_msg.specs.Protocol.Probing.{hear_probe, hear_probe_reply, lag}
 use Rattle.mon_msg.specs.Protocol.Readings.{Readings}
 use Rattle.mon_msg.specs.Protocol.Sending.{reply_to}
 use Rattle.mon_msg.specs.Protocol.State.{State}
-use Rattle.mon_msg.specs.Protocol.Table.{at_rest, before_start, first_elector, react, running, start, timer_comes}
+use Rattle.mon_msg.specs.Protocol.Table.{at_rest, before_start, react, running, timer_comes}
 use Rattle.mon_msg.specs.Protocol.Timers.{end_of}
 use Rattle.mon_msg.specs.Protocol.Value.{value}
 use Rattle.mon_msg.specs.declared.input.Input.TheVariants as input
 use Rattle.mon_msg.specs.declared.input.Input.{Input}
 use Rattle.mon_msg.specs.declared.view.Me.{Me}
 use Rattle.mon_types.specs.Ranks.{count_of, is_majority, with_rank}
-use Rattle.mon_types.specs.declared.names.Which.TheVariants as which
 use Rattle.mon_wire.specs.declared.body.Body.TheVariants as body
 use Rattle.mon_wire.specs.declared.body.Body.{Body}
 use Rattle.mon_wire.specs.declared.phase.Phase.TheVariants as phase
+use Rattle.mon_wire.specs.declared.phase.Phase.{Phase}
 use Rattle.mon_wire.specs.declared.phase.Timer.TheVariants as timer
 use Rattle.mon_wire.specs.declared.phase.Timer.{Timer}
 use Rattle.mon_wire.specs.declared.reply.Reply.TheVariants as reply
 use Rattle.mon_wire.specs.declared.request.Request.TheVariants as request
 use Rattle.mon_wire.specs.declared.request.Request.{Request}
-use Rattle.std.proofs.Common.{Bool, List, Ok, arith, false, inl, inr, is_some, leb, ltb, not, refl, suc, true, ℕ, ◌&&◌, ◌+◌, ◌≡◌}
+use Rattle.std.proofs.Common.{Bool, List, Ok, false, inl, inr, is_some, leb, ltb, not, refl, true, ℕ, ◌&&◌, ◌+◌, ◌≡◌}
 use Rattle.std.proofs.lemmas.Bool.{and_parts, ltb-true}
-use Rattle.table_walk.proofs.Acts.{Acts, disarms, ends, keeps}
+use Rattle.table_walk.proofs.Acts.{Acts, disarms, ends}
 use Rattle.table_walk.proofs.Rows.{accepted, acked, begin_heard, chunk_asked, chunk_heard, client_asked, collected, committed, cookie_heard, due, election_over, forwarded, full_asked, last_chunk_heard, lasts_heard, lease_acked, leased, lost, no_cookie_heard, ping_answered, pinged, pings, proposed, recent_asked, renewed, routed, steps}
-use Rattle.table_walk.proofs.Steps.{HeardFrom, InHand, LacksVersions, Nothing, ReadOf, Steps, asked_by, brought, counted, unread, unserved}
-use Rattle.table_walk.proofs.Walk.{Then, by_test, done, where_fits}
+use Rattle.table_walk.proofs.Steps.{HeardFrom, InHand, LacksVersions, Nothing, ReadOf, Steps, asked_by, brought, unread, unserved}
+use Rattle.table_walk.proofs.Walk.{Then, by_test, done}
+
+booting_serves : (p : Phase) → same_phase p phase.Booting ≡ true → is_member p ≡ false
+booting_serves phase.Booting t = refl
+booting_serves other t = absurd cc
 
 module _ {me : Me} {now : ℕ} {shared : List Entry} {w : Readings} {s : State} {came : Input} {P : InHand → Course → Type 0} {Q : Course → Type 0} (b : Steps me now shared w s came P Q) (a : Acts me now shared w s came P Q) where
   -- ---- the two rows of probing
@@ -93,26 +96,18 @@ module _ {me : Me} {now : ℕ} {shared : List Entry} {w : Readings} {s : State} 
   rung timer.Propose is A = due b a is A
   rung timer.Ping is A = pings b a A
 
-  starts : came ≡ input.Start → same_phase s.phase phase.Booting ≡ true → Then Q (start me now (at_rest w s))
-  unfolding start
-  starts is boots = where_fits Q which.Boot (suc w.boot) _ (λ short. a.bootstraps (b.timers _ (b.elector (first_elector me now (suc w.boot) s.elector) (first (not (is_some w.epoch)) (b.boots is boots short)))))
-    where
-      first : {x : Course} (t : Bool) → P Nothing x → P Nothing (change_if t (Epoch 1) x)
-      first true A = b.writes (Epoch 1) (counted (omega arith)) A
-      first false A = keeps b A
-
   unstarted : (c : Input) → came ≡ c → same_phase s.phase phase.Booting ≡ true → ((c ≡ input.Start → ⊥) → P (brought c) (at_rest w s)) → Then Q (before_start me now c (at_rest w s))
-  unstarted input.Start is boots A = starts is boots
+  unstarted input.Start is boots A = a.starts is boots
   unstarted (input.Deliver m) is boots A = ends b (A (λ e. cc))
   unstarted (input.Timer t) is boots A = ends b (A (λ e. cc))
   unstarted (input.Client u r) is boots A = by r (A (λ e. cc))
     where
       by : (r : Request) → P (asked_by r u) (at_rest w s) → Then Q (Ok (reply_to u reply.Unavailable (at_rest w s)))
-      by (request.Set key value) A = done (b.answers (asked_by (request.Set key value) u) reply.Unavailable unserved A)
-      by (request.Remove key) A = done (b.answers (asked_by (request.Remove key) u) reply.Unavailable unserved A)
-      by (request.Log text) A = done (b.answers (asked_by (request.Log text) u) reply.Unavailable unserved A)
-      by (request.Show v) A = done (b.answers (ReadOf u) reply.Unavailable unread A)
-      by (request.Since v n) A = done (b.answers (ReadOf u) reply.Unavailable unread A)
+      by (request.Set key value) A = done (b.answers (asked_by (request.Set key value) u) reply.Unavailable (unserved (booting_serves s.phase boots)) A)
+      by (request.Remove key) A = done (b.answers (asked_by (request.Remove key) u) reply.Unavailable (unserved (booting_serves s.phase boots)) A)
+      by (request.Log text) A = done (b.answers (asked_by (request.Log text) u) reply.Unavailable (unserved (booting_serves s.phase boots)) A)
+      by (request.Show v) A = done (b.answers (ReadOf u (request.Show v)) reply.Unavailable (unread (booting_serves s.phase boots)) A)
+      by (request.Since v n) A = done (b.answers (ReadOf u (request.Since v n)) reply.Unavailable (unread (booting_serves s.phase boots)) A)
 
   runs : (c : Input) → came ≡ c → P (brought c) (at_rest w s) → Then Q (running me shared now c (at_rest w s))
   runs input.Start is A = ends b A
