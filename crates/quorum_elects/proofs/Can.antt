@@ -5,7 +5,7 @@ use Rattle.mon_bytes.specs.declared.command.Command.{Command}
 use Rattle.mon_types.specs.Ranks.{has}
 use Rattle.mon_wire.specs.declared.message.Message.{Message}
 use Rattle.mon_wire.specs.declared.request.Session.{Session}
-use Rattle.quorum_elects.specs.Ways.{AreSteps, IsStep, OthersRest}
+use Rattle.quorum_elects.specs.Ways.{AreSteps, Clock, IsStep, OthersRest}
 use Rattle.quorum_model.proofs.Continuing.{at, ran_on}
 use Rattle.quorum_model.specs.Events.{AllFit}
 use Rattle.quorum_model.specs.Happens.{Stop, happens}
@@ -50,8 +50,8 @@ new_added sent w next more e is le a =
     record { index = r.index; since = (let s = r.since in omega arith); there = subst (λ (l : List Envelope). slice_get l r.index ≡ Some e) (sym is) r.there }
 
 -- that one of q gets it is a step
-pub new_step : {sent : ℕ} {w : World} {i : ℕ} {m : Message} (q : List Bool) (asks : Option (Session × Command)) (N : New sent w (record { to = i; message = m })) → has q i ≡ true → IsStep q sent asks w (Arrives (Deliver (suc N.index) 0))
-new_step q asks N inside = ((let z = N.since in omega arith), subst (λ (o : Option Envelope). IsSomeAnd o (λ e. has q e.to ≡ true)) (sym N.there) inside)
+pub new_step : {sent : ℕ} {w : World} {i : ℕ} {m : Message} (q : List Bool) (asks : Option (Session × Command)) (clock : Clock) (N : New sent w (record { to = i; message = m })) → has q i ≡ true → IsStep q sent asks clock w (Arrives (Deliver (suc N.index) (clock.event w)))
+new_step q asks clock N inside = (refl, (let z = N.since in omega arith), subst (λ (o : Option Envelope). IsSomeAnd o (λ e. has q e.to ≡ true)) (sym N.there) inside)
 
 -- ---- runs of some events and then others
 
@@ -72,9 +72,9 @@ unfolding ran_from
 run_stays ms w v e = ap (λ (r : Ran). r.world) e
 
 -- steps and then further steps
-pub steps_append : (ms : Monitors) (q : List Bool) (sent : ℕ) (asks : Option (Session × Command)) (w v : World) (xs ys : List Event) → AreSteps ms q sent asks w xs → ran_from ms w xs ≡ at v → AreSteps ms q sent asks v ys → AreSteps ms q sent asks w (xs ++ ys)
-steps_append ms q sent asks w v [] ys a e b = subst (λ (u : World). AreSteps ms q sent asks u ys) (sym (run_stays ms w v e)) b
-steps_append ms q sent asks w v (x ∷ xs) ys a e b = (a.0, steps_append ms q sent asks (run_from ms w (x ∷ [])) v xs ys a.1 (run_splits ms w v (x ∷ []) xs e) b)
+pub steps_append : (ms : Monitors) (q : List Bool) (sent : ℕ) (asks : Option (Session × Command)) (clock : Clock) (w v : World) (xs ys : List Event) → AreSteps ms q sent asks clock w xs → ran_from ms w xs ≡ at v → AreSteps ms q sent asks clock v ys → AreSteps ms q sent asks clock w (xs ++ ys)
+steps_append ms q sent asks clock w v [] ys a e b = subst (λ (u : World). AreSteps ms q sent asks clock u ys) (sym (run_stays ms w v e)) b
+steps_append ms q sent asks clock w v (x ∷ xs) ys a e b = (a.0, steps_append ms q sent asks clock (run_from ms w (x ∷ [])) v xs ys a.1 (run_splits ms w v (x ∷ []) xs e) b)
 
 -- ---- worlds that a run reaches
 
@@ -88,12 +88,13 @@ pub reached_holds : (ms : Monitors) (several : 1 < ms.count) (w : World) → Rea
 reached_holds ms several w R = subst (Holds ms several) (ap (λ (r : Ran). r.world) R.is) (held ms several R.events R.fit)
 
 -- The scope of further events: each is a step of the monitors of q after the first `sent` messages of a run of ms, and
--- the only request is `asks`.
+-- the only request is `asks`. They come at the times of a clock.
 pub record Scope : Type 0 where
   pub ms : Monitors
   pub q : List Bool
   pub sent : ℕ
   pub asks : Option (Session × Command)
+  pub clock : Clock
 
 -- a world from which they go on: a run reaches it, and the stores of q have no long value
 pub record Sane (S : Scope) (w : World) : Type 0 where
@@ -146,7 +147,7 @@ module _ (S : Scope) where
   pub record Can (most : ℕ) (P : World → Type 0) (w : World) : Type 0 where
     pub events : List Event
     pub few : length events ≤ most
-    pub steps : AreSteps S.ms S.q S.sent S.asks w events
+    pub steps : AreSteps S.ms S.q S.sent S.asks S.clock w events
     pub next : World
     pub goes : ran_from S.ms w events ≡ at next
     pub onward : Onward w next
@@ -169,7 +170,7 @@ module _ (S : Scope) where
       record {
         events = C.events ++ D.events;
         few = (let a = C.few in let b = D.few in let s = length-append C.events D.events in omega arith);
-        steps = steps_append S.ms S.q S.sent S.asks w C.next C.events D.events C.steps C.goes D.steps;
+        steps = steps_append S.ms S.q S.sent S.asks S.clock w C.next C.events D.events C.steps C.goes D.steps;
         next = D.next;
         goes = ran_on S.ms w C.next C.events D.events C.goes ∙ D.goes;
         onward = onward_on w C.next D.next C.onward D.onward;

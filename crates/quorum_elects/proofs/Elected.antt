@@ -21,7 +21,7 @@ use Rattle.quorum_elects.specs.Electing.{election, chosen_leader}
 use Rattle.quorum_elects.specs.Leading.{HasLeader}
 use Rattle.quorum_elects.specs.Plans.{PlannedWay}
 use Rattle.quorum_elects.specs.Ready.{AllNear, IsReady, LacksAtMost}
-use Rattle.quorum_elects.specs.Ways.{HasWay, OthersRest}
+use Rattle.quorum_elects.specs.Ways.{Clock, HasWay, OthersRest}
 use Rattle.quorum_laws.specs.Accepting.{IsMajorityOf, readings_at}
 use Rattle.quorum_model.proofs.Continuing.{at, ran_on}
 use Rattle.quorum_model.specs.Events.{AllFit}
@@ -145,16 +145,16 @@ module _ (G : Majority) where
 -- ---- the law
 
 -- what monitors of a set can do after a run is a way on
-module _ (ms : Monitors) (events : List Event) (there : ran ms events ≡ at (run ms events)) (q : List Bool) (below : (i : ℕ) → has q i ≡ true → i < ms.count) (asks : Option (Session × Command)) where
+module _ (ms : Monitors) (events : List Event) (there : ran ms events ≡ at (run ms events)) (q : List Bool) (below : (i : ℕ) → has q i ≡ true → i < ms.count) (asks : Option (Session × Command)) (clock : Clock) where
   abbrev Them : Scope
-  Them = record { ms = ms; q = q; sent = length (run ms events).messages; asks = asks }
+  Them = record { ms = ms; q = q; sent = length (run ms events).messages; asks = asks; clock = clock }
 
-  unfoldable pub way_on : AsksFit asks → (most : ℕ) (P : World → World → Type 0) → Can Them most (P (run ms events)) (run ms events) → HasWay ms events q asks most P
+  unfoldable pub way_on : AsksFit asks → (most : ℕ) (P : World → World → Type 0) → Can Them most (P (run ms events)) (run ms events) → HasWay ms events q asks clock most P
   way_on fits most P C = record {
     more = C.events;
     few = C.few;
     steps = C.steps;
-    fits = steps_fit ms q (length (run ms events).messages) below asks fits (run ms events) C.events C.steps;
+    fits = steps_fit ms q (length (run ms events).messages) below asks fits clock (run ms events) C.events C.steps;
     goes_on = ap (λ (r : Ran). r.stop) further;
     rest = subst (λ (r : Ran). OthersRest q (run ms events) r.world) (sym further) (let o = C.onward in o.rest);
     leads = subst (λ (r : Ran). P (run ms events) r.world) (sym further) C.there;
@@ -165,7 +165,7 @@ module _ (ms : Monitors) (events : List Event) (there : ran ms events ≡ at (ru
 
 -- a majority of a run, near its log and ready
 module _ (ms : Monitors) (several : 1 < ms.count) (events : List Event) (F : AllFit ms.count events) (on : (ran ms events).stop ≡ None) (q : List Bool) (M : IsMajorityOf ms.count q) (near : (i : ℕ) → has q i ≡ true → LacksAtMost 1 (run ms events) i) (ready : IsReady ms q (run ms events))
-    (asks : Option (Session × Command)) where
+    (asks : Option (Session × Command)) (clock : Clock) where
   abbrev w0 : World
   w0 = run ms events
 
@@ -182,6 +182,7 @@ module _ (ms : Monitors) (several : 1 < ms.count) (events : List Event) (F : All
     q = q;
     major = M;
     asks = asks;
+    clock = clock;
     from = run ms events;
     c = length (run ms events).log;
     close = λ f h. near_close ms (run ms events) holds.0 holds.1 f (M.below f h) (near f h);
@@ -196,23 +197,23 @@ module _ (ms : Monitors) (several : 1 < ms.count) (events : List Event) (F : All
   }
 
   -- what they can do is a way on
-  unfoldable pub way : AsksFit asks → (most : ℕ) (P : World → World → Type 0) → Can (scope the_majority) most (P (run ms events)) (run ms events) → HasWay ms events q asks most P
-  way fits most P C = way_on ms events there q M.below asks fits most P C
+  unfoldable pub way : AsksFit asks → (most : ℕ) (P : World → World → Type 0) → Can (scope the_majority) most (P (run ms events)) (run ms events) → HasWay ms events q asks clock most P
+  way fits most P C = way_on ms events there q M.below asks clock fits most P C
 
 -- and its events follow the plan
 pub elects_by : (ms : Monitors) → 1 < ms.count → (events : List Event) → AllFit ms.count events → (ran ms events).stop ≡ None
     → (q : List Bool) → IsMajorityOf ms.count q → AllNear q (run ms events) → IsReady ms q (run ms events)
-    → PlannedWay ms events q None (election ms q) (2 * ms.count * ms.count + 4 * ms.count + 2) (HasLeader ms.count q)
+    → (clock : Clock) → PlannedWay ms events q None clock (election ms q) (2 * ms.count * ms.count + 4 * ms.count + 2) (HasLeader ms.count q)
 unfolding way way_on has_leader_by
-elects_by ms several events F on q M near ready =
+elects_by ms several events F on q M near ready clock =
     let lacks : (i : ℕ) → has q i ≡ true → LacksAtMost 1 (run ms events) i = λ i h. near_lacks (run ms events) i (near i h) in
-    let P = has_leader_by (the_majority ms several events F on q M lacks ready None) ready.leader ready.among ready.may_lead (its_sane ms several events F on q M lacks ready None) in
-    record { way = way ms several events F on q M lacks ready None tt (2 * ms.count * ms.count + 4 * ms.count + 2) (HasLeader ms.count q) P.can; follows = P.follow }
+    let P = has_leader_by (the_majority ms several events F on q M lacks ready None clock) ready.leader ready.among ready.may_lead (its_sane ms several events F on q M lacks ready None clock) in
+    record { way = way ms several events F on q M lacks ready None clock tt (2 * ms.count * ms.count + 4 * ms.count + 2) (HasLeader ms.count q) P.can; follows = P.follow }
 
 pub elects : (ms : Monitors) → 1 < ms.count → (events : List Event) → AllFit ms.count events → (ran ms events).stop ≡ None
     → (q : List Bool) → IsMajorityOf ms.count q → AllNear q (run ms events) → IsReady ms q (run ms events)
-    → HasWay ms events q None (2 * ms.count * ms.count + 4 * ms.count + 2) (HasLeader ms.count q)
-elects ms several events F on q M all_near ready =
+    → (clock : Clock) → HasWay ms events q None clock (2 * ms.count * ms.count + 4 * ms.count + 2) (HasLeader ms.count q)
+elects ms several events F on q M all_near ready clock =
     let near : (i : ℕ) → has q i ≡ true → LacksAtMost 1 (run ms events) i = λ i h. near_lacks (run ms events) i (all_near i h) in
-    way ms several events F on q M near ready None tt (2 * ms.count * ms.count + 4 * ms.count + 2) (HasLeader ms.count q)
-    (has_leader (the_majority ms several events F on q M near ready None) ready.leader ready.among ready.may_lead (its_sane ms several events F on q M near ready None))
+    way ms several events F on q M near ready None clock tt (2 * ms.count * ms.count + 4 * ms.count + 2) (HasLeader ms.count q)
+    (has_leader (the_majority ms several events F on q M near ready None clock) ready.leader ready.among ready.may_lead (its_sane ms several events F on q M near ready None clock))

@@ -9,6 +9,7 @@ use Rattle.quorum_elects.proofs.Ranking.{IsBefore}
 use Rattle.quorum_elects.proofs.Rows.{odd_from}
 use Rattle.quorum_elects.proofs.Standing.{Close}
 use Rattle.quorum_elects.specs.Ready.{NumbersHaveRoom}
+use Rattle.quorum_elects.specs.Ways.{Clock}
 use Rattle.quorum_laws.specs.Accepting.{IsMajorityOf, readings_at}
 use Rattle.quorum_model.specs.Monitors.{Monitors}
 use Rattle.quorum_model.specs.World.{World}
@@ -21,13 +22,14 @@ pub record Majority : Type 0 where
   pub q : List Bool
   pub major : IsMajorityOf ms.count q
   pub asks : Option (Session × Command)
+  pub clock : Clock
   pub from : World
   pub c : ℕ
   pub close : (f : ℕ) → has q f ≡ true → Close c (readings_at from f)
   pub numbers : (f : ℕ) → has q f ≡ true → NumbersHaveRoom (readings_at from f)
 
 abbrev pub scope : Majority → Scope
-scope G = record { ms = G.ms; q = G.q; sent = length G.from.messages; asks = G.asks }
+scope G = record { ms = G.ms; q = G.q; sent = length G.from.messages; asks = G.asks; clock = G.clock }
 
 -- the epoch that a monitor has there
 abbrev pub epoch_at : Majority → ℕ → ℕ

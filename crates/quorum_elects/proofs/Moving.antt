@@ -139,7 +139,7 @@ module _ (S : Scope) where
     pub is : can.events ≡ Arrives p ∷ []
 
   module _ (w : World) (sane : Sane S w) (p : Plain) (i : ℕ) (lt : ltb i S.ms.count ≡ true) (now : ℕ) (came : Input) (s : State)
-      (a : arrival w p ≡ Some (record { rank = i; at = now; input = came })) (c : state_at i (w.state i) came ≡ Some s) (allowed : IsStep S.q S.sent S.asks w (Arrives p)) (inside : has S.q i ≡ true)
+      (a : arrival w p ≡ Some (record { rank = i; at = now; input = came })) (c : state_at i (w.state i) came ≡ Some s) (allowed : IsStep S.q S.sent S.asks S.clock w (Arrives p)) (inside : has S.q i ≡ true)
       (fits : PlainFits S.ms.count p) (R : Course → Type 0) where
     abbrev reacted : Result Course Which
     reacted = react (member_of S.ms i lt) (shared_entries (w.store i)) now (readings_of (w.store i)) s came

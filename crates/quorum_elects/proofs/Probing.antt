@@ -110,7 +110,7 @@ module _ (G : Majority) where
       skip : has q k ≡ false → Started (suc k) w
       skip out = record { room = K.room; done = λ f low h. elim (up_to f k low) [ inl e ↦ absurd (false≢true (sym out ∙ subst (λ (x : ℕ). has q x ≡ true) e h)) | inr less ↦ K.done f less h ]; left = λ f high h. K.left f (omega arith) h }
 
-      after : (there : has q k ≡ true) (v : World) → On w v → Did Us (Starts ms several c k (lt_of k there) (shared_entries (w.store k)) 0 (e0 k)) w k v → Started (suc k) v
+      after : (there : has q k ≡ true) (v : World) → On w v → Did Us (Starts ms several c k (lt_of k there) (shared_entries (w.store k)) (G.clock.event w) (e0 k)) w k v → Started (suc k) v
       after there v o D = record { room = o.sane K.room; done = λ f low h. elim (up_to f k low) [ inl e ↦ subst (λ (x : ℕ). Waits x v) (sym e) new | inr less ↦ old f less h ]; left = λ f high h. (D.moved.others f (λ e. omega arith)).1 ∙ K.left f (omega arith) h }
         where
           new : Waits k v
@@ -121,13 +121,13 @@ module _ (G : Majority) where
 
       by : (has q k ≡ true) ⊎ (has q k ≡ false) → Plays Us (electing.starts q k ∷ []) 1 (Started (suc k)) w
       by (inr out) = passes Us (electing.starts q k) (otherwise _ _ (has q k) out) (skip out)
-      by (inl there) = step Us (electing.starts q k) (plans.Starts k ∷ []) (chosen _ _ (has q k) there) (does_weaker Us (omega arith) (after there) (start Us w K.room k (lt_of k there) there (Starts ms several c k (lt_of k there) (shared_entries (w.store k)) 0 (e0 k)) (subst (λ (m : Store). Starting m) (sym (K.left k (omega arith) there)) first)))
+      by (inl there) = step Us (electing.starts q k) (plans.Starts k ∷ []) (chosen _ _ (has q k) there) (does_weaker Us (omega arith) (after there) (start Us w K.room k (lt_of k there) there (Starts ms several c k (lt_of k there) (shared_entries (w.store k)) (G.clock.event w) (e0 k)) (subst (λ (m : Store). Starting m) (sym (K.left k (omega arith) there)) first)))
         where
           Starting : Store → Type 0
-          Starting m = Surely (λ y. Sound (readings_of m) y × Starts ms several c k (lt_of k there) (shared_entries m) 0 (e0 k) y) (react (member_of ms k (lt_of k there)) (shared_entries m) 0 (readings_of m) (booting k) input.Start)
+          Starting m = Surely (λ y. Sound (readings_of m) y × Starts ms several c k (lt_of k there) (shared_entries m) (G.clock.event w) (e0 k) y) (react (member_of ms k (lt_of k there)) (shared_entries m) (G.clock.event w) (readings_of m) (booting k) input.Start)
 
           first : Starting (G.from.store k)
-          first = let N = G.numbers k there in let e = N.epoch in starts ms several c k (lt_of k there) (shared_entries (G.from.store k)) 0 (readings_at G.from k) (G.close k there) (N.number, N.promise) N.boot (omega arith)
+          first = let N = G.numbers k there in let e = N.epoch in starts ms several c k (lt_of k there) (shared_entries (G.from.store k)) (G.clock.event w) (readings_at G.from k) (G.close k there) (N.number, N.promise) N.boot (omega arith)
 
   -- ---- each asks the others, and becomes a candidate
 
@@ -196,10 +196,10 @@ module _ (G : Majority) where
     asks_one j w lt ne there P H T =
         let m = H.probes j lt ne in
         does_weaker Us (omega arith) after
-        (deliver Us w P.room j (lt_of j there) there (Answers ms several c j (lt_of j there) (shared_entries (w.store j)) 0 (readings_at w j) T.state k) (letter n k m.0 body.Probe) m.1 T.state T.up
-        (probed ms several c j (lt_of j there) (shared_entries (w.store j)) 0 (readings_at w j) T.state k m.0 (λ e. ne (sym e)) (let C = T.close in C.unmarked) T.runs))
+        (deliver Us w P.room j (lt_of j there) there (Answers ms several c j (lt_of j there) (shared_entries (w.store j)) (G.clock.event w) (readings_at w j) T.state k) (letter n k m.0 body.Probe) m.1 T.state T.up
+        (probed ms several c j (lt_of j there) (shared_entries (w.store j)) (G.clock.event w) (readings_at w j) T.state k m.0 (λ e. ne (sym e)) (let C = T.close in C.unmarked) T.runs))
       where
-        after : (v : World) → On w v → Did Us (Answers ms several c j (lt_of j there) (shared_entries (w.store j)) 0 (readings_at w j) T.state k) w j v → Answered j w v
+        after : (v : World) → On w v → Did Us (Answers ms several c j (lt_of j there) (shared_entries (w.store j)) (G.clock.event w) (readings_at w j) T.state k) w j v → Answered j w v
         after v o D = record {
           close = T.close;
           at = D.did.at;
@@ -238,8 +238,8 @@ module _ (G : Majority) where
     hears_one : (j : ℕ) (w0 w : World) → j < n → (j ≡ k → ⊥) → (there : has q j ≡ true) → Answered j w0 w → HubWaits k j w → Does Us (plans.Hears k j kind.ProbeReply ∷ []) 1 (Probing k (suc j)) w
     hears_one j w0 w lt ne there A H =
         does_weaker Us (omega arith) after
-        (deliver Us w P.room k (lt_of k mine) mine (Hears ms several c k (lt_of k mine) (shared_entries (w.store k)) 0 (e0 k) H.outside j) (letter n j A.at (body.ProbeReply A.quorum A.first A.last)) A.waits W.state W.up
-        (replied ms several c k (lt_of k mine) (shared_entries (w.store k)) 0 (readings_at w k) W.state (e0 k) H.outside W.holds j A.at A.quorum A.first A.last (readings_at w0 j).marked ne close))
+        (deliver Us w P.room k (lt_of k mine) mine (Hears ms several c k (lt_of k mine) (shared_entries (w.store k)) (G.clock.event w) (e0 k) H.outside j) (letter n j A.at (body.ProbeReply A.quorum A.first A.last)) A.waits W.state W.up
+        (replied ms several c k (lt_of k mine) (shared_entries (w.store k)) (G.clock.event w) (readings_at w k) W.state (e0 k) H.outside W.holds j A.at A.quorum A.first A.last (readings_at w0 j).marked ne close))
       where
         P : Probing k j w
         P = A.probing
@@ -250,7 +250,7 @@ module _ (G : Majority) where
         close : CloseAt c (readings_at w0 j).marked A.first A.last
         close = subst (λ (x : ℕ). CloseAt c (readings_at w0 j).marked x A.last) A.first_is (subst (λ (x : ℕ). CloseAt c (readings_at w0 j).marked (readings_at w0 j).first x) A.last_is A.close)
 
-        after : (v : World) → On w v → Did Us (Hears ms several c k (lt_of k mine) (shared_entries (w.store k)) 0 (e0 k) H.outside j) w k v → Probing k (suc j) v
+        after : (v : World) → On w v → Did Us (Hears ms several c k (lt_of k mine) (shared_entries (w.store k)) (G.clock.event w) (e0 k) H.outside j) w k v → Probing k (suc j) v
         after v o D = record {
           room = o.sane P.room;
           done = λ f low h. stands_stay w v f o (D.moved.others f (λ e. omega arith)) (P.done f low h);
@@ -258,7 +258,7 @@ module _ (G : Majority) where
           hub = by D.did;
         }
           where
-            by : Hears ms several c k (lt_of k mine) (shared_entries (w.store k)) 0 (e0 k) H.outside j D.y → Stands k v ⊎ HubWaits k (suc j) v
+            by : Hears ms several c k (lt_of k mine) (shared_entries (w.store k)) (G.clock.event w) (e0 k) H.outside j D.y → Stands k v ⊎ HubWaits k (suc j) v
             by (inl E) = inl (is_now Us (IsCandidate c (odd_from (e0 k)) (only k)) w v k D.y D.moved E.stands, record { table = E.table; fits = E.fits; full = E.full; sent_to = λ g low other. D.moved.says g (letter n k (odd_from (e0 k)) (body.Propose E.table)) (E.says g low other) })
             by (inr E) = inr (record {
               outside = with_rank H.outside j;

@@ -18,7 +18,7 @@ use Rattle.quorum_elects.proofs.Planning.{Does}
 use Rattle.quorum_elects.proofs.Standing.{Is}
 use Rattle.quorum_elects.proofs.Walking.{Surely}
 use Rattle.quorum_elects.specs.Plans.{ArePlanned, Asks, Hears, IsPlanned, Planned, Rings, Starts}
-use Rattle.quorum_elects.specs.Ways.{AreSteps, IsAskedBy, IsStep}
+use Rattle.quorum_elects.specs.Ways.{AreSteps, Clock, IsAskedBy, IsStep}
 use Rattle.quorum_model.proofs.Members.{member_of}
 use Rattle.quorum_model.specs.CalmSchedule.{request_of}
 use Rattle.quorum_model.specs.Events.{AllFit, PlainFits, RequestFits}
@@ -41,37 +41,37 @@ is_now S R w next i y M h = record { state = y.state; up = M.up; holds = subst (
 -- ---- events
 
 module _ (S : Scope) (w : World) (sane : Sane S w) (i : ℕ) (lt : ltb i S.ms.count ≡ true) (inside : has S.q i ≡ true) (R : Course → Type 0) where
-  first : (p : Planned) (es : List Event) (e : Event) → es ≡ e ∷ [] → IsPlanned w p e → ArePlanned S.ms w (p ∷ []) es
-  first p es e is planned = subst (λ (l : List Event). ArePlanned S.ms w (p ∷ []) l) (sym is) (planned, refl)
+  first : (p : Planned) (es : List Event) (e : Event) → es ≡ e ∷ [] → IsPlanned S.clock w p e → ArePlanned S.ms S.clock w (p ∷ []) es
+  first p es e is planned = subst (λ (l : List Event). ArePlanned S.ms S.clock w (p ∷ []) l) (sym is) (planned, refl)
 
-  pub start : Surely (λ y. Sound (readings_of (w.store i)) y × R y) (react (member_of S.ms i lt) (shared_entries (w.store i)) 0 (readings_of (w.store i)) (booting i) input.Start)
+  pub start : Surely (λ y. Sound (readings_of (w.store i)) y × R y) (react (member_of S.ms i lt) (shared_entries (w.store i)) (S.clock.event w) (readings_of (w.store i)) (booting i) input.Start)
       → Does S (Starts i ∷ []) 1 (Did S R w i) w
-  start T = let D = comes_by S w sane (Start i 0) i lt 0 input.Start (booting i) refl refl inside inside (ltb-true i S.ms.count lt) R T in record { can = D.can; are = first (Starts i) D.can.events (Arrives (Start i 0)) D.is refl }
+  start T = let D = comes_by S w sane (Start i (S.clock.event w)) i lt (S.clock.event w) input.Start (booting i) refl refl (refl, inside) inside (ltb-true i S.ms.count lt) R T in record { can = D.can; are = first (Starts i) D.can.events (Arrives (Start i (S.clock.event w))) D.is refl }
 
   pub deliver : (m : Message) → New S.sent w (record { to = i; message = m }) → (s : State) → w.state i ≡ Some s
-      → Surely (λ y. Sound (readings_of (w.store i)) y × R y) (react (member_of S.ms i lt) (shared_entries (w.store i)) 0 (readings_of (w.store i)) s (input.Deliver m))
+      → Surely (λ y. Sound (readings_of (w.store i)) y × R y) (react (member_of S.ms i lt) (shared_entries (w.store i)) (S.clock.event w) (readings_of (w.store i)) s (input.Deliver m))
       → Does S (Hears i m.from (kind_in m.body) ∷ []) 1 (Did S R w i) w
   deliver m N s up T =
-      let D = comes_by S w sane (Deliver (suc N.index) 0) i lt 0 (input.Deliver m) s (ap (option_map arrives) N.there) up (new_step S.q S.asks N inside) inside tt R T in
+      let D = comes_by S w sane (Deliver (suc N.index) (S.clock.event w)) i lt (S.clock.event w) (input.Deliver m) s (ap (option_map arrives) N.there) up (new_step S.q S.asks S.clock N inside) inside tt R T in
       record {
         can = D.can;
-        are = first (Hears i m.from (kind_in m.body)) D.can.events (Arrives (Deliver (suc N.index) 0)) D.is (record { number = suc N.index; is = refl; envelope = record { to = i; message = m }; there = N.there; to = refl; sender = refl; kind_is = refl });
+        are = first (Hears i m.from (kind_in m.body)) D.can.events (Arrives (Deliver (suc N.index) (S.clock.event w))) D.is (record { number = suc N.index; is = refl; envelope = record { to = i; message = m }; there = N.there; to = refl; sender = refl; kind_is = refl });
       }
     where
       arrives : Envelope → Arrival
-      arrives e = record { rank = e.to; at = 0; input = input.Deliver e.message }
+      arrives e = record { rank = e.to; at = S.clock.event w; input = input.Deliver e.message }
 
   pub ring : (t : Timer) → (s : State) → w.state i ≡ Some s
-      → Surely (λ y. Sound (readings_of (w.store i)) y × R y) (react (member_of S.ms i lt) (shared_entries (w.store i)) 0 (readings_of (w.store i)) s (input.Timer t))
+      → Surely (λ y. Sound (readings_of (w.store i)) y × R y) (react (member_of S.ms i lt) (shared_entries (w.store i)) (S.clock.event w) (readings_of (w.store i)) s (input.Timer t))
       → Does S (Rings i t ∷ []) 1 (Did S R w i) w
-  ring t s up T = let D = comes_by S w sane (Ring i t 0) i lt 0 (input.Timer t) s refl up inside inside (ltb-true i S.ms.count lt) R T in record { can = D.can; are = first (Rings i t) D.can.events (Arrives (Ring i t 0)) D.is refl }
+  ring t s up T = let D = comes_by S w sane (Ring i t (S.clock.event w)) i lt (S.clock.event w) (input.Timer t) s refl up (refl, inside) inside (ltb-true i S.ms.count lt) R T in record { can = D.can; are = first (Rings i t) D.can.events (Arrives (Ring i t (S.clock.event w))) D.is refl }
 
   pub ask : (session : Session) (c : Command) → IsAskedBy S.asks session (request_of c) → RequestFits (request_of c) → (s : State) → w.state i ≡ Some s
-      → Surely (λ y. Sound (readings_of (w.store i)) y × R y) (react (member_of S.ms i lt) (shared_entries (w.store i)) 0 (readings_of (w.store i)) s (input.Client session (request_of c)))
+      → Surely (λ y. Sound (readings_of (w.store i)) y × R y) (react (member_of S.ms i lt) (shared_entries (w.store i)) (S.clock.command w) (readings_of (w.store i)) s (input.Client session (request_of c)))
       → Does S (Asks i session c ∷ []) 1 (Did S R w i) w
   ask session c may form s up T =
-      let D = comes_by S w sane (Client i 0 session (request_of c)) i lt 0 (input.Client session (request_of c)) s refl up (inside, may) inside (ltb-true i S.ms.count lt, form) R T in
-      record { can = D.can; are = first (Asks i session c) D.can.events (Arrives (Client i 0 session (request_of c))) D.is refl }
+      let D = comes_by S w sane (Client i (S.clock.command w) session (request_of c)) i lt (S.clock.command w) (input.Client session (request_of c)) s refl up (refl, inside, may) inside (ltb-true i S.ms.count lt, form) R T in
+      record { can = D.can; are = first (Asks i session c) D.can.events (Arrives (Client i (S.clock.command w) session (request_of c))) D.is refl }
 
 -- the requests that they may be asked have their form
 abbrev pub AsksFit : Option (Session × Command) → Type 0
@@ -83,13 +83,13 @@ module _ (ms : Monitors) (q : List Bool) (sent : ℕ) (below : (m : ℕ) → has
   asked_fits None F s r k = absurd k
   asked_fits (Some a) F s r k = subst RequestFits (sym k.1) F
 
-  step_fits : (asks : Option (Session × Command)) → AsksFit asks → (w : World) (e : Event) → IsStep q sent asks w e → PlainFits ms.count (plain_of e)
-  step_fits asks F w (Arrives (Start rank at)) k = below rank k
-  step_fits asks F w (Arrives (Deliver message at)) k = tt
-  step_fits asks F w (Arrives (Ring rank timer at)) k = below rank k
-  step_fits asks F w (Arrives (Client rank at session r)) k = (below rank k.0, asked_fits asks F session r k.1)
-  step_fits asks F w (Crash p kept) k = absurd k
+  step_fits : (asks : Option (Session × Command)) → AsksFit asks → (clock : Clock) (w : World) (e : Event) → IsStep q sent asks clock w e → PlainFits ms.count (plain_of e)
+  step_fits asks F clock w (Arrives (Start rank at)) k = below rank k.1
+  step_fits asks F clock w (Arrives (Deliver message at)) k = tt
+  step_fits asks F clock w (Arrives (Ring rank timer at)) k = below rank k.1
+  step_fits asks F clock w (Arrives (Client rank at session r)) k = (below rank k.1, asked_fits asks F session r k.2)
+  step_fits asks F clock w (Crash p kept) k = absurd k
 
-  pub steps_fit : (asks : Option (Session × Command)) → AsksFit asks → (w : World) (es : List Event) → AreSteps ms q sent asks w es → AllFit ms.count es
-  steps_fit asks F w [] s = tt
-  steps_fit asks F w (e ∷ es) s = (step_fits asks F w e s.0, steps_fit asks F (run_from ms w (e ∷ [])) es s.1)
+  pub steps_fit : (asks : Option (Session × Command)) → AsksFit asks → (clock : Clock) (w : World) (es : List Event) → AreSteps ms q sent asks clock w es → AllFit ms.count es
+  steps_fit asks F clock w [] s = tt
+  steps_fit asks F clock w (e ∷ es) s = (step_fits asks F clock w e s.0, steps_fit asks F clock (run_from ms w (e ∷ [])) es s.1)

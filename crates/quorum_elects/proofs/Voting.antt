@@ -161,11 +161,11 @@ module _ (G : Majority) (K : Candidacy G) where
           step Us (electing.calls n q r) (Hears r (topmost w) kind.Propose ∷ [])
           (chosen _ _ (ltb (electing.epoch_at w r) (electing.epoch_at w (topmost w))) (lt-ltb (electing.epoch_at w r) (electing.epoch_at w (topmost w)) (let a = epoch_is r mine in let b = epoch_is (topmost w) there in omega (arith, top))))
           (does_weaker Us (omega arith) after
-          (deliver Us w P.room r (lt_of r mine) mine (Elects ms several c r (lt_of r mine) (shared_entries (w.store r)) 0 E) (letter n (topmost w) E (body.Propose A.table))
+          (deliver Us w P.room r (lt_of r mine) mine (Elects ms several c r (lt_of r mine) (shared_entries (w.store r)) (G.clock.event w) E) (letter n (topmost w) E (body.Propose A.table))
           (subst (λ (x : ℕ). New sent w (record { to = r; message = letter n (topmost w) x (body.Propose A.table) })) top (A.sent_to r (M.below r mine) other)) Z.state Z.up
-          (calls ms several c r (lt_of r mine) (shared_entries (w.store r)) 0 (readings_at w r) Z.state (odd_from (e0 r)) (only r) Z.holds (topmost w) E (M.below (topmost w) there) (λ e. other (sym e)) (K.before (topmost w) there (λ e. other (sym e))) A.table A.fits A.full (subst (λ (x : ℕ). is_even x ≡ false) top (odd_from_is (e0 (topmost w)))) room less)))
+          (calls ms several c r (lt_of r mine) (shared_entries (w.store r)) (G.clock.event w) (readings_at w r) Z.state (odd_from (e0 r)) (only r) Z.holds (topmost w) E (M.below (topmost w) there) (λ e. other (sym e)) (K.before (topmost w) there (λ e. other (sym e))) A.table A.fits A.full (subst (λ (x : ℕ). is_even x ≡ false) top (odd_from_is (e0 (topmost w)))) room less)))
         where
-          after : (v : World) → On w v → Did Us (Elects ms several c r (lt_of r mine) (shared_entries (w.store r)) 0 E) w r v → Voted 0 v
+          after : (v : World) → On w v → Did Us (Elects ms several c r (lt_of r mine) (shared_entries (w.store r)) (G.clock.event w) E) w r v → Voted 0 v
           after v o D = let R = D.did in record {
             room = o.sane P.room;
             leads = is_now Us (IsCandidate c E (only r)) w v r D.y D.moved R.stands;
@@ -194,7 +194,7 @@ module _ (G : Majority) (K : Candidacy G) where
         left = λ f high h ne. V.left f (omega arith) h ne;
       })
 
-      after : (there : has q k ≡ true) → (k ≡ r → ⊥) → (v : World) → On w v → Did Us (Defers ms several c k (lt_of k there) (shared_entries (w.store k)) 0 r E) w k v → Voted (suc k) v
+      after : (there : has q k ≡ true) → (k ≡ r → ⊥) → (v : World) → On w v → Did Us (Defers ms several c k (lt_of k there) (shared_entries (w.store k)) (G.clock.event w) r E) w k v → Voted (suc k) v
       after there other v o D = record {
         room = o.sane V.room;
         leads = is_stays (IsCandidate c E (only r)) w v r (D.moved.others r (λ e. other (sym e))) V.leads;
@@ -218,8 +218,8 @@ module _ (G : Majority) (K : Candidacy G) where
           let mine_not : r ≡ k → ⊥ = (λ e. other (sym e)) in
           step Us (electing.votes q r k) (Hears k r kind.Propose ∷ []) (chosen _ _ (electing.is_other q r k) (other_is q r k there other))
           (does_weaker Us (omega arith) (after there other)
-          (deliver Us w V.room k (lt_of k there) there (Defers ms several c k (lt_of k there) (shared_entries (w.store k)) 0 r E) (letter n r E (body.Propose A.table)) (A.sent_to k lt other) Z.state Z.up
-          (defers ms several c k (lt_of k there) (shared_entries (w.store k)) 0 (readings_at w k) Z.state (odd_from (e0 k)) (only k) Z.holds r E (M.below r mine) mine_not (K.before k there other) A.table A.fits A.full H.odd (let x = H.room in omega arith) (K.greatest k lt there))))
+          (deliver Us w V.room k (lt_of k there) there (Defers ms several c k (lt_of k there) (shared_entries (w.store k)) (G.clock.event w) r E) (letter n r E (body.Propose A.table)) (A.sent_to k lt other) Z.state Z.up
+          (defers ms several c k (lt_of k there) (shared_entries (w.store k)) (G.clock.event w) (readings_at w k) Z.state (odd_from (e0 k)) (only k) Z.holds r E (M.below r mine) mine_not (K.before k there other) A.table A.fits A.full H.odd (let x = H.room in omega arith) (K.greatest k lt there))))
 
   -- ---- it counts the votes
 
@@ -297,10 +297,10 @@ module _ (G : Majority) (K : Candidacy G) where
           step Us (electing.counts q r k) (Hears r k kind.Ack ∷ []) (chosen _ _ (is_counted k w) (λ i. other_is q r k there other i && leads_in w C.acked_by C.leads i))
           (does_weaker Us (omega arith) after
           (deliver Us w V.room r (lt_of r mine) mine Either (letter n k E body.Ack) ((V.votes k there other).1) L.state L.up
-          (acked ms several c r (lt_of r mine) (shared_entries (w.store r)) 0 (readings_at w r) L.state E C.acked_by L.holds (λ m h. M.below m (C.within m h)) k lt other)))
+          (acked ms several c r (lt_of r mine) (shared_entries (w.store r)) (G.clock.event w) (readings_at w r) L.state E C.acked_by L.holds (λ m h. M.below m (C.within m h)) k lt other)))
         where
           Either : Course → Type 0
-          Either y = IsCandidate c E (with_rank C.acked_by k) y.readings y.state ⊎ ((is_majority n (with_rank C.acked_by k) ≡ true) × Reigns ms several c r (lt_of r mine) (shared_entries (w.store r)) 0 E (with_rank C.acked_by k) y)
+          Either y = IsCandidate c E (with_rank C.acked_by k) y.readings y.state ⊎ ((is_majority n (with_rank C.acked_by k) ≡ true) × Reigns ms several c r (lt_of r mine) (shared_entries (w.store r)) (G.clock.event w) E (with_rank C.acked_by k) y)
 
           in_q : (f : ℕ) → has (with_rank C.acked_by k) f ≡ true → has q f ≡ true
           in_q f h = elim (has_with_is C.acked_by k f h) [ inl e ↦ subst (λ (x : ℕ). has q x ≡ true) (sym e) there | inr o ↦ C.within f o ]
@@ -356,8 +356,8 @@ module _ (G : Majority) (K : Candidacy G) where
           let L : Leads C.acked_by w = C.leads in
           step Us (electing.ends r) (Rings r timer.Election ∷ []) (chosen _ _ (electing.is_in w r phase.Electing) (leads_in w C.acked_by C.leads))
           (does_weaker Us (omega arith) after
-          (ring Us w V.room r (lt_of r mine) mine (Reigns ms several c r (lt_of r mine) (shared_entries (w.store r)) 0 E C.acked_by) timer.Election L.state L.up
-          (ends ms several c r (lt_of r mine) (shared_entries (w.store r)) 0 (readings_at w r) L.state E C.acked_by L.holds K.may_lead (λ m h. M.below m (C.within m h)) major)))
+          (ring Us w V.room r (lt_of r mine) mine (Reigns ms several c r (lt_of r mine) (shared_entries (w.store r)) (G.clock.event w) E C.acked_by) timer.Election L.state L.up
+          (ends ms several c r (lt_of r mine) (shared_entries (w.store r)) (G.clock.event w) (readings_at w r) L.state E C.acked_by L.holds K.may_lead (λ m h. M.below m (C.within m h)) major)))
         where
           major : is_majority n C.acked_by ≡ true
           major =
@@ -365,7 +365,7 @@ module _ (G : Majority) (K : Candidacy G) where
               let all = ltb-true n (2 * count_of q) M.major in
               lt-ltb n (2 * count_of C.acked_by) (omega arith)
 
-          after : (v : World) → On w v → Did Us (Reigns ms several c r (lt_of r mine) (shared_entries (w.store r)) 0 E C.acked_by) w r v → Elected v
+          after : (v : World) → On w v → Did Us (Reigns ms several c r (lt_of r mine) (shared_entries (w.store r)) (G.clock.event w) E C.acked_by) w r v → Elected v
           after v o D = let R = D.did in let L : Leads C.acked_by w = C.leads in let H = L.holds in record {
             room = o.sane V.room;
             votes = λ f h ne. votes_stay w v f o (D.moved.others f ne) (V.votes f h ne);
@@ -481,4 +481,4 @@ module _ (G : Majority) (K : Candidacy G) where
           step Us (electing.follows r k) (Hears k r kind.Victory ∷ []) (chosen _ _ (is_member k w) (members (other_is a r k there other)))
           (does_weaker Us (omega arith) (after other)
           (deliver Us w V.room k (lt_of k (V.within k there)) (V.within k there) (λ y. IsPeon c (suc E) r a y.readings y.state) (letter n r (suc E) (body.Victory a)) (V.told k lt there other) Z.state Z.up
-          (follows ms several c k (lt_of k (V.within k there)) (shared_entries (w.store k)) 0 (readings_at w k) Z.state E Z.holds V.odd V.short r a (λ e. other (sym e)) there V.self V.major)))
+          (follows ms several c k (lt_of k (V.within k there)) (shared_entries (w.store k)) (G.clock.event w) (readings_at w k) Z.state E Z.holds V.odd V.short r a (λ e. other (sym e)) there V.self V.major)))

@@ -4,7 +4,7 @@ use Rattle.mon_decode.specs.Headers.{kind_in, same_kind}
 use Rattle.mon_wire.specs.declared.kind.Kind.{Kind}
 use Rattle.mon_wire.specs.declared.phase.Timer.{Timer}
 use Rattle.mon_wire.specs.declared.request.Session.{Session}
-use Rattle.quorum_elects.specs.Ways.{HasWay}
+use Rattle.quorum_elects.specs.Ways.{Clock, HasWay}
 use Rattle.quorum_model.specs.CalmSchedule.{request_of}
 use Rattle.quorum_model.specs.Meets.{message_at}
 use Rattle.quorum_model.specs.Monitors.{Monitors}
@@ -28,39 +28,42 @@ PlanStep = World → List Planned
 -- ---- which events follow a plan
 
 -- the event delivers a message of this kind from the one monitor to the other
-pub record Delivers (w : World) (rank from : ℕ) (kind : Kind) (e : Event) : Type 0 where
+pub record Delivers (clock : Clock) (w : World) (rank from : ℕ) (kind : Kind) (e : Event) : Type 0 where
   pub number : ℕ
-  pub is : e ≡ Arrives (Deliver number 0)
+  pub is : e ≡ Arrives (Deliver number (clock.event w))
   pub envelope : Envelope
   pub there : message_at w.messages number ≡ Some envelope
   pub to : envelope.to ≡ rank
   pub sender : envelope.message.from ≡ from
   pub kind_is : kind_in envelope.message.body ≡ kind
 
-abbrev pub IsPlanned : World → Planned → Event → Type 0
-IsPlanned w (Starts rank) e = e ≡ Arrives (Start rank 0)
-IsPlanned w (Hears rank from kind) e = Delivers w rank from kind e
-IsPlanned w (Rings rank timer) e = e ≡ Arrives (Ring rank timer 0)
-IsPlanned w (Asks rank session command) e = e ≡ Arrives (Client rank 0 session (request_of command))
+-- in world w this event is the planned one, at the time of the clock
+abbrev pub IsPlanned : Clock → World → Planned → Event → Type 0
+IsPlanned clock w (Starts rank) e = e ≡ Arrives (Start rank (clock.event w))
+IsPlanned clock w (Hears rank from kind) e = Delivers clock w rank from kind e
+IsPlanned clock w (Rings rank timer) e = e ≡ Arrives (Ring rank timer (clock.event w))
+IsPlanned clock w (Asks rank session command) e =
+    e ≡ Arrives (Client rank (clock.command w) session (request_of command))
 
 -- From world w on, the events are the planned ones, in order, and no others.
-abbrev pub ArePlanned : Monitors → World → List Planned → List Event → Type 0
-ArePlanned ms w [] es = es ≡ []
-ArePlanned ms w (p ∷ ps) [] = ⊥
-ArePlanned ms w (p ∷ ps) (e ∷ es) = IsPlanned w p e × ArePlanned ms (run_from ms w (e ∷ [])) ps es
+abbrev pub ArePlanned : Monitors → Clock → World → List Planned → List Event → Type 0
+ArePlanned ms clock w [] es = es ≡ []
+ArePlanned ms clock w (p ∷ ps) [] = ⊥
+ArePlanned ms clock w (p ∷ ps) (e ∷ es) =
+    IsPlanned clock w p e × ArePlanned ms clock (run_from ms w (e ∷ [])) ps es
 
 -- from this world on, the events follow the steps, each of which sees the world that the events before it lead to
-abbrev pub Follow : Monitors → World → List PlanStep → List Event → Type 0
-Follow ms w [] es = es ≡ []
-Follow ms w (step ∷ steps) es =
+abbrev pub Follow : Monitors → Clock → World → List PlanStep → List Event → Type 0
+Follow ms clock w [] es = es ≡ []
+Follow ms clock w (step ∷ steps) es =
     (first : List Event) × (others : List Event) × (es ≡ first ++ others)
-    × ArePlanned ms w (step w) first × Follow ms (run_from ms w first) steps others
+    × ArePlanned ms clock w (step w) first × Follow ms clock (run_from ms w first) steps others
 
 -- A way on (`HasWay`) whose events follow the plan.
-pub record PlannedWay (ms : Monitors) (events : List Event) (q : List Bool) (asks : Option (Session × Command)) (plan : List PlanStep)
-    (most : ℕ) (Leads : World → World → Type 0) : Type 0 where
-  pub way : HasWay ms events q asks most Leads
-  pub follows : Follow ms (run ms events) plan way.more
+pub record PlannedWay (ms : Monitors) (events : List Event) (q : List Bool) (asks : Option (Session × Command))
+    (clock : Clock) (plan : List PlanStep) (most : ℕ) (Leads : World → World → Type 0) : Type 0 where
+  pub way : HasWay ms events q asks clock most Leads
+  pub follows : Follow ms clock (run ms events) plan way.more
 
 -- ---- one event for each planned event
 
@@ -73,9 +76,11 @@ unfoldable pub newest : (sent rank from : ℕ) → Kind → List Envelope → Op
 newest sent rank from kind messages =
     last_or None (map (λ m. m.0) (filter (λ m. goes rank from kind m.1) (enumerate_from (suc sent) (drop sent messages))))
 
--- The planned event. If it delivers a message, that is the newest one after the first `sent`; None if there is none.
-abbrev pub event_of : (sent : ℕ) → World → Planned → Option Event
-event_of sent w (Starts rank) = Some (Arrives (Start rank 0))
-event_of sent w (Hears rank from kind) = option_map (λ k. Arrives (Deliver k 0)) (newest sent rank from kind w.messages)
-event_of sent w (Rings rank timer) = Some (Arrives (Ring rank timer 0))
-event_of sent w (Asks rank session command) = Some (Arrives (Client rank 0 session (request_of command)))
+-- The planned event, at this time. If it delivers a message, that is the newest one after the first `sent`; None if there
+-- is none.
+abbrev pub event_of : (sent at : ℕ) → World → Planned → Option Event
+event_of sent at w (Starts rank) = Some (Arrives (Start rank at))
+event_of sent at w (Hears rank from kind) =
+    option_map (λ k. Arrives (Deliver k at)) (newest sent rank from kind w.messages)
+event_of sent at w (Rings rank timer) = Some (Arrives (Ring rank timer at))
+event_of sent at w (Asks rank session command) = Some (Arrives (Client rank at session (request_of command)))

@@ -42,7 +42,7 @@ use Rattle.quorum_elects.proofs.Walking.{Surely, and_then, both, by_test, done, 
 use Rattle.quorum_model.proofs.Members.{member_of}
 use Rattle.quorum_model.specs.Monitors.{Monitors}
 use Rattle.quorum_recovers.proofs.LastAnswers.{IsAnswer, ToldShort, answer_is, better_short, counts_short}
-use Rattle.quorum_recovers.proofs.States.{IsActive, IsAsking, IsHearing, IsProposing, among_flat, get_other, get_set, missed_one}
+use Rattle.quorum_recovers.proofs.States.{IsActive, IsAsking, IsHearing, IsProposing, among_flat, get_other, get_set, lease_given, missed_one}
 use Rattle.quorum_walk.proofs.FineCourses.{Val}
 use Rattle.quorum_walk.proofs.Lists.{Among, among_left, among_right}
 use Rattle.quorum_walk.proofs.Ranks.{has_only_is, has_with_is, within_at}
@@ -181,7 +181,7 @@ module _ (ms : Monitors) (several : 1 < ms.count) (i : ℕ) (lt : ltb i ms.count
   CatchesUp e a l T x out = (f : ℕ) → f < n → has a f ≡ true → (f ≡ i → ⊥) → T f < l → Among (send.Message f (letter n i e (body.Commit l (x ∷ [])))) out
 
   abbrev pub GoesOn : ℕ → List Bool → (l pn : ℕ) → Course → Type 0
-  GoesOn e a l pn y = IsActive i e a l pn now y.readings y.state
+  GoesOn e a l pn y = IsActive i e a l pn y.readings y.state
       ⊎ ((value : List Op) × IsProposing phase.Previous i e a l pn (only i) value None y.readings y.state × SaysTo n i e a (body.Begin pn (suc l) value) y.out)
 
   pub record Settles (e : ℕ) (a : List Bool) (l pn : ℕ) (T : ℕ → ℕ) (x : List Op) (y : Course) : Type 0 where
@@ -196,7 +196,7 @@ module _ (ms : Monitors) (several : 1 < ms.count) (i : ℕ) (lt : ltb i ms.count
     record { tells = S.tells; fits = S.fits; short = S.short; unmarked = S.unmarked },
     record {
       commits = λ f few h ne low. among_left (send.Message f (letter n i e (body.Commit l (v ∷ [])))) x.out _ (C f few h ne low);
-      goes = inl (record { unmarked = P.unmarked; epoch = P.epoch; last = P.last; promised = P.promised; short = P.short; phase = refl; quorum = P.quorum; number = P.number; lease = refl; queue = P.queue });
+      goes = inl (record { unmarked = P.unmarked; epoch = P.epoch; last = P.last; promised = P.promised; short = P.short; phase = refl; quorum = P.quorum; number = P.number; lease = lease_given now; queue = P.queue });
     },
   )
   finds w x S e a l pn A T P others room (Some f) fine v C =
@@ -218,7 +218,7 @@ module _ (ms : Monitors) (several : 1 < ms.count) (i : ℕ) (lt : ltb i ms.count
         record { tells = S.tells; fits = S.fits; short = S.short; unmarked = S.unmarked },
         record {
           commits = λ g few h ne low. among_left (send.Message g (letter n i e (body.Commit l (v ∷ [])))) x.out _ (C g few h ne low);
-          goes = inl (record { unmarked = P.unmarked; epoch = P.epoch; last = P.last; promised = P.promised; short = P.short; phase = refl; quorum = P.quorum; number = P.number; lease = refl; queue = P.queue });
+          goes = inl (record { unmarked = P.unmarked; epoch = P.epoch; last = P.last; promised = P.promised; short = P.short; phase = refl; quorum = P.quorum; number = P.number; lease = lease_given now; queue = P.queue });
         },
       ))
     where

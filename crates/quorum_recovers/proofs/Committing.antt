@@ -145,7 +145,7 @@ module _ (G : Majority) (Q : Term G) where
             (chosen _ _ (gets k w) (λ i. ((λ j. electing.is_other (hub_is.1 j) r k) ∙ other_is a r k there other) i && lt-ltb (readings_at w k).last (readings_at w r).last (let x = last_of_k there other in let y = hub_is.0 in omega arith) i))
             (does_weaker Us (omega arith) after
             (deliver Us w (let F = C.fit in F.room) k (lt_of k there) (within k there) Goal (letter n r e (body.Commit (suc (U k)) (value ∷ []))) (subst (λ (x : ℕ). Mail r k (body.Commit x (value ∷ [])) w) (sym next) (C.commits k lt there other less)) Z.state Z.up
-            (learns ms several k (lt_of k there) (shared_entries (w.store k)) 0 (readings_at w k) Z.state r e a (U k) pn Z.holds (λ x. other (sym x)) value (fine (omega arith)) (omega arith))))
+            (learns ms several k (lt_of k there) (shared_entries (w.store k)) (G.clock.event w) (readings_at w k) Z.state r e a (U k) pn Z.holds (λ x. other (sym x)) value (fine (omega arith)) (omega arith))))
           where
             Goal : Course → Type 0
             Goal y = IsHearing r e a (suc (U k)) pn y.readings y.state
@@ -181,7 +181,7 @@ module _ (G : Majority) (Q : Term G) where
 
   module _ (ph : Phase) (which_phase : (ph ≡ phase.Previous) ⊎ (ph ≡ phase.Updating)) (o : Option Origin) (l pn : ℕ) (value : List Op) where
     pub record Committed (w : World) : Type 0 where
-      pub hub : Is (IsActive r e a (suc l) pn 0) w r
+      pub hub : Is (IsActive r e a (suc l) pn) w r
       pub commits : (g : ℕ) → g < n → has a g ≡ true → (g ≡ r → ⊥) → Mail r g (body.Commit (suc l) (value ∷ [])) w
       pub fine : Val value
       pub within : suc l ≤ length w.log
@@ -203,7 +203,7 @@ module _ (G : Majority) (Q : Term G) where
     count_one k there other A v FV begins peons Z long self covers mail =
         does_weaker Us (omega arith) after
         (deliver Us v FV.room r (lt_of r mine) (within r mine) Goal (letter n k e (body.Accept pn (suc l))) mail Z.state Z.up
-        (counts_accept ms several r (lt_of r mine) (shared_entries (v.store r)) 0 (readings_at v r) Z.state ph e a l pn A value o Z.holds which_phase fine k there other))
+        (counts_accept ms several r (lt_of r mine) (shared_entries (v.store r)) (G.clock.event v) (readings_at v r) Z.state ph e a l pn A value o Z.holds which_phase fine k there other))
       where
         H : IsProposing ph r e a l pn A value o (readings_at v r) Z.state
         H = Z.holds
@@ -212,7 +212,7 @@ module _ (G : Majority) (Q : Term G) where
         fine = value_fine ms several v FV.holds r Z.state Z.up value H.proposes
 
         Goal : Course → Type 0
-        Goal y = IsProposing ph r e a l pn (with_rank A k) value o y.readings y.state × (are_within n a (with_rank A k) ≡ false) ⊎ Commits ms several r (lt_of r mine) (shared_entries (v.store r)) 0 e a l pn value o y
+        Goal y = IsProposing ph r e a l pn (with_rank A k) value o y.readings y.state × (are_within n a (with_rank A k) ≡ false) ⊎ Commits ms several r (lt_of r mine) (shared_entries (v.store r)) (G.clock.event v) e a l pn value o y
 
         after : (u : World) → On v u → Did Us Goal v r u → Voting (suc k) u
         after u o2 D = record {
@@ -236,8 +236,8 @@ module _ (G : Majority) (Q : Term G) where
             )
             go (inr S) =
                 let FU : Fit u = leaders.fit_on G Q Goal v u r o2 D FV in
-                let hub : Is (IsActive r e a (suc l) pn 0) u r = is_now Us (IsActive r e a (suc l) pn 0) v u r D.y D.moved S.stands in
-                let V : IsActive r e a (suc l) pn 0 (readings_at u r) hub.state = hub.holds in
+                let hub : Is (IsActive r e a (suc l) pn) u r = is_now Us (IsActive r e a (suc l) pn) v u r D.y D.moved S.stands in
+                let V : IsActive r e a (suc l) pn (readings_at u r) hub.state = hub.holds in
                 inl (record {
                   hub = hub;
                   commits = λ g few h ne. D.moved.says g (letter n r e (body.Commit (suc l) (value ∷ []))) (S.commits g few h ne);
@@ -281,10 +281,10 @@ module _ (G : Majority) (Q : Term G) where
             step Us (plan.accepts ph r k) (plans.Hears k r kind.Begin ∷ plans.Hears r k kind.Accept ∷ [])
             (chosen _ _ (accepting k w) (λ i. ((λ j. electing.is_other (members w A Z j) r k) ∙ other_is a r k there other) i && proposer_in w A Z i))
             (does_then Us (deliver Us w (let F = V.fit in F.room) k (lt_of k there) (within k there) Goal (letter n r e (body.Begin pn (suc l) value)) (V.begins k lt there other) Y.state Y.up
-            (accepts ms several k (lt_of k there) (shared_entries (w.store k)) 0 (readings_at w k) Y.state r e a l pn Y.holds (λ x. other (sym x)) H.short H.room value (let V = value_fine ms several w (let F = V.fit in F.holds) r Z.state Z.up value H.proposes in V.short))) after)
+            (accepts ms several k (lt_of k there) (shared_entries (w.store k)) (G.clock.event w) (readings_at w k) Y.state r e a l pn Y.holds (λ x. other (sym x)) H.short H.room value (let V = value_fine ms several w (let F = V.fit in F.holds) r Z.state Z.up value H.proposes in V.short))) after)
           where
             Goal : Course → Type 0
-            Goal y = Accepts ms several k (lt_of k there) (shared_entries (w.store k)) 0 r e a l pn y
+            Goal y = Accepts ms several k (lt_of k there) (shared_entries (w.store k)) (G.clock.event w) r e a l pn y
 
             after : (v : World) → On w v → Did Us Goal w k v → Does Us (plans.Hears r k kind.Accept ∷ []) 1 (Voting (suc k)) v
             after v o2 D = let S = D.did in count_one k there other A v (leaders.fit_on G Q Goal w v k o2 D V.fit) (λ g few h ne. new_stays Us o2 (V.begins g few h ne)) (λ f h ne. peons f h ne (same_or_not f k))

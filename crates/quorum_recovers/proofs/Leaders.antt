@@ -120,8 +120,8 @@ module _ (G : Majority) (Q : Term G) where
       → Does Us (plans.Hears f r kind.Collect ∷ []) 1 (Answered f l (max p pn) w) w
   ask_one w F f h ne p P pn first l short kept high low_l mail =
       does_weaker Us (omega arith) after
-      (deliver Us w F.room f (lt_of f h) (within f h) (Matches ms several f (lt_of f h) (shared_entries (w.store f)) 0 r e a (T f) (max p pn) (readings_at w f).first (suc l)) (letter n r e (body.Collect pn first l)) mail P.state P.up
-      (asked ms several f (lt_of f h) (shared_entries (w.store f)) 0 (readings_at w f) P.state r e a (T f) p H (λ z. ne (sym z)) pn first l short (terms.version_room G Q l (omega arith)) (le-ltb (suc (readings_at w f).last) first (let z = H.last in omega arith)) (let z = H.last in omega arith) known))
+      (deliver Us w F.room f (lt_of f h) (within f h) (Matches ms several f (lt_of f h) (shared_entries (w.store f)) (G.clock.event w) r e a (T f) (max p pn) (readings_at w f).first (suc l)) (letter n r e (body.Collect pn first l)) mail P.state P.up
+      (asked ms several f (lt_of f h) (shared_entries (w.store f)) (G.clock.event w) (readings_at w f) P.state r e a (T f) p H (λ z. ne (sym z)) pn first l short (terms.version_room G Q l (omega arith)) (le-ltb (suc (readings_at w f).last) first (let z = H.last in omega arith)) (let z = H.last in omega arith) known))
     where
       H : IsHearing r e a (T f) p (readings_at w f) P.state
       H = P.holds
@@ -132,9 +132,9 @@ module _ (G : Majority) (Q : Term G) where
       known : (readings_at w f).last ≡ suc l → (readings_at w f).first ≤ suc l × ((x : List Op) × (record_at (readings_at w f).record_of (suc l) ≡ Some x) × (length (text x) ≤ most_value))
       known is = let t = value_there ms several w F.holds f (below f h) H.unmarked l is in ((elim low [ inl few ↦ (omega arith) | inr far ↦ (omega arith) ]), (t.value, t.is, (let V = t.fine in V.short)))
 
-      after : (v : World) → On w v → Did Us (Matches ms several f (lt_of f h) (shared_entries (w.store f)) 0 r e a (T f) (max p pn) (readings_at w f).first (suc l)) w f v → Answered f l (max p pn) w v
+      after : (v : World) → On w v → Did Us (Matches ms several f (lt_of f h) (shared_entries (w.store f)) (G.clock.event w) r e a (T f) (max p pn) (readings_at w f).first (suc l)) w f v → Answered f l (max p pn) w v
       after v o D = let R = D.did in record {
-        fit = fit_on (Matches ms several f (lt_of f h) (shared_entries (w.store f)) 0 r e a (T f) (max p pn) (readings_at w f).first (suc l)) w v f o D F;
+        fit = fit_on (Matches ms several f (lt_of f h) (shared_entries (w.store f)) (G.clock.event w) r e a (T f) (max p pn) (readings_at w f).first (suc l)) w v f o D F;
         stands = is_now Us (IsHearing r e a (T f) (max p pn)) w v f D.y D.moved R.stands;
         others = D.moved.others;
         first = (readings_at w f).first;
@@ -173,7 +173,7 @@ module _ (G : Majority) (Q : Term G) where
     pub all : (f : ℕ) → has a f ≡ true → T f ≤ la
 
   abbrev pub Goes : (l pn : ℕ) → World → Type 0
-  Goes l pn w = Is (IsActive r e a l pn 0) w r ⊎ ((value : List Op) × Is (IsProposing phase.Previous r e a l pn (only r) value None) w r × ((g : ℕ) → g < n → has a g ≡ true → (g ≡ r → ⊥) → Mail r g (body.Begin pn (suc l) value) w))
+  Goes l pn w = Is (IsActive r e a l pn) w r ⊎ ((value : List Op) × Is (IsProposing phase.Previous r e a l pn (only r) value None) w r × ((g : ℕ) → g < n → has a g ≡ true → (g ≡ r → ⊥) → Mail r g (body.Begin pn (suc l) value) w))
 
   -- It heard all of its quorum. Members that lack its last version get it, and a value that was found is proposed.
   pub record Settled (w : World) : Type 0 where
@@ -253,7 +253,7 @@ module _ (G : Majority) (Q : Term G) where
               let y = X.peons f h ne in
               (y.0, is_stays (IsHearing r e a (T f) y.0) v u f (same f ne) (is_stays (IsHearing r e a (T f) y.0) w v f (R.others f nk) y.1), y.2, (λ m. y.3 (elim (has_with_is A k f m) [ inl z ↦ absurd (nk z) | inr i ↦ i ])))
 
-      settled_then : (R2 : Course → Type 0) (u : World) → On v u → (D : Did Us R2 v r u) → (l : ℕ) → X.l ≤ l → l ≤ c → T k ≤ l → (x : List Op) → (1 ≤ l → Val x) → Settles ms several r (lt_of r mine) (shared_entries (v.store r)) 0 e a l X.pn T x D.y
+      settled_then : (R2 : Course → Type 0) (u : World) → On v u → (D : Did Us R2 v r u) → (l : ℕ) → X.l ≤ l → l ≤ c → T k ≤ l → (x : List Op) → (1 ≤ l → Val x) → Settles ms several r (lt_of r mine) (shared_entries (v.store r)) (G.clock.event v) e a l X.pn T x D.y
           → are_within n a (with_rank A k) ≡ true → Settled u
       settled_then R2 u o2 D l up le mine_low x fine S t = record {
         l = l;
@@ -269,8 +269,8 @@ module _ (G : Majority) (Q : Term G) where
         least = (let y = X.least in let z = X.above in omega arith);
       }
         where
-          goes : (IsActive r e a l X.pn 0 D.y.readings D.y.state ⊎ ((value : List Op) × IsProposing phase.Previous r e a l X.pn (only r) value None D.y.readings D.y.state × ((g : ℕ) → g < n → has a g ≡ true → (g ≡ r → ⊥) → Among (send.Message g (letter n r e (body.Begin X.pn (suc l) value))) D.y.out))) → Goes l X.pn u
-          goes (inl G) = inl (is_now Us (IsActive r e a l X.pn 0) v u r D.y D.moved G)
+          goes : (IsActive r e a l X.pn D.y.readings D.y.state ⊎ ((value : List Op) × IsProposing phase.Previous r e a l X.pn (only r) value None D.y.readings D.y.state × ((g : ℕ) → g < n → has a g ≡ true → (g ≡ r → ⊥) → Among (send.Message g (letter n r e (body.Begin X.pn (suc l) value))) D.y.out))) → Goes l X.pn u
+          goes (inl G) = inl (is_now Us (IsActive r e a l X.pn) v u r D.y D.moved G)
           goes (inr G) = inr (G.0, is_now Us (IsProposing phase.Previous r e a l X.pn (only r) G.0 None) v u r D.y D.moved G.1, λ g few h ne. D.moved.says g (letter n r e (body.Begin X.pn (suc l) G.0)) (G.2 g few h ne))
 
       asking_then : (R2 : Course → Type 0) (u : World) → On v u → (D : Did Us R2 v r u) → (l : ℕ) → X.l ≤ l → l ≤ suc la → l ≤ c → T k ≤ l → IsAsking r e a l X.pn (with_rank A k) T D.y.readings D.y.state → are_within n a (with_rank A k) ≡ false → Asking (with_rank A k) la u
@@ -293,7 +293,7 @@ module _ (G : Majority) (Q : Term G) where
         long = length-set A k true ∙ X.long;
       }
 
-      fresh_then : (R2 : Course → Type 0) (u : World) → On v u → (D : Did Us R2 v r u) → (l : ℕ) → l ≡ suc la → l ≤ c → T k ≡ suc la → Asks ms several r (lt_of r mine) (shared_entries (v.store r)) 0 e a l X.pn (X.pn + 114) T D.y → Fit u → Fresh u
+      fresh_then : (R2 : Course → Type 0) (u : World) → On v u → (D : Did Us R2 v r u) → (l : ℕ) → l ≡ suc la → l ≤ c → T k ≡ suc la → Asks ms several r (lt_of r mine) (shared_entries (v.store r)) (G.clock.event v) e a l X.pn (X.pn + 114) T D.y → Fit u → Fresh u
       fresh_then R2 u o2 D l is le top S FU = record {
         la = l;
         asking = record {
@@ -340,34 +340,34 @@ module _ (G : Majority) (Q : Term G) where
           same : (vs : List (List Op)) → drop (suc X.l - suc la) vs ≡ [] → (whole : Bool) → whole ≡ true → Mail k r (body.Last (max p0 X.pn) R.first (T k) whole (suc la) vs Ans.told) v → T k ≤ X.l → Does Us (plans.Hears r k kind.Last ∷ []) 1 (After k la A) v
           same vs none true z mail low =
               does_weaker Us (omega arith) after
-              (deliver Us v (let F = R.fit in F.room) r rank (within r mine) (Hears ms several r rank sh 0 e a X.l X.pn (with_rank A k) T own.0) (letter n k e (body.Last (max p0 X.pn) R.first (T k) true (suc la) vs Ans.told)) mail hub.state hub.up
-              (hears_same ms several r rank sh 0 (readings_at v r) hub.state e a X.l X.pn A T Hv (terms.not_alone G Q (lt_of r mine)) k (below k there) there other (terms.version_room G Q X.l (let z = X.under in omega arith)) (max p0 X.pn) R.first (T k) (suc la) vs Ans.told none promise_is refl low (lag X.l X.under) own.0 own.1))
+              (deliver Us v (let F = R.fit in F.room) r rank (within r mine) (Hears ms several r rank sh (G.clock.event v) e a X.l X.pn (with_rank A k) T own.0) (letter n k e (body.Last (max p0 X.pn) R.first (T k) true (suc la) vs Ans.told)) mail hub.state hub.up
+              (hears_same ms several r rank sh (G.clock.event v) (readings_at v r) hub.state e a X.l X.pn A T Hv (terms.not_alone G Q (lt_of r mine)) k (below k there) there other (terms.version_room G Q X.l (let z = X.under in omega arith)) (max p0 X.pn) R.first (T k) (suc la) vs Ans.told none promise_is refl low (lag X.l X.under) own.0 own.1))
             where
-              after : (u : World) → On v u → Did Us (Hears ms several r rank sh 0 e a X.l X.pn (with_rank A k) T own.0) v r u → After k la A u
-              after u o2 D = record { fit = fit_on (Hears ms several r rank sh 0 e a X.l X.pn (with_rank A k) T own.0) v u r o2 D R.fit; comes = go D.did }
+              after : (u : World) → On v u → Did Us (Hears ms several r rank sh (G.clock.event v) e a X.l X.pn (with_rank A k) T own.0) v r u → After k la A u
+              after u o2 D = record { fit = fit_on (Hears ms several r rank sh (G.clock.event v) e a X.l X.pn (with_rank A k) T own.0) v u r o2 D R.fit; comes = go D.did }
                 where
-                  go : Hears ms several r rank sh 0 e a X.l X.pn (with_rank A k) T own.0 D.y → Settled u ⊎ (Asking (with_rank A k) la u ⊎ (Fresh u × (T k ≡ suc la)))
-                  go (inl S) = inr (inl (asking_then (Hears ms several r rank sh 0 e a X.l X.pn (with_rank A k) T own.0) u o2 D X.l (omega arith) X.near X.under low S.0 S.1))
-                  go (inr S) = inl (settled_then (Hears ms several r rank sh 0 e a X.l X.pn (with_rank A k) T own.0) u o2 D X.l (omega arith) X.under low own.0 own.2 S.0 S.1)
+                  go : Hears ms several r rank sh (G.clock.event v) e a X.l X.pn (with_rank A k) T own.0 D.y → Settled u ⊎ (Asking (with_rank A k) la u ⊎ (Fresh u × (T k ≡ suc la)))
+                  go (inl S) = inr (inl (asking_then (Hears ms several r rank sh (G.clock.event v) e a X.l X.pn (with_rank A k) T own.0) u o2 D X.l (omega arith) X.near X.under low S.0 S.1))
+                  go (inr S) = inl (settled_then (Hears ms several r rank sh (G.clock.event v) e a X.l X.pn (with_rank A k) T own.0) u o2 D X.l (omega arith) X.under low own.0 own.2 S.0 S.1)
           same vs none false z mail low = absurd (false≢true z)
 
           again : (vs : List (List Op)) → drop (suc X.l - suc la) vs ≡ [] → (whole : Bool) → Mail k r (body.Last (max p0 X.pn) R.first (T k) whole (suc la) vs Ans.told) v → T k ≡ suc la → X.l ≡ suc la → Does Us (plans.Hears r k kind.Last ∷ []) 1 (After k la A) v
           again vs none true mail top is = same vs none true refl mail (omega arith)
           again vs none false mail top is =
               does_weaker Us (omega arith) after
-              (deliver Us v (let F = R.fit in F.room) r rank (within r mine) (Asks ms several r rank sh 0 e a X.l X.pn (X.pn + 114) T) (letter n k e (body.Last (max p0 X.pn) R.first (T k) false (suc la) vs Ans.told)) mail hub.state hub.up
-              (hears_again ms several r rank sh 0 (readings_at v r) hub.state e a X.l X.pn A T Hv (terms.not_alone G Q (lt_of r mine)) k there other (max p0 X.pn) R.first (T k) (suc la) vs Ans.told none promise_is (omega arith) (X.pn + 114) (omega arith) number_room))
+              (deliver Us v (let F = R.fit in F.room) r rank (within r mine) (Asks ms several r rank sh (G.clock.event v) e a X.l X.pn (X.pn + 114) T) (letter n k e (body.Last (max p0 X.pn) R.first (T k) false (suc la) vs Ans.told)) mail hub.state hub.up
+              (hears_again ms several r rank sh (G.clock.event v) (readings_at v r) hub.state e a X.l X.pn A T Hv (terms.not_alone G Q (lt_of r mine)) k there other (max p0 X.pn) R.first (T k) (suc la) vs Ans.told none promise_is (omega arith) (X.pn + 114) (omega arith) number_room))
             where
-              after : (u : World) → On v u → Did Us (Asks ms several r rank sh 0 e a X.l X.pn (X.pn + 114) T) v r u → After k la A u
+              after : (u : World) → On v u → Did Us (Asks ms several r rank sh (G.clock.event v) e a X.l X.pn (X.pn + 114) T) v r u → After k la A u
               after u o2 D =
-                  let FU = fit_on (Asks ms several r rank sh 0 e a X.l X.pn (X.pn + 114) T) v u r o2 D R.fit in
-                  record { fit = FU; comes = inr (inr (fresh_then (Asks ms several r rank sh 0 e a X.l X.pn (X.pn + 114) T) u o2 D X.l is X.under top D.did FU, top)) }
+                  let FU = fit_on (Asks ms several r rank sh (G.clock.event v) e a X.l X.pn (X.pn + 114) T) v u r o2 D R.fit in
+                  record { fit = FU; comes = inr (inr (fresh_then (Asks ms several r rank sh (G.clock.event v) e a X.l X.pn (X.pn + 114) T) u o2 D X.l is X.under top D.did FU, top)) }
 
           more : (x : List Op) → Ans.values ≡ x ∷ [] → T k ≡ suc la → X.l ≡ la → Does Us (plans.Hears r k kind.Last ∷ []) 1 (After k la A) v
           more x one top is =
               does_weaker Us (omega arith) after
               (deliver Us v (let F = R.fit in F.room) r rank (within r mine) Goal (letter n k e (body.Last (max p0 X.pn) R.first (T k) Ans.whole (suc X.l) (x ∷ []) Ans.told)) mail hub.state hub.up
-              (hears_more ms several r rank sh 0 (readings_at v r) hub.state e a X.l X.pn A T Hv (terms.not_alone G Q (lt_of r mine)) k (below k there) there other (max p0 X.pn) R.first (T k) Ans.whole x Ans.told promise_is refl (omega arith) (terms.version_room G Q (suc X.l) (let z = Q.most k there in omega arith)) fine_x kept
+              (hears_more ms several r rank sh (G.clock.event v) (readings_at v r) hub.state e a X.l X.pn A T Hv (terms.not_alone G Q (lt_of r mine)) k (below k there) there other (max p0 X.pn) R.first (T k) Ans.whole x Ans.told promise_is refl (omega arith) (terms.version_room G Q (suc X.l) (let z = Q.most k there in omega arith)) fine_x kept
               (λ g h. (let z = Q.least g h in let y = Q.most k there in omega arith)) next.value next.is (let V = next.fine in V.short) (X.pn + 114) (omega arith) number_room))
             where
               mail : Mail k r (body.Last (max p0 X.pn) R.first (T k) Ans.whole (suc X.l) (x ∷ []) Ans.told) v
@@ -386,7 +386,7 @@ module _ (G : Majority) (Q : Term G) where
               next = learned_there ms several v (let F = R.fit in F.holds) r (below r mine) Hv.unmarked X.l Hv.last x told_x long_log
 
               Goal : Course → Type 0
-              Goal y = Hears ms several r rank sh 0 e a (suc X.l) X.pn (with_rank A k) T next.value y ⊎ Asks ms several r rank sh 0 e a (suc X.l) X.pn (X.pn + 114) T y
+              Goal y = Hears ms several r rank sh (G.clock.event v) e a (suc X.l) X.pn (with_rank A k) T next.value y ⊎ Asks ms several r rank sh (G.clock.event v) e a (suc X.l) X.pn (X.pn + 114) T y
 
               after : (u : World) → On v u → Did Us Goal v r u → After k la A u
               after u o2 D = record { fit = FU; comes = go D.did }
@@ -413,7 +413,7 @@ module _ (G : Majority) (Q : Term G) where
           by : (T k < suc la) ⊎ (suc la ≤ T k) → Does Us (plans.Hears r k kind.Last ∷ []) 1 (After k la A) v
           by (inl less) =
               let none = Ans.none less in
-              same [] (drop_none ms several r rank sh 0 (suc X.l - suc la)) Ans.whole none.0 (subst (λ (vs : List (List Op)). Mail k r (body.Last (max p0 X.pn) R.first (T k) Ans.whole (suc la) vs Ans.told) v) none.1 the_mail) (let z = X.above in omega arith)
+              same [] (drop_none ms several r rank sh (G.clock.event v) (suc X.l - suc la)) Ans.whole none.0 (subst (λ (vs : List (List Op)). Mail k r (body.Last (max p0 X.pn) R.first (T k) Ans.whole (suc la) vs Ans.told) v) none.1 the_mail) (let z = X.above in omega arith)
           by (inr ge) = top_one (let z = high in omega arith)
 
     pub answer_one : Does Us (plans.Hears k r kind.Collect ∷ plans.Hears r k kind.Last ∷ []) 2 (After k la A) w

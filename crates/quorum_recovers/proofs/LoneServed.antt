@@ -40,7 +40,7 @@ use Rattle.quorum_elects.specs.Electing.{chosen_leader}
 use Rattle.quorum_elects.specs.Plans as plans
 use Rattle.quorum_elects.specs.Plans.{PlanStep, PlannedWay}
 use Rattle.quorum_elects.specs.Ready.{AllNear, IsReady}
-use Rattle.quorum_elects.specs.Ways.{OthersRest}
+use Rattle.quorum_elects.specs.Ways.{Clock, OthersRest}
 use Rattle.quorum_laws.specs.Accepting.{IsMajorityOf, readings_at}
 use Rattle.quorum_model.proofs.Continuing.{at, ran_on}
 use Rattle.quorum_model.specs.Agree.{IsAsked}
@@ -62,7 +62,7 @@ use Rattle.std.proofs.lemmas.Bool.{le-ltb}
 use Rattle.std.specs.List.{AllByRecursion}
 
 module _ (most : 1 ≤ 15) (rule : Rule) (events : List Event) (F : AllFit 1 events) (on : (ran (lone most rule) events).stop ≡ None) (q : List Bool) (M : IsMajorityOf 1 q) (ready : IsReady (lone most rule) q (run (lone most rule) events))
-    (session : Session) (cmd : Command) (form : IsCommand cmd) (brief : is_too_long cmd ≡ false) where
+    (session : Session) (cmd : Command) (form : IsCommand cmd) (brief : is_too_long cmd ≡ false) (clock : Clock) where
   abbrev ms : Monitors
   ms = lone most rule
 
@@ -70,7 +70,7 @@ module _ (most : 1 ≤ 15) (rule : Rule) (events : List Event) (F : AllFit 1 eve
   w0 = run (lone most rule) events
 
   abbrev Us : Scope
-  Us = record { ms = lone most rule; q = q; sent = length (run (lone most rule) events).messages; asks = Some (session, cmd) }
+  Us = record { ms = lone most rule; q = q; sent = length (run (lone most rule) events).messages; asks = Some (session, cmd); clock = clock }
 
   abbrev l : ℕ
   l = length (run (lone most rule) events).log
@@ -102,7 +102,7 @@ module _ (most : 1 ≤ 15) (rule : Rule) (events : List Event) (F : AllFit 1 eve
   read : (v : World) → LoneHolds (lone most rule) v → (readings_at v 0).last ≡ length v.log
   read v H = let O = H.1 in let W = whole v H in last_is v.log O.short O.values (v.store 0) (length v.log) W.versions
 
-  sane : Sane (record { ms = lone most rule; q = q; sent = length (run (lone most rule) events).messages; asks = Some (session, cmd) }) (run (lone most rule) events)
+  sane : Sane (record { ms = lone most rule; q = q; sent = length (run (lone most rule) events).messages; asks = Some (session, cmd); clock = clock }) (run (lone most rule) events)
   sane = record {
     since = omega arith;
     reached = first_reached;
@@ -127,7 +127,7 @@ module _ (most : 1 ≤ 15) (rule : Rule) (events : List Event) (F : AllFit 1 eve
       let H = lone_holds w0 first_reached in
       let W = whole w0 H in
       let R = ready.monitors 0 inside in
-      start Us w0 sane 0 refl inside Up (starts_alone most rule (shared_entries (w0.store 0)) 0 (readings_at w0 0) l may_lead W.unmarked (read w0 H) W.settled R.numbers)
+      start Us w0 sane 0 refl inside Up (starts_alone most rule (shared_entries (w0.store 0)) (clock.event w0) (readings_at w0 0) l may_lead W.unmarked (read w0 H) W.settled R.numbers)
 
   module _ (v : World) (o : Onward Us w0 v) (D : Did Us Up w0 0 v) where
     sane_v : Sane Us v
@@ -152,11 +152,11 @@ module _ (most : 1 ≤ 15) (rule : Rule) (events : List Event) (F : AllFit 1 eve
     room = let e = same in let z = ready.log in omega arith
 
     abbrev Goal : Course → Type 0
-    Goal y = Commits most rule (shared_entries (v.store 0)) 0 (readings_at v 0) l cmd session y ⊎ Refuses most rule (shared_entries (v.store 0)) 0 (readings_at v 0) cmd session y
+    Goal y = Commits most rule (shared_entries (v.store 0)) (clock.command v) (readings_at v 0) l cmd session y ⊎ Refuses most rule (shared_entries (v.store 0)) (clock.command v) (readings_at v 0) cmd session y
 
     asks : Does Us (plans.Asks 0 session cmd ∷ []) 1 (Did Us Goal v 0) v
     asks = ask Us v sane_v 0 refl inside Goal session cmd (refl, refl) (request_fits cmd form) Z.state Z.up
-        (answers_alone most rule (shared_entries (v.store 0)) 0 (readings_at v 0) Z.state l Z.holds (let e = same in let z = room in omega arith) session cmd brief
+        (answers_alone most rule (shared_entries (v.store 0)) (clock.command v) (readings_at v 0) Z.state l Z.holds (let e = same in let z = room in omega arith) session cmd brief
         (service_room v.log O.short O.values (v.store 0) (length v.log) V room (service_of cmd)) (value_val v.log O.short O.values (v.store 0) (length v.log) V room cmd form 0 (omega arith)))
 
     module _ (u : World) (o2 : Onward Us v u) (K : Did Us Goal v 0 u) where
@@ -172,7 +172,7 @@ module _ (most : 1 ≤ 15) (rule : Rule) (events : List Event) (F : AllFit 1 eve
       Vu : HasVersions u.log (length u.log) (u.store 0)
       Vu = let W = whole u Hu in W.versions
 
-      module _ (C : Commits most rule (shared_entries (v.store 0)) 0 (readings_at v 0) l cmd session K.y) where
+      module _ (C : Commits most rule (shared_entries (v.store 0)) (clock.command v) (readings_at v 0) l cmd session K.y) where
         long : length u.log ≡ suc l
         long = sym (read u Hu) ∙ ap (λ (r : Readings). r.last) K.moved.reads ∙ C.last
 
@@ -303,14 +303,14 @@ module _ (most : 1 ≤ 15) (rule : Rule) (events : List Event) (F : AllFit 1 eve
   alone_served : Plays Us (way_back (lone most rule) q session cmd) 2 (IsServed 1 session cmd w0) w0
   alone_served = subst (λ (r : ℕ). Plays Us (electing.elects 1 q r ++ plan.led 1 r session cmd) 2 (IsServed 1 session cmd w0) w0) (sym lowest_is) alone_by
 
-  pub lone_way : PlannedWay (lone most rule) events q (Some (session, cmd)) (way_back (lone most rule) q session cmd) (2 * 1 * 1 + 14 * 1 + 5) (IsServed 1 session cmd)
+  pub lone_way : PlannedWay (lone most rule) events q (Some (session, cmd)) clock (way_back (lone most rule) q session cmd) (2 * 1 * 1 + 14 * 1 + 5) (IsServed 1 session cmd)
   unfolding alone_served
   lone_way = record {
     way = record {
       more = C.events;
       few = (let z = C.few in omega arith);
       steps = C.steps;
-      fits = steps_fit (lone most rule) q (length w0.messages) M.below (Some (session, cmd)) (request_fits cmd form) w0 C.events C.steps;
+      fits = steps_fit (lone most rule) q (length w0.messages) M.below (Some (session, cmd)) (request_fits cmd form) clock w0 C.events C.steps;
       goes_on = ap (λ (r : Ran). r.stop) further;
       rest = subst (λ (r : Ran). OthersRest q w0 r.world) (sym further) (let o = C.onward in o.rest);
       leads = subst (λ (r : Ran). IsServed 1 session cmd w0 r.world) (sym further) C.there;
@@ -329,10 +329,10 @@ module _ (most : 1 ≤ 15) (rule : Rule) (events : List Event) (F : AllFit 1 eve
 abbrev Serves : Rule → ℕ → Type 0
 Serves rule k = (most : k ≤ 15) → (let ms : Monitors = record { count = k; most = most; rule = rule } in
     (events : List Event) → AllFit k events → (ran ms events).stop ≡ None → (q : List Bool) → IsMajorityOf k q → IsReady ms q (run ms events) → (s : Session) (c : Command) → IsCommand c → is_too_long c ≡ false
-    → PlannedWay ms events q (Some (s, c)) (way_back ms q s c) (2 * k * k + 14 * k + 5) (IsServed k s c))
+    → (clock : Clock) → PlannedWay ms events q (Some (s, c)) clock (way_back ms q s c) (2 * k * k + 14 * k + 5) (IsServed k s c))
 
 pub lone_serves : (ms : Monitors) → ms.count ≡ 1 → (events : List Event) → AllFit ms.count events → (ran ms events).stop ≡ None
     → (q : List Bool) → IsMajorityOf ms.count q → AllNear q (run ms events) → IsReady ms q (run ms events) → (s : Session) (c : Command) → IsCommand c → is_too_long c ≡ false
-    → PlannedWay ms events q (Some (s, c)) (way_back ms q s c) (2 * ms.count * ms.count + 14 * ms.count + 5) (IsServed ms.count s c)
-lone_serves ms one events F on q M near ready s c form brief =
-    (subst (Serves ms.rule) (sym one) (λ most events F on q M ready s c form brief. lone_way most ms.rule events F on q M ready s c form brief)) ms.most events F on q M ready s c form brief
+    → (clock : Clock) → PlannedWay ms events q (Some (s, c)) clock (way_back ms q s c) (2 * ms.count * ms.count + 14 * ms.count + 5) (IsServed ms.count s c)
+lone_serves ms one events F on q M near ready s c form brief clock =
+    (subst (Serves ms.rule) (sym one) (λ most events F on q M ready s c form brief clock. lone_way most ms.rule events F on q M ready s c form brief clock)) ms.most events F on q M ready s c form brief clock

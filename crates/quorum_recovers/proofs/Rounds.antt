@@ -316,13 +316,13 @@ module _ (G : Majority) (Q : Term G) where
           above : (v : World) → On w v → leaders.Answered G Q top.rank Y.l (max z.0 Y.pn) w v → Does Us (plans.Hears r top.rank kind.Last ∷ []) 1 Above v
           above v o R = does_weaker Us (omega arith) after
               (deliver Us v (let FV = R.fit in FV.room) r (lt_of r mine) (within r mine) Goal (letter n top.rank e (body.Last (max z.0 Y.pn) R.first (T top.rank) Ans.whole (suc Y.l) Ans.values Ans.told)) (subst (λ (b : Body). Mail top.rank r b v) Ans.is R.mail) hub.state hub.up
-              (asks_above ms several r (lt_of r mine) (shared_entries (v.store r)) 0 (readings_at v r) hub.state e a Y.l Y.pn (only r) T hub.holds (terms.not_alone G Q (lt_of r mine)) top.rank top.within other (max z.0 Y.pn) R.first (T top.rank) Ans.whole (suc Y.l) Ans.values Ans.told (let t = promise_top z.0 z.1 in omega arith) (max z.0 Y.pn + 114) (omega arith) (let x = z.2 in let y = Y.room in omega arith)))
+              (asks_above ms several r (lt_of r mine) (shared_entries (v.store r)) (G.clock.event v) (readings_at v r) hub.state e a Y.l Y.pn (only r) T hub.holds (terms.not_alone G Q (lt_of r mine)) top.rank top.within other (max z.0 Y.pn) R.first (T top.rank) Ans.whole (suc Y.l) Ans.values Ans.told (let t = promise_top z.0 z.1 in omega arith) (max z.0 Y.pn + 114) (omega arith) (let x = z.2 in let y = Y.room in omega arith)))
             where
               Ans : IsAnswer R.tells (max z.0 Y.pn) R.first (T top.rank) (suc Y.l)
               Ans = R.answer
 
               Goal : Course → Type 0
-              Goal y = Asks ms several r (lt_of r mine) (shared_entries (v.store r)) 0 e a Y.l (max z.0 Y.pn) (max z.0 Y.pn + 114) T y
+              Goal y = Asks ms several r (lt_of r mine) (shared_entries (v.store r)) (G.clock.event v) e a Y.l (max z.0 Y.pn) (max z.0 Y.pn + 114) T y
 
               hub : Is (IsAsking r e a Y.l Y.pn (only r) T) v r
               hub = is_stays (IsAsking r e a Y.l Y.pn (only r) T) w v r (R.others r (λ x. other (sym x))) Hub
@@ -333,7 +333,7 @@ module _ (G : Majority) (Q : Term G) where
                   FU : Fit u
                   FU = leaders.fit_on G Q Goal v u r o2 D R.fit
 
-                  S : Asks ms several r (lt_of r mine) (shared_entries (v.store r)) 0 e a Y.l (max z.0 Y.pn) (max z.0 Y.pn + 114) T D.y
+                  S : Asks ms several r (lt_of r mine) (shared_entries (v.store r)) (G.clock.event v) e a Y.l (max z.0 Y.pn) (max z.0 Y.pn + 114) T D.y
                   S = D.did
 
                   at : Is (IsAsking r e a Y.l S.pn (only r) T) u r

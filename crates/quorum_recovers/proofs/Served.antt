@@ -20,7 +20,7 @@ use Rattle.quorum_elects.proofs.Standing.{CloseAt, Is, IsCollector, IsPeon}
 use Rattle.quorum_elects.proofs.Voting.{Following}
 use Rattle.quorum_elects.specs.Plans.{PlannedWay}
 use Rattle.quorum_elects.specs.Ready.{AllNear, HasRoom, IsReady, LacksAtMost}
-use Rattle.quorum_elects.specs.Ways.{HasWay, IsAskedBy}
+use Rattle.quorum_elects.specs.Ways.{Clock, ComesInLease, HasWay, IsAskedBy}
 use Rattle.quorum_laws.specs.Accepting.{IsMajorityOf, readings_at}
 use Rattle.quorum_model.specs.Agree.{IsAsked}
 use Rattle.quorum_model.specs.CalmSchedule.{request_of}
@@ -41,7 +41,7 @@ use Rattle.quorum_walk.proofs.Ranks.{has_only_is}
 use Rattle.std.proofs.Common.{Bool, Err, List, None, Some, [], arith, false, inl, inr, length, refl, subst, suc, sym, true, ℕ, ◌*◌, ◌+◌, ◌<◌, ◌∷◌, ◌≡◌, ◌≤◌, ◌⊎◌}
 use Rattle.std.proofs.lemmas.Bool.{cases_order}
 
-module _ (G : Majority) (room : HasRoom G.c) (log : length G.from.log ≡ G.c) (session : Session) (cmd : Command) (asks : G.asks ≡ Some (session, cmd)) (form : IsCommand cmd) (brief : is_too_long cmd ≡ false) where
+module _ (G : Majority) (room : HasRoom G.c) (log : length G.from.log ≡ G.c) (session : Session) (cmd : Command) (asks : G.asks ≡ Some (session, cmd)) (form : IsCommand cmd) (brief : is_too_long cmd ≡ false) (leased : ComesInLease G.q G.clock) where
   abbrev n : ℕ
   n = G.ms.count
 
@@ -143,7 +143,7 @@ module _ (G : Majority) (room : HasRoom G.c) (log : length G.from.log ≡ G.c) (
 
     served : Plays (scope G) (led n K.r session cmd) (2 + (2 * n + 2 * n) + ((1 * n + (2 * n + 1 * n)) + (1 + 2 * n))) (IsServed n session cmd G.from) v
     served = plays_weaker Us (omega arith) (λ u o2 S. answer u S)
-        (serving.serves_all G term session cmd (subst (λ a. IsAskedBy a session (request_of cmd)) (sym asks) (refl, refl)) form brief v fit first)
+        (serving.serves_all G term session cmd (subst (λ a. IsAskedBy a session (request_of cmd)) (sym asks) (refl, refl)) form brief leased v fit first)
 
   module _ (m : ℕ) (among : has G.q m ≡ true) (may_lead : allows G.ms.rule m ≡ true) (sane : Sane (scope G) G.from) where
     pub is_served_by : Plays (scope G) (way_back G.ms G.q session cmd) (2 * n * n + 14 * n + 5) (IsServed n session cmd G.from) G.from
@@ -158,41 +158,41 @@ module _ (G : Majority) (room : HasRoom G.c) (log : length G.from.log ≡ G.c) (
 -- a majority serves of which each member lacks at most one version
 pub close_serve : (ms : Monitors) → 1 < ms.count → (events : List Event) → AllFit ms.count events → (ran ms events).stop ≡ None
     → (q : List Bool) → IsMajorityOf ms.count q → ((i : ℕ) → has q i ≡ true → LacksAtMost 1 (run ms events) i) → IsReady ms q (run ms events) → (s : Session) (c : Command) → IsCommand c → is_too_long c ≡ false
-    → HasWay ms events q (Some (s, c)) (2 * ms.count * ms.count + 14 * ms.count + 5) (IsServed ms.count s c)
-close_serve ms several events F on q M near ready s c form brief =
-    way ms several events F on q M near ready (Some (s, c)) (request_fits c form) (2 * ms.count * ms.count + 14 * ms.count + 5) (IsServed ms.count s c)
-    (is_served (the_majority ms several events F on q M near ready (Some (s, c))) ready.log refl s c refl form brief ready.leader ready.among ready.may_lead (its_sane ms several events F on q M near ready (Some (s, c))))
+    → (clock : Clock) → ComesInLease q clock → HasWay ms events q (Some (s, c)) clock (2 * ms.count * ms.count + 14 * ms.count + 5) (IsServed ms.count s c)
+close_serve ms several events F on q M near ready s c form brief clock leased =
+    way ms several events F on q M near ready (Some (s, c)) clock (request_fits c form) (2 * ms.count * ms.count + 14 * ms.count + 5) (IsServed ms.count s c)
+    (is_served (the_majority ms several events F on q M near ready (Some (s, c)) clock) ready.log refl s c refl form brief leased ready.leader ready.among ready.may_lead (its_sane ms several events F on q M near ready (Some (s, c)) clock))
 
 several_serve : (ms : Monitors) → 1 < ms.count → (events : List Event) → AllFit ms.count events → (ran ms events).stop ≡ None
     → (q : List Bool) → IsMajorityOf ms.count q → AllNear q (run ms events) → IsReady ms q (run ms events) → (s : Session) (c : Command) → IsCommand c → is_too_long c ≡ false
-    → PlannedWay ms events q (Some (s, c)) (way_back ms q s c) (2 * ms.count * ms.count + 14 * ms.count + 5) (IsServed ms.count s c)
+    → (clock : Clock) → ComesInLease q clock → PlannedWay ms events q (Some (s, c)) clock (way_back ms q s c) (2 * ms.count * ms.count + 14 * ms.count + 5) (IsServed ms.count s c)
 unfolding way way_on is_served_by
-several_serve ms several events F on q M near ready s c form brief =
+several_serve ms several events F on q M near ready s c form brief clock leased =
     let lacks : (i : ℕ) → has q i ≡ true → LacksAtMost 1 (run ms events) i = λ i h. near_lacks (run ms events) i (near i h) in
-    let P = is_served_by (the_majority ms several events F on q M lacks ready (Some (s, c))) ready.log refl s c refl form brief ready.leader ready.among ready.may_lead (its_sane ms several events F on q M lacks ready (Some (s, c))) in
+    let P = is_served_by (the_majority ms several events F on q M lacks ready (Some (s, c)) clock) ready.log refl s c refl form brief leased ready.leader ready.among ready.may_lead (its_sane ms several events F on q M lacks ready (Some (s, c)) clock) in
     record {
-      way = way ms several events F on q M lacks ready (Some (s, c)) (request_fits c form) (2 * ms.count * ms.count + 14 * ms.count + 5) (IsServed ms.count s c) P.can;
+      way = way ms several events F on q M lacks ready (Some (s, c)) clock (request_fits c form) (2 * ms.count * ms.count + 14 * ms.count + 5) (IsServed ms.count s c) P.can;
       follows = P.follow;
     }
 
 -- by events that are planned
 pub serves_as_planned : (ms : Monitors) → 1 ≤ ms.count → (events : List Event) → AllFit ms.count events → (ran ms events).stop ≡ None
     → (q : List Bool) → IsMajorityOf ms.count q → AllNear q (run ms events) → IsReady ms q (run ms events) → (s : Session) (c : Command) → IsCommand c → is_too_long c ≡ false
-    → PlannedWay ms events q (Some (s, c)) (way_back ms q s c) (2 * ms.count * ms.count + 14 * ms.count + 5) (IsServed ms.count s c)
-serves_as_planned ms some events F on q M near ready s c form brief = by (cases_order 1 ms.count)
+    → (clock : Clock) → ComesInLease q clock → PlannedWay ms events q (Some (s, c)) clock (way_back ms q s c) (2 * ms.count * ms.count + 14 * ms.count + 5) (IsServed ms.count s c)
+serves_as_planned ms some events F on q M near ready s c form brief clock leased = by (cases_order 1 ms.count)
   where
-    by : (1 ≡ ms.count) ⊎ ((1 < ms.count) ⊎ (ms.count < 1)) → PlannedWay ms events q (Some (s, c)) (way_back ms q s c) (2 * ms.count * ms.count + 14 * ms.count + 5) (IsServed ms.count s c)
-    by (inl e) = lone_serves ms (sym e) events F on q M near ready s c form brief
-    by (inr (inl several)) = several_serve ms several events F on q M near ready s c form brief
+    by : (1 ≡ ms.count) ⊎ ((1 < ms.count) ⊎ (ms.count < 1)) → PlannedWay ms events q (Some (s, c)) clock (way_back ms q s c) (2 * ms.count * ms.count + 14 * ms.count + 5) (IsServed ms.count s c)
+    by (inl e) = lone_serves ms (sym e) events F on q M near ready s c form brief clock
+    by (inr (inl several)) = several_serve ms several events F on q M near ready s c form brief clock leased
     by (inr (inr none)) = absurd (omega arith)
 
 pub serves_any : (ms : Monitors) → 1 ≤ ms.count → (events : List Event) → AllFit ms.count events → (ran ms events).stop ≡ None
     → (q : List Bool) → IsMajorityOf ms.count q → AllNear q (run ms events) → IsReady ms q (run ms events) → (s : Session) (c : Command) → IsCommand c → is_too_long c ≡ false
-    → HasWay ms events q (Some (s, c)) (2 * ms.count * ms.count + 14 * ms.count + 5) (IsServed ms.count s c)
-serves_any ms some events F on q M near ready s c form brief = let P = serves_as_planned ms some events F on q M near ready s c form brief in P.way
+    → (clock : Clock) → ComesInLease q clock → HasWay ms events q (Some (s, c)) clock (2 * ms.count * ms.count + 14 * ms.count + 5) (IsServed ms.count s c)
+serves_any ms some events F on q M near ready s c form brief clock leased = let P = serves_as_planned ms some events F on q M near ready s c form brief clock leased in P.way
 
 pub recovers : (ms : Monitors) → 1 ≤ ms.count → (events : List Event) → AllFit ms.count events → (ran ms events).stop ≡ None
-    → (s : Session) (c : Command) → IsCommand c → is_too_long c ≡ false → SomeWay ms events (Some (s, c)) (2 * ms.count * ms.count + 14 * ms.count + 5) (IsServed ms.count s c)
-recovers ms some events F on s c form brief =
+    → (s : Session) (c : Command) → IsCommand c → is_too_long c ≡ false → (clock : Clock) → SomeWay ms events (Some (s, c)) clock (2 * ms.count * ms.count + 14 * ms.count + 5) (IsServed ms.count s c)
+recovers ms some events F on s c form brief clock =
     let N = near ms events F some in
-    record { by = N.by; major = N.major; way = λ ready. serves_any ms some events F on N.by N.major N.near ready s c form brief }
+    record { by = N.by; major = N.major; way = λ ready leased. serves_any ms some events F on N.by N.major N.near ready s c form brief clock leased }

@@ -10,6 +10,7 @@ use Rattle.mon_msg.specs.Protocol.Phases.{same_phase}
 use Rattle.mon_msg.specs.Protocol.Proposing.{refusal}
 use Rattle.mon_msg.specs.Protocol.Readings.{Readings, promise_of, shared_entries}
 use Rattle.mon_msg.specs.Protocol.Sets.{only}
+use Rattle.mon_msg.specs.Protocol.State.{State}
 use Rattle.mon_msg.specs.Protocol.Value.{service_of, value}
 use Rattle.mon_msg.specs.declared.plan.Origin.TheVariants as origin
 use Rattle.mon_tx.specs.Text.{text}
@@ -33,7 +34,7 @@ use Rattle.quorum_elects.proofs.Steps.{ask, is_now, is_stays}
 use Rattle.quorum_elects.proofs.Tests.{and_false, in_phase, itself_is, otherwise, outside_is, quorum_is}
 use Rattle.quorum_elects.specs.Electing as electing
 use Rattle.quorum_elects.specs.Plans as plans
-use Rattle.quorum_elects.specs.Ways.{IsAskedBy}
+use Rattle.quorum_elects.specs.Ways.{ComesInLease, IsAskedBy}
 use Rattle.quorum_history.proofs.History.{Accepted}
 use Rattle.quorum_history.proofs.Holds.{ActsIn, InPhase, core_of}
 use Rattle.quorum_laws.proofs.Chosen.{leaders_know}
@@ -58,7 +59,7 @@ use Rattle.quorum_recovers.specs.Plan as plan
 use Rattle.quorum_walk.proofs.FineCourses.{Val}
 use Rattle.quorum_walk.proofs.Ranks.{majorities}
 use Rattle.quorum_walk.proofs.Sparing.{own_of}
-use Rattle.std.proofs.Common.{Bool, Err, List, None, Some, [], ap, arith, false, inl, inr, length, ltb, refl, subst, suc, sym, true, ℕ, ◌%◌, ◌&&◌, ◌*◌, ◌+◌, ◌-◌, ◌<◌, ◌^◌, ◌∙◌, ◌∷◌, ◌≡◌, ◌≤◌, ◌⊎◌}
+use Rattle.std.proofs.Common.{Bool, Err, IfSome, List, None, Option, Some, [], ap, arith, false, inl, inr, length, ltb, refl, subst, suc, sym, true, ℕ, ◌%◌, ◌&&◌, ◌*◌, ◌+◌, ◌-◌, ◌<◌, ◌^◌, ◌∙◌, ◌∷◌, ◌≡◌, ◌≤◌, ◌⊎◌}
 use Rattle.std.proofs.lemmas.Bool.{cases_lt, le-ltb, lt-ltb}
 
 module _ (G : Majority) (Q : Term G) where
@@ -129,13 +130,13 @@ module _ (G : Majority) (Q : Term G) where
     pub l : ℕ
     pub pn : ℕ
     pub short : pn ≤ 2 ^ 62
-    pub hub : Is (IsActive r e a l pn 0) w r
+    pub hub : Is (IsActive r e a l pn) w r
     pub peons : committing.Level G Q l pn w
     pub low : c ≤ l
     pub high : l ≤ suc c
 
   -- an active leader has the whole log: a majority accepted the last version, so a member of its quorum did
-  whole_log : (w : World) → Fit w → (l pn : ℕ) → Is (IsActive r e a l pn 0) w r → ((f : ℕ) → has a f ≡ true → (f ≡ r → ⊥) → (u : ℕ) × Is (IsHearing r e a u pn) w f) → length w.log ≤ l
+  whole_log : (w : World) → Fit w → (l pn : ℕ) → Is (IsActive r e a l pn) w r → ((f : ℕ) → has a f ≡ true → (f ≡ r → ⊥) → (u : ℕ) × Is (IsHearing r e a u pn) w f) → length w.log ≤ l
   whole_log w F l pn Z peons = by (cases_lt l (length w.log))
     where
       I : InvOf ms w
@@ -144,7 +145,7 @@ module _ (G : Majority) (Q : Term G) where
       O : OfLog ms w w.asked F.holds.0.0
       O = F.holds.0.1
 
-      H : IsActive r e a l pn 0 (readings_at w r) Z.state
+      H : IsActive r e a l pn (readings_at w r) Z.state
       H = Z.holds
 
       acts : ActsIn n I.g r (core_of (own_of (readings_at w r)) Z.state)
@@ -182,11 +183,11 @@ module _ (G : Majority) (Q : Term G) where
       by (inr ge) = ge
       by (inl less) = absurd (lacks (length w.log - 1) (omega arith) (omega arith))
 
-  rests_active : (l pn : ℕ) → pn ≤ 2 ^ 62 → l ≤ 2 ^ 62 → (U : ℕ → ℕ) → ((f : ℕ) → has a f ≡ true → U f ≤ l) → ((f : ℕ) → has a f ≡ true → l ≤ suc (U f)) → (value : List Op) → (1 ≤ l → Val value) → c ≤ l → l ≤ suc c → (w : World) → Fit w → Is (IsActive r e a l pn 0) w r
+  rests_active : (l pn : ℕ) → pn ≤ 2 ^ 62 → l ≤ 2 ^ 62 → (U : ℕ → ℕ) → ((f : ℕ) → has a f ≡ true → U f ≤ l) → ((f : ℕ) → has a f ≡ true → l ≤ suc (U f)) → (value : List Op) → (1 ≤ l → Val value) → c ≤ l → l ≤ suc c → (w : World) → Fit w → Is (IsActive r e a l pn) w r
       → ((f : ℕ) → f < n → has a f ≡ true → (f ≡ r → ⊥) → U f < l → Mail r f (body.Commit l (value ∷ [])) w) → ((f : ℕ) → has a f ≡ true → (f ≡ r → ⊥) → Is (IsHearing r e a (U f) pn) w f) → Plays Us (electing.each n (plan.commits r)) (1 * n) Resting w
   rests_active l pn short room U top lag value fine low high w F hub commits peons =
       plays_weaker Us (omega arith) (λ v o C. record { fit = C.fit; l = l; pn = pn; short = short; hub = C.hub; peons = λ f h ne. C.done f (below f h) h ne; low = low; high = high })
-      (committing.catch_all G Q (IsActive r e a l pn 0) (λ v. Unit {0}) (λ v u o k. tt) l pn room U top lag value fine (λ w s H. (H.last, H.quorum)) w (record { fit = F; hub = hub; post = tt; commits = commits; done = λ f less h ne. absurd (omega arith); left = λ f more h ne. peons f h ne }))
+      (committing.catch_all G Q (IsActive r e a l pn) (λ v. Unit {0}) (λ v u o k. tt) l pn room U top lag value fine (λ w s H. (H.last, H.quorum)) w (record { fit = F; hub = hub; post = tt; commits = commits; done = λ f less h ne. absurd (omega arith); left = λ f more h ne. peons f h ne }))
 
   -- once it rests, nobody lacks a version and nothing is in progress
   not_in : (w : World) (R : Resting w) (p : Phase) → same_phase phase.Active p ≡ false → electing.is_in w r p ≡ false
@@ -217,7 +218,7 @@ module _ (G : Majority) (Q : Term G) where
       S : leaders.Settled G Q w
       S = Y.settled
 
-      whole_then : (l pn : ℕ) → Is (IsActive r e a l pn 0) w r → ((f : ℕ) → has a f ≡ true → (f ≡ r → ⊥) → Is (IsHearing r e a (T f) pn) w f) → c ≤ l
+      whole_then : (l pn : ℕ) → Is (IsActive r e a l pn) w r → ((f : ℕ) → has a f ≡ true → (f ≡ r → ⊥) → Is (IsHearing r e a (T f) pn) w f) → c ≤ l
       whole_then l pn Z peons = let z = whole_log w Y.fit l pn Z (λ f h ne. (T f, peons f h ne)) in let F = Y.fit in let y = F.log in omega arith
 
       lag : (f : ℕ) → has a f ≡ true → S.l ≤ suc (T f)
@@ -247,20 +248,25 @@ module _ (G : Majority) (Q : Term G) where
     pub answer : ((v : ℕ) × HasReply w r session (reply.Done (suc v)) × (c ≤ v) × (v ≤ suc c) × (v < length w.log) × IsAsked n (asked_at r session cmd ∷ []) w.log v)
         ⊎ ((why : CommandRefused) × (value (readings_at w r) cmd r ≡ Err why) × HasReply w r session (refusal why))
 
-  pub answers : (session : Session) (cmd : Command) → IsAskedBy G.asks session (request_of cmd) → IsCommand cmd → is_too_long cmd ≡ false → (w : World) → Resting w → Plays Us (plan.serving n r session cmd) (1 + 2 * n) (Served w.events session cmd) w
-  answers session cmd may form short w R =
+  pub answers : (session : Session) (cmd : Command) → IsAskedBy G.asks session (request_of cmd) → IsCommand cmd → is_too_long cmd ≡ false → ComesInLease G.q G.clock → (w : World) → Resting w → Plays Us (plan.serving n r session cmd) (1 + 2 * n) (Served w.events session cmd) w
+  answers session cmd may form short leased w R =
       plays_then Us (step Us (plan.asks r session cmd) (plans.Asks r session cmd ∷ []) refl (ask Us w (let F = R.fit in F.room) r (lt_of r mine) (within r mine) Goal session cmd may (request_fits cmd form) Z.state Z.up
-      (proposes ms several r (lt_of r mine) (shared_entries (w.store r)) 0 (readings_at w r) Z.state e a R.l R.pn Z.holds (terms.not_alone G Q (lt_of r mine)) (omega arith) room session cmd short
+      (proposes ms several r (lt_of r mine) (shared_entries (w.store r)) (G.clock.command w) (readings_at w r) Z.state e a R.l R.pn Z.holds (terms.not_alone G Q (lt_of r mine)) stands room session cmd short
       (service_room w.log O.short O.values (w.store r) V.last V.versions less (service_of cmd)) (λ x is. value_val w.log O.short O.values (w.store r) V.last V.versions less cmd form r (terms.few_r G Q) x is)))) after
     where
       F : Fit w
       F = R.fit
 
-      Z : Is (IsActive r e a R.l R.pn 0) w r
+      Z : Is (IsActive r e a R.l R.pn) w r
       Z = R.hub
 
-      H : IsActive r e a R.l R.pn 0 (readings_at w r) Z.state
+      H : IsActive r e a R.l R.pn (readings_at w r) Z.state
       H = Z.holds
+
+      stands : (end : ℕ) → Z.state.leader.lease ≡ Some end → G.clock.command w ≤ end - 1
+      stands end is =
+          subst (λ (o : Option ℕ). IfSome o (λ end. G.clock.command w ≤ end - 1)) is
+          (subst (λ (o : Option State). IfSome o (λ s. s.phase ≡ phase.Active → IfSome s.leader.lease (λ end. G.clock.command w ≤ end - 1))) Z.up (leased w r (within r mine)) H.phase)
 
       room : suc R.l ≤ 2 ^ 62
       room = terms.version_room G Q R.l R.high
@@ -281,7 +287,7 @@ module _ (G : Majority) (Q : Term G) where
       whole = let low = whole_log w F R.l R.pn Z (λ f h ne. (R.l, R.peons f h ne)) in let high = within_log ms several w F.holds r (below r mine) H.unmarked in omega (arith, H.last)
 
       Goal : Course → Type 0
-      Goal y = Proposes ms several r (lt_of r mine) (shared_entries (w.store r)) 0 (readings_at w r) cmd e a R.l R.pn session y ⊎ Refuses ms several r (lt_of r mine) (shared_entries (w.store r)) 0 (readings_at w r) cmd session y
+      Goal y = Proposes ms several r (lt_of r mine) (shared_entries (w.store r)) (G.clock.command w) (readings_at w r) cmd e a R.l R.pn session y ⊎ Refuses ms several r (lt_of r mine) (shared_entries (w.store r)) (G.clock.command w) (readings_at w r) cmd session y
 
       after : (v : World) → On w v → Did Us Goal w r v → Plays Us (electing.each n (plan.accepts phase.Updating r)) (2 * n) (Served w.events session cmd) v
       after v o D = by D.did
@@ -311,5 +317,5 @@ module _ (G : Majority) (Q : Term G) where
                   }
           by (inr P) = plays_none Us n (plan.accepts phase.Updating r) (λ k. otherwise _ _ (electing.is_other (electing.quorum_at v r) r k && electing.is_in v r phase.Updating) (and_false (electing.is_other (electing.quorum_at v r) r k) (electing.is_in v r phase.Updating) (in_phase v r D.y.state phase.Active phase.Updating D.moved.up P.phase))) (record { later = (let p = D.moved.elapses in omega arith); answer = inr (P.why, subst (λ (x : Readings). value x cmd r ≡ Err P.why) (sym (D.moved.reads ∙ P.reads)) P.is, D.moved.replies session (refusal P.why) P.says) })
 
-  pub serves_all : (session : Session) (cmd : Command) → IsAskedBy G.asks session (request_of cmd) → IsCommand cmd → is_too_long cmd ≡ false → (w : World) → Fit w → First w → Plays Us (plan.led n r session cmd) (2 + (2 * n + 2 * n) + ((1 * n + (2 * n + 1 * n)) + (1 + 2 * n))) (Served w.events session cmd) w
-  serves_all session cmd may form short w F Y = plays_then Us (rounds.ready G Q w F Y) (λ v o X. plays_then Us (rests_first v X) (λ u o2 R. plays_weaker Us (omega arith) (λ x o3 S. record { answer = S.answer; later = (let a = o.elapsed in let b = o2.elapsed in let z = S.later in omega arith) }) (answers session cmd may form short u R)))
+  pub serves_all : (session : Session) (cmd : Command) → IsAskedBy G.asks session (request_of cmd) → IsCommand cmd → is_too_long cmd ≡ false → ComesInLease G.q G.clock → (w : World) → Fit w → First w → Plays Us (plan.led n r session cmd) (2 + (2 * n + 2 * n) + ((1 * n + (2 * n + 1 * n)) + (1 + 2 * n))) (Served w.events session cmd) w
+  serves_all session cmd may form short leased w F Y = plays_then Us (rounds.ready G Q w F Y) (λ v o X. plays_then Us (rests_first v X) (λ u o2 R. plays_weaker Us (omega arith) (λ x o3 S. record { answer = S.answer; later = (let a = o.elapsed in let b = o2.elapsed in let z = S.later in omega arith) }) (answers session cmd may form short leased u R)))

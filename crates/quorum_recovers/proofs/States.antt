@@ -16,7 +16,7 @@ use Rattle.mon_wire.specs.declared.phase.Phase.TheVariants as phase
 use Rattle.quorum_elects.proofs.Values.{FoundShort}
 use Rattle.quorum_recovers.proofs.LastAnswers.{fits_commit, run_one}
 use Rattle.quorum_walk.proofs.Lists.{Among, among_left, among_right}
-use Rattle.std.proofs.Common.{Bool, List, Option, Some, [], ap, arith, cond, false, inl, inr, length, refl, subst, suc, true, zero, ℕ, ◌-◌, ◌<◌, ◌^◌, ◌||◌, ◌∙◌, ◌∷◌, ◌≡◌, ◌≤◌}
+use Rattle.std.proofs.Common.{Bool, List, Option, Some, [], ap, arith, cond, false, inl, inr, length, min, refl, subst, suc, true, zero, ℕ, ◌+◌, ◌-◌, ◌<◌, ◌^◌, ◌||◌, ◌∙◌, ◌∷◌, ◌≡◌, ◌≤◌}
 use Rattle.std.specs.List.{flat_map}
 use Rattle.std.specs.Prelude.{slice_index_or, slice_set}
 
@@ -49,8 +49,16 @@ pub record IsAsking (i e : ℕ) (a : List Bool) (l pn : ℕ) (A : List Bool) (T 
   pub long : length s.leader.lasts ≡ 15
   pub queue : s.clients.queue ≡ []
 
+-- a leader with a lease
+abbrev pub HasLease : State → Type 0
+HasLease s = (end : ℕ) × (s.leader.lease ≡ Some end) × (0 < end)
+
+-- the lease that a leader gives itself has an end
+pub lease_given : (now : ℕ) → (end : ℕ) × (lease.extended now ≡ Some end) × (0 < end)
+lease_given now = (min (now + 5000) (2 ^ 62), refl, omega arith)
+
 -- an active leader of l versions
-pub record IsActive (i e : ℕ) (a : List Bool) (l pn now : ℕ) (w : Readings) (s : State) : Type 0 where
+pub record IsActive (i e : ℕ) (a : List Bool) (l pn : ℕ) (w : Readings) (s : State) : Type 0 where
   pub unmarked : w.marked ≡ false
   pub epoch : epoch_of w ≡ e
   pub last : w.last ≡ l
@@ -59,7 +67,7 @@ pub record IsActive (i e : ℕ) (a : List Bool) (l pn now : ℕ) (w : Readings) 
   pub phase : s.phase ≡ phase.Active
   pub quorum : s.leader.quorum ≡ a
   pub number : s.leader.pn ≡ pn
-  pub lease : s.leader.lease ≡ lease.extended now
+  pub lease : HasLease s
   pub queue : s.clients.queue ≡ []
 
 -- a leader that proposes a value, which those of A accepted

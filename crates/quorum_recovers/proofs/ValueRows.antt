@@ -4,7 +4,6 @@ use Rattle.mon_bytes.specs.declared.command.Command.TheVariants as command
 use Rattle.mon_bytes.specs.declared.command.CommandRefused.{CommandRefused}
 use Rattle.mon_bytes.specs.declared.entry.Entry.{Entry}
 use Rattle.mon_lease.specs.Lease.{stands}
-use Rattle.mon_lease.specs.Lease as lease
 use Rattle.mon_msg.specs.Protocol.Changes.{Last, Learn, Vote}
 use Rattle.mon_msg.specs.Protocol.Commands.{ask, is_too_long, may_propose}
 use Rattle.mon_msg.specs.Protocol.Course.{Course, change, disarm, leader_is, ◌▸◌}
@@ -48,11 +47,11 @@ use Rattle.quorum_model.proofs.Members.{member_of}
 use Rattle.quorum_model.specs.CalmSchedule.{request_of}
 use Rattle.quorum_model.specs.Monitors.{Monitors}
 use Rattle.quorum_recovers.proofs.CollectRows.{same_own}
-use Rattle.quorum_recovers.proofs.States.{IsActive, IsHearing, IsProposing, or_true}
+use Rattle.quorum_recovers.proofs.States.{IsActive, IsHearing, IsProposing, lease_given, or_true}
 use Rattle.quorum_walk.proofs.FineCourses.{Val}
 use Rattle.quorum_walk.proofs.Lists.{Among, among_left, among_right}
 use Rattle.quorum_walk.proofs.Sparing.{Own}
-use Rattle.std.proofs.Common.{Bool, Err, List, None, Ok, Option, Result, Some, [], ap, arith, eqb, false, inl, inr, length, ltb, map, min, not, refl, subst, suc, sym, true, ℕ, ◌&&◌, ◌+◌, ◌-◌, ◌<◌, ◌^◌, ◌||◌, ◌∙◌, ◌∷◌, ◌≡◌, ◌≤◌, ◌⊎◌}
+use Rattle.std.proofs.Common.{Bool, Err, List, None, Ok, Option, Result, Some, [], ap, arith, eqb, false, inl, inr, length, ltb, map, not, refl, subst, suc, sym, true, ℕ, ◌&&◌, ◌+◌, ◌-◌, ◌<◌, ◌^◌, ◌||◌, ◌∙◌, ◌∷◌, ◌≡◌, ◌≤◌, ◌⊎◌}
 use Rattle.std.proofs.lemmas.Bool.{eq-eqb, le-ltb, lt-ltb, ne_eqb}
 use Rattle.std.specs.Prelude.{drop, if◌then◌else◌}
 
@@ -131,7 +130,7 @@ module _ (ms : Monitors) (several : 1 < ms.count) (i : ℕ) (lt : ltb i ms.count
   -- ---- the leader hears who accepted
 
   pub record Commits (e : ℕ) (a : List Bool) (l pn : ℕ) (value : List Op) (o : Option Origin) (y : Course) : Type 0 where
-    pub stands : IsActive i e a (suc l) pn now y.readings y.state
+    pub stands : IsActive i e a (suc l) pn y.readings y.state
     pub commits : SaysTo n i e a (body.Commit (suc l) (value ∷ [])) y.out
     pub answers : (session : Session) → o ≡ Some (origin.Session session) → Among (send.Reply session (reply.Done (suc l))) y.out
 
@@ -178,7 +177,7 @@ module _ (ms : Monitors) (several : 1 < ms.count) (i : ℕ) (lt : ltb i ms.count
                 phase = refl;
                 quorum = P.quorum;
                 number = P.number;
-                lease = refl;
+                lease = lease_given now;
                 queue = P.queue;
               };
               commits = λ g few h ne. among_left (send.Message g (letter n i e (body.Commit (suc l) (value ∷ [])))) _ _ (among_left (send.Message g (letter n i e (body.Commit (suc l) (value ∷ [])))) _ _
@@ -252,7 +251,7 @@ module _ (ms : Monitors) (several : 1 < ms.count) (i : ℕ) (lt : ltb i ms.count
     pub phase : y.state.phase ≡ phase.Active
     pub says : Among (send.Reply session (refusal why)) y.out
 
-  pub proposes : (w : Readings) (s : State) (e : ℕ) (a : List Bool) (l pn : ℕ) → IsActive i e a l pn now w s → is_alone me a ≡ false → now < 2 ^ 62 → suc l ≤ 2 ^ 62 → (session : Session) (c : Command) → is_too_long c ≡ false → suc (service_last w (service_of c)) ≤ 2 ^ 62 → ((x : List Op) → mon_value.value w c i ≡ Ok x → Val x)
+  pub proposes : (w : Readings) (s : State) (e : ℕ) (a : List Bool) (l pn : ℕ) → IsActive i e a l pn w s → is_alone me a ≡ false → ((end : ℕ) → s.leader.lease ≡ Some end → now ≤ end - 1) → suc l ≤ 2 ^ 62 → (session : Session) (c : Command) → is_too_long c ≡ false → suc (service_last w (service_of c)) ≤ 2 ^ 62 → ((x : List Op) → mon_value.value w c i ≡ Ok x → Val x)
       → Surely (Does w (λ y. Proposes w c e a l pn session y ⊎ Refuses w c session y)) (react me sh now w s (input.Client session (request_of c)))
   unfolding react hear_client ask propose begin begin_with
   proposes w s e a l pn P others soon room session c short service vals = by_test (same_phase s.phase phase.Booting) (never (ap (λ p. same_phase p phase.Booting) P.phase)) (λ _. by c short service vals)
@@ -263,11 +262,11 @@ module _ (ms : Monitors) (several : 1 < ms.count) (i : ℕ) (lt : ltb i ms.count
       x0 : Course
       x0 = at_rest w s
 
-      lease_is : lease_of s ≡ lease.extended now
-      lease_is = (λ j. if is_peon (P.phase j) then s.peon.lease else (if is_leading (P.phase j) then s.leader.lease else None)) ∙ P.lease
+      lease_is : lease_of s ≡ Some P.lease.0
+      lease_is = (λ j. if is_peon (P.phase j) then s.peon.lease else (if is_leading (P.phase j) then s.leader.lease else None)) ∙ P.lease.1
 
       standing : is_standing me now s ≡ true
-      standing = or_true (eqb n 1) (stands (lease_of s) now) (ap (λ (o : Option ℕ). stands o now) lease_is ∙ lt-ltb now (min (now + 5000) (2 ^ 62)) (omega arith))
+      standing = or_true (eqb n 1) (stands (lease_of s) now) (ap (λ (o : Option ℕ). stands o now) lease_is ∙ lt-ltb now P.lease.0 (let z = soon P.lease.0 P.lease.1 in let y = P.lease.2 in omega arith))
 
       free : (may_propose me now (at_rest w s) && not (has_queue (at_rest w s))) ≡ true
       free = λ j. (same_phase (P.phase j) phase.Active && standing j) && not (not (is_empty (P.queue j)))

@@ -7,7 +7,7 @@ use Rattle.mon_wire.specs.declared.reply.Reply.TheVariants as reply
 use Rattle.mon_wire.specs.declared.reply.Reply.{Reply}
 use Rattle.mon_wire.specs.declared.request.Session.{Session}
 use Rattle.quorum_elects.specs.Ready.{IsReady}
-use Rattle.quorum_elects.specs.Ways.{HasWay}
+use Rattle.quorum_elects.specs.Ways.{Clock, ComesInLease, HasWay}
 use Rattle.quorum_laws.specs.Accepting.{IsMajorityOf, readings_at}
 use Rattle.quorum_model.specs.Agree.{IsAsked}
 use Rattle.quorum_model.specs.CalmSchedule.{request_of}
@@ -42,9 +42,10 @@ pub record IsServed (n : ℕ) (s : Session) (c : Command) (before after : World)
   pub answer : IsDone n before after (record { rank = by.rank; session = s; request = request_of c }) by.reply
       ⊎ IsRefused c after by.rank by.reply
 
--- There is a majority that has a way on to `Leads` if it is ready to serve.
-pub record SomeWay (ms : Monitors) (events : List Event) (asks : Option (Session × Command)) (most : ℕ)
-    (Leads : World → World → Type 0) : Type 0 where
+-- There is a majority that has a way on to `Leads` if it is ready to serve. The premise on times is that the command
+-- comes before the end of its leader's lease.
+pub record SomeWay (ms : Monitors) (events : List Event) (asks : Option (Session × Command)) (clock : Clock)
+    (most : ℕ) (Leads : World → World → Type 0) : Type 0 where
   pub by : List Bool
   pub major : IsMajorityOf ms.count by
-  pub way : IsReady ms by (run ms events) → HasWay ms events by asks most Leads
+  pub way : IsReady ms by (run ms events) → ComesInLease by clock → HasWay ms events by asks clock most Leads

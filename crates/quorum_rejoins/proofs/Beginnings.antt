@@ -95,12 +95,12 @@ module _ (S : Scope) (several : 1 < S.ms.count) (P : Provider S) (k : ℕ) (othe
     starts_if w T boot none large = by (readings_at w k).marked refl
       where
         R : Course → Type 0
-        R = Begins S.ms several k lt_k (shared_entries (w.store k)) 0 (readings_at w k)
+        R = Begins S.ms several k lt_k (shared_entries (w.store k)) (S.clock.event w) (readings_at w k)
 
-        walked : Surely (Begins S.ms several k lt_k (shared_entries (w.store k)) 0 (readings_at w k)) (react (member_of S.ms k lt_k) (shared_entries (w.store k)) 0 (readings_at w k) (booting k) input.Start)
-        walked = begins S.ms several k lt_k (shared_entries (w.store k)) 0 (readings_at w k) boot
+        walked : Surely (Begins S.ms several k lt_k (shared_entries (w.store k)) (S.clock.event w) (readings_at w k)) (react (member_of S.ms k lt_k) (shared_entries (w.store k)) (S.clock.event w) (readings_at w k) (booting k) input.Start)
+        walked = begins S.ms several k lt_k (shared_entries (w.store k)) (S.clock.event w) (readings_at w k) boot
 
-        after : (v : World) → Onward S w v → Did S (Begins S.ms several k lt_k (shared_entries (w.store k)) 0 (readings_at w k)) w k v → Asking most (readings_at w k) v
+        after : (v : World) → Onward S w v → Did S (Begins S.ms several k lt_k (shared_entries (w.store k)) (S.clock.event w) (readings_at w k)) w k v → Asking most (readings_at w k) v
         after v on D =
             let B = D.did in
             record {
@@ -109,10 +109,10 @@ module _ (S : Scope) (several : 1 < S.ms.count) (P : Provider S) (k : ℕ) (othe
               asks = (B.at, D.moved.says P.p (letter n k B.at body.Probe) (B.says P.p (ltb-true P.p S.ms.count lt_p) (λ e. other (sym e))));
             }
 
-        sound : (readings_at w k).marked ≡ false → (y : Course) → Begins S.ms several k lt_k (shared_entries (w.store k)) 0 (readings_at w k) y → Sound (readings_at w k) y
+        sound : (readings_at w k).marked ≡ false → (y : Course) → Begins S.ms several k lt_k (shared_entries (w.store k)) (S.clock.event w) (readings_at w k) y → Sound (readings_at w k) y
         sound u y B = record { tells = B.tells; fits = B.fits; short = B.short; unmarked = ap (λ (r : Readings). r.marked) B.own ∙ u }
 
-        bears : size_of (w.store k) + 1000 ≤ most_size → (y : Course) → Begins S.ms several k lt_k (shared_entries (w.store k)) 0 (readings_at w k) y → Bears (w.store k) y
+        bears : size_of (w.store k) + 1000 ≤ most_size → (y : Course) → Begins S.ms several k lt_k (shared_entries (w.store k)) (S.clock.event w) (readings_at w k) y → Bears (w.store k) y
         bears room y B = record {
           tells = B.tells;
           fits = B.fits;
@@ -126,8 +126,8 @@ module _ (S : Scope) (several : 1 < S.ms.count) (P : Provider S) (k : ℕ) (othe
 
     answers : (r0 : Readings) (w : World) → Asking most r0 w → Can S 1 (Told most r0) w
     answers r0 w A = weaker S (omega arith) after
-        (deliver S w T.room P.p lt_p in_p (Answers S.ms several 0 P.p lt_p (shared_entries (w.store P.p)) 0 (readings_at w P.p) T.state k) (letter n k (A.asks).0 body.Probe) (A.asks).1 T.state T.up
-        (probed S.ms several 0 P.p lt_p (shared_entries (w.store P.p)) 0 (readings_at w P.p) T.state k (A.asks).0 other (ap (λ (m : Store). (readings_of m).marked) T.given ∙ unmarked) G.runs))
+        (deliver S w T.room P.p lt_p in_p (Answers S.ms several 0 P.p lt_p (shared_entries (w.store P.p)) (S.clock.event w) (readings_at w P.p) T.state k) (letter n k (A.asks).0 body.Probe) (A.asks).1 T.state T.up
+        (probed S.ms several 0 P.p lt_p (shared_entries (w.store P.p)) (S.clock.event w) (readings_at w P.p) T.state k (A.asks).0 other (ap (λ (m : Store). (readings_of m).marked) T.given ∙ unmarked) G.runs))
       where
         T : T2 most w
         T = A.turn
@@ -135,7 +135,7 @@ module _ (S : Scope) (several : 1 < S.ms.count) (P : Provider S) (k : ℕ) (othe
         G : Gives most T.state
         G = T.gives
 
-        after : (v : World) → Onward S w v → Did S (Answers S.ms several 0 P.p lt_p (shared_entries (w.store P.p)) 0 (readings_at w P.p) T.state k) w P.p v → Told most r0 v
+        after : (v : World) → Onward S w v → Did S (Answers S.ms several 0 P.p lt_p (shared_entries (w.store P.p)) (S.clock.event w) (readings_at w P.p) T.state k) w P.p v → Told most r0 v
         after v on D =
             let B = D.did in
             record {

@@ -162,8 +162,8 @@ module _ (S : Scope) (several : 1 < S.ms.count) (P : Provider S) (k : ℕ) (othe
 
     grants : (w : World) → Waiting most o w → Can S 1 (λ v. (c : Cookie) × Granted (suc most) o c v) w
     grants w W = weaker S (omega arith) after
-        (deliver S w T.room P.p lt_p in_p (Grants S.ms several P.p lt_p (shared_entries (w.store P.p)) 0 k true (readings_at w P.p) T.state) (letter n k (W.asks).0 body.GetCookieFull) (W.asks).1 T.state T.up
-        (grants_full S.ms several P.p lt_p (shared_entries (w.store P.p)) 0 (readings_at w P.p) T.state k (W.asks).0 other (unmarked_now w T) G.runs (let z = G.next in omega arith)))
+        (deliver S w T.room P.p lt_p in_p (Grants S.ms several P.p lt_p (shared_entries (w.store P.p)) (S.clock.event w) k true (readings_at w P.p) T.state) (letter n k (W.asks).0 body.GetCookieFull) (W.asks).1 T.state T.up
+        (grants_full S.ms several P.p lt_p (shared_entries (w.store P.p)) (S.clock.event w) (readings_at w P.p) T.state k (W.asks).0 other (unmarked_now w T) G.runs (let z = G.next in omega arith)))
       where
         T : T1 most w
         T = W.turn
@@ -172,9 +172,9 @@ module _ (S : Scope) (several : 1 < S.ms.count) (P : Provider S) (k : ℕ) (othe
         G = T.gives
 
         c : Cookie
-        c = next_cookie S.ms several P.p lt_p (shared_entries (w.store P.p)) 0 (readings_at w P.p) T.state
+        c = next_cookie S.ms several P.p lt_p (shared_entries (w.store P.p)) (S.clock.event w) (readings_at w P.p) T.state
 
-        after : (v : World) → Onward S w v → Did S (Grants S.ms several P.p lt_p (shared_entries (w.store P.p)) 0 k true (readings_at w P.p) T.state) w P.p v → (c : Cookie) × Granted (suc most) o c v
+        after : (v : World) → Onward S w v → Did S (Grants S.ms several P.p lt_p (shared_entries (w.store P.p)) (S.clock.event w) k true (readings_at w P.p) T.state) w P.p v → (c : Cookie) × Granted (suc most) o c v
         after v on D = (
           c,
           record {
@@ -191,9 +191,9 @@ module _ (S : Scope) (several : 1 < S.ms.count) (P : Provider S) (k : ℕ) (othe
 
     takes : (c : Cookie) (w : World) → Granted (suc most) o c w → Can S 1 (Chunking (suc most) o c key_place.Start (length entries)) w
     takes c w W = weaker S (omega arith) after
-        (deliver_copy S w T.room k lt_k in_k (Asked S.ms several k lt_k (shared_entries (w.store k)) 0 P.p true c (place_at key_place.Start) (readings_at w k)) (letter n P.p (W.offer).0 (body.Cookie true c t)) (W.offer).1 M.state M.up
-        (weaken (Asked S.ms several k lt_k (shared_entries (w.store k)) 0 P.p true c (place_at key_place.Start) (readings_at w k)) _ _ (λ y A. (bearing y A, A))
-        (takes_cookie S.ms several k lt_k (shared_entries (w.store k)) 0 (readings_at w k) M.state P.p (W.offer).0 true c t (λ e. other (sym e)) (M.holds).0 (le-ltb t (readings_at w k).floor low))))
+        (deliver_copy S w T.room k lt_k in_k (Asked S.ms several k lt_k (shared_entries (w.store k)) (S.clock.event w) P.p true c (place_at key_place.Start) (readings_at w k)) (letter n P.p (W.offer).0 (body.Cookie true c t)) (W.offer).1 M.state M.up
+        (weaken (Asked S.ms several k lt_k (shared_entries (w.store k)) (S.clock.event w) P.p true c (place_at key_place.Start) (readings_at w k)) _ _ (λ y A. (bearing y A, A))
+        (takes_cookie S.ms several k lt_k (shared_entries (w.store k)) (S.clock.event w) (readings_at w k) M.state P.p (W.offer).0 true c t (λ e. other (sym e)) (M.holds).0 (le-ltb t (readings_at w k).floor low))))
       where
         T : T1 (suc most) w
         T = W.turn
@@ -210,13 +210,13 @@ module _ (S : Scope) (several : 1 < S.ms.count) (P : Provider S) (k : ℕ) (othe
           | inr far ↦ (let e = ap (λ (l : List (List ℕ)). length l) T.log in omega arith)
         ]
 
-        bearing : (y : Course) → Asked S.ms several k lt_k (shared_entries (w.store k)) 0 P.p true c (place_at key_place.Start) (readings_at w k) y → Bears (w.store k) y
+        bearing : (y : Course) → Asked S.ms several k lt_k (shared_entries (w.store k)) (S.clock.event w) P.p true c (place_at key_place.Start) (readings_at w k) y → Bears (w.store k) y
         bearing y A =
             let C = A.chunks in
             let K = C.takes in
             bears (w.store k) y [] A.still A.reads tt tt K.phase (subst (λ (z : SyncStage). IsStill z y.state.requester.start y.state.requester.place.version) (sym K.stage) (C.start ∙ sym (ap (λ (q : Place). q.version) C.place)))
 
-        after : (v : World) → Onward S w v → Did S (Asked S.ms several k lt_k (shared_entries (w.store k)) 0 P.p true c (place_at key_place.Start) (readings_at w k)) w k v → Chunking (suc most) o c key_place.Start (length entries) v
+        after : (v : World) → Onward S w v → Did S (Asked S.ms several k lt_k (shared_entries (w.store k)) (S.clock.event w) P.p true c (place_at key_place.Start) (readings_at w k)) w k v → Chunking (suc most) o c key_place.Start (length entries) v
         after v on D =
             let A = D.did in
             let own : own_of D.y.readings ≡ o = ap own_of A.reads ∙ (M.holds).1 in
@@ -237,7 +237,7 @@ module _ (S : Scope) (several : 1 < S.ms.count) (P : Provider S) (k : ℕ) (othe
     give : (c : Cookie) (x : KeyPlace) (m : ℕ) (w : World) → Chunking (suc most) o c x m w → Can S 1 (Offered (suc most) o c x) w
     give c x m w C = weaker S (omega arith) after
         (deliver S w T.room P.p lt_p in_p (R (w.store P.p)) (letter n k (C.asks).0 (body.GetChunk c (place_at x))) (C.asks).1 T.state T.up
-        (gives S.ms several P.p lt_p (shared_entries (w.store P.p)) 0 (readings_at w P.p) T.state k (C.asks).0 c (place_at x) other (unmarked_now w T) G.runs Z.held (subst (λ (m : Store). (readings_of m).first ≤ suc t) (sym T.given) kept)))
+        (gives S.ms several P.p lt_p (shared_entries (w.store P.p)) (S.clock.event w) (readings_at w P.p) T.state k (C.asks).0 c (place_at x) other (unmarked_now w T) G.runs Z.held (subst (λ (m : Store). (readings_of m).first ≤ suc t) (sym T.given) kept)))
       where
         Z : InChunks (suc most) o c x w
         Z = C.stands
@@ -252,7 +252,7 @@ module _ (S : Scope) (several : 1 < S.ms.count) (P : Provider S) (k : ℕ) (othe
         given_by m = chunk (readings_of m).last c (place_at x) (filter (is_after x) (shared_entries m)) n (readings_of m).record_of
 
         R : Store → Course → Type 0
-        R m = GivesChunk S.ms several P.p lt_p (shared_entries (w.store P.p)) 0 k (chunk (readings_of m).last c (place_at x) (filter (is_after x) (shared_entries m)) n (readings_of m).record_of) (readings_at w P.p) T.state
+        R m = GivesChunk S.ms several P.p lt_p (shared_entries (w.store P.p)) (S.clock.event w) k (chunk (readings_of m).last c (place_at x) (filter (is_after x) (shared_entries m)) n (readings_of m).record_of) (readings_at w P.p) T.state
 
         after : (v : World) → Onward S w v → Did S (R (w.store P.p)) w P.p v → Offered (suc most) o c x v
         after v on D = record {
@@ -309,12 +309,12 @@ module _ (S : Scope) (several : 1 < S.ms.count) (P : Provider S) (k : ℕ) (othe
 
         -- ---- the last one
 
-        last_bears : (y : Course) → Replays S.ms several k lt_k (shared_entries (w.store k)) 0 P.p t t B.found (readings_at w k) y → Bears (w.store k) y
+        last_bears : (y : Course) → Replays S.ms several k lt_k (shared_entries (w.store k)) (S.clock.event w) P.p t t B.found (readings_at w k) y → Bears (w.store k) y
         last_bears y A =
             let K = A.takes in
             bears (w.store k) y (copy_changes B.found) A.changes A.reads (copies_fit B.found) (puts_copies B.found brief_found) K.phase (subst (λ (z : SyncStage). IsStill z y.state.requester.start y.state.requester.place.version) (sym K.stage) refl)
 
-        last_then : (v : World) → Onward S w v → Did S (Replays S.ms several k lt_k (shared_entries (w.store k)) 0 P.p t t B.found (readings_at w k)) w k v → Took c x v
+        last_then : (v : World) → Onward S w v → Did S (Replays S.ms several k lt_k (shared_entries (w.store k)) (S.clock.event w) P.p t t B.found (readings_at w k)) w k v → Took c x v
         last_then v on D =
             let A = D.did in
             inl (record {
@@ -324,14 +324,14 @@ module _ (S : Scope) (several : 1 < S.ms.count) (P : Provider S) (k : ℕ) (othe
 
         -- ---- another one
 
-        chunk_bears : (y : Course) → Copies S.ms several k lt_k (shared_entries (w.store k)) 0 P.p c t (place_at x) B.found (readings_at w k) y → Bears (w.store k) y
+        chunk_bears : (y : Course) → Copies S.ms several k lt_k (shared_entries (w.store k)) (S.clock.event w) P.p c t (place_at x) B.found (readings_at w k) y → Bears (w.store k) y
         chunk_bears y A =
             let C = A.chunks in
             let K = C.takes in
             bears (w.store k) y (copy_changes B.found) A.changes A.reads (copies_fit B.found) (puts_copies B.found brief_found) K.phase
             (subst (λ (z : SyncStage). IsStill z y.state.requester.start y.state.requester.place.version) (sym K.stage) (C.start ∙ sym (ap (λ (q : Place). q.version) C.place)))
 
-        chunk_then : (e : Entry) (es : List Entry) → B.found ≡ e ∷ es → (v : World) → Onward S w v → Did S (Copies S.ms several k lt_k (shared_entries (w.store k)) 0 P.p c t (place_at x) B.found (readings_at w k)) w k v → Took c x v
+        chunk_then : (e : Entry) (es : List Entry) → B.found ≡ e ∷ es → (v : World) → Onward S w v → Did S (Copies S.ms several k lt_k (shared_entries (w.store k)) (S.clock.event w) P.p c t (place_at x) B.found (readings_at w k)) w k v → Took c x v
         chunk_then e es some v on D =
             let A = D.did in
             inr (
@@ -357,13 +357,13 @@ module _ (S : Scope) (several : 1 < S.ms.count) (P : Provider S) (k : ℕ) (othe
         by : (chunk t c (place_at x) (filter (is_after x) entries) n (readings_of P.given).record_of ≡ body.LastChunk c (place_at x) [] B.found t)
             ⊎ ((chunk t c (place_at x) (filter (is_after x) entries) n (readings_of P.given).record_of ≡ body.Chunk c (place_at x) [] B.found false) × ((e : Entry) × (es : List Entry) × (B.found ≡ e ∷ es))) → Can S 1 (Took c x) w
         by (inl last) = weaker S (omega arith) last_then
-            (deliver_copy S w T.room k lt_k in_k (Replays S.ms several k lt_k (shared_entries (w.store k)) 0 P.p t t B.found (readings_at w k)) (letter n P.p (F.offer).0 (body.LastChunk c (place_at x) [] B.found t)) (mail (body.LastChunk c (place_at x) [] B.found t) last) M.state M.up
-            (weaken (Replays S.ms several k lt_k (shared_entries (w.store k)) 0 P.p t t B.found (readings_at w k)) _ _ (λ y A. (last_bears y A, A))
-            (takes_last S.ms several k lt_k (shared_entries (w.store k)) 0 (readings_at w k) M.state P.p (F.offer).0 c t (place_at x) B.found t (λ e. other (sym e)) (M.holds).0 (omega arith) (omega arith))))
+            (deliver_copy S w T.room k lt_k in_k (Replays S.ms several k lt_k (shared_entries (w.store k)) (S.clock.event w) P.p t t B.found (readings_at w k)) (letter n P.p (F.offer).0 (body.LastChunk c (place_at x) [] B.found t)) (mail (body.LastChunk c (place_at x) [] B.found t) last) M.state M.up
+            (weaken (Replays S.ms several k lt_k (shared_entries (w.store k)) (S.clock.event w) P.p t t B.found (readings_at w k)) _ _ (λ y A. (last_bears y A, A))
+            (takes_last S.ms several k lt_k (shared_entries (w.store k)) (S.clock.event w) (readings_at w k) M.state P.p (F.offer).0 c t (place_at x) B.found t (λ e. other (sym e)) (M.holds).0 (omega arith) (omega arith))))
         by (inr more) = weaker S (omega arith) (chunk_then (more.1).0 (more.1).1 (more.1).2)
-            (deliver_copy S w T.room k lt_k in_k (Copies S.ms several k lt_k (shared_entries (w.store k)) 0 P.p c t (place_at x) B.found (readings_at w k)) (letter n P.p (F.offer).0 (body.Chunk c (place_at x) [] B.found false)) (mail (body.Chunk c (place_at x) [] B.found false) more.0) M.state M.up
-            (weaken (Copies S.ms several k lt_k (shared_entries (w.store k)) 0 P.p c t (place_at x) B.found (readings_at w k)) _ _ (λ y A. (chunk_bears y A, A))
-            (takes_chunk S.ms several k lt_k (shared_entries (w.store k)) 0 (readings_at w k) M.state P.p (F.offer).0 c t (place_at x) B.found (λ e. other (sym e)) (M.holds).0 (omega arith))))
+            (deliver_copy S w T.room k lt_k in_k (Copies S.ms several k lt_k (shared_entries (w.store k)) (S.clock.event w) P.p c t (place_at x) B.found (readings_at w k)) (letter n P.p (F.offer).0 (body.Chunk c (place_at x) [] B.found false)) (mail (body.Chunk c (place_at x) [] B.found false) more.0) M.state M.up
+            (weaken (Copies S.ms several k lt_k (shared_entries (w.store k)) (S.clock.event w) P.p c t (place_at x) B.found (readings_at w k)) _ _ (λ y A. (chunk_bears y A, A))
+            (takes_chunk S.ms several k lt_k (shared_entries (w.store k)) (S.clock.event w) (readings_at w k) M.state P.p (F.offer).0 c t (place_at x) B.found (λ e. other (sym e)) (M.holds).0 (omega arith))))
 
     -- none can be left
     over : (c : Cookie) (x : KeyPlace) (v : World) → length (filter (is_after x) entries) ≤ 0 → Took c x v → Can S 0 (Whole (suc most) o) v
@@ -383,9 +383,9 @@ module _ (S : Scope) (several : 1 < S.ms.count) (P : Provider S) (k : ℕ) (othe
 
     finish : (w : World) → Whole (suc most) o w → Can S 1 (Joined (suc most) o) w
     finish w W = weaker S (omega arith) after
-        (ring_copy S w T.room k lt_k in_k (Ends S.ms several k lt_k (shared_entries (w.store k)) 0 t (readings_at w k)) timer.Step M.state M.up
-        (weaken (Ends S.ms several k lt_k (shared_entries (w.store k)) 0 t (readings_at w k)) _ _ (λ y A. (bearing y A, A))
-        (ends S.ms several k lt_k (shared_entries (w.store k)) 0 (readings_at w k) M.state P.p t (M.holds).0 ((M.holds).1).1)))
+        (ring_copy S w T.room k lt_k in_k (Ends S.ms several k lt_k (shared_entries (w.store k)) (S.clock.event w) t (readings_at w k)) timer.Step M.state M.up
+        (weaken (Ends S.ms several k lt_k (shared_entries (w.store k)) (S.clock.event w) t (readings_at w k)) _ _ (λ y A. (bearing y A, A))
+        (ends S.ms several k lt_k (shared_entries (w.store k)) (S.clock.event w) (readings_at w k) M.state P.p t (M.holds).0 ((M.holds).1).1)))
       where
         T : T1 (suc most) w
         T = W.turn
@@ -402,7 +402,7 @@ module _ (S : Scope) (several : 1 < S.ms.count) (P : Provider S) (k : ℕ) (othe
         over : (y : Course) → y.changes ≡ Last t ∷ Unmark ∷ [] → (readings_of (apply (joined (encoded y.changes)) (w.store k))).marked ≡ false
         over y e = ap (λ (xs : List Change). (readings_of (apply (joined (encoded xs)) (w.store k))).marked) e ∙ ap (λ (r : Readings). r.marked) (readings-joined (Last t ∷ Unmark ∷ []) fit (w.store k))
 
-        bearing : (y : Course) → Ends S.ms several k lt_k (shared_entries (w.store k)) 0 t (readings_at w k) y → Bears (w.store k) y
+        bearing : (y : Course) → Ends S.ms several k lt_k (shared_entries (w.store k)) (S.clock.event w) t (readings_at w k) y → Bears (w.store k) y
         bearing y A = record {
           tells = A.reads ∙ ap (λ (xs : List Change). played xs (readings_at w k)) (sym A.changes);
           fits = subst (AllByRecursion Fits) (sym A.changes) fit;
@@ -410,7 +410,7 @@ module _ (S : Scope) (several : 1 < S.ms.count) (P : Provider S) (k : ℕ) (othe
           small = λ short L. over_small (apply (joined (encoded y.changes)) (w.store k)) y.state (over y A.changes) short L;
         }
 
-        after : (v : World) → Onward S w v → Did S (Ends S.ms several k lt_k (shared_entries (w.store k)) 0 t (readings_at w k)) w k v → Joined (suc most) o v
+        after : (v : World) → Onward S w v → Did S (Ends S.ms several k lt_k (shared_entries (w.store k)) (S.clock.event w) t (readings_at w k)) w k v → Joined (suc most) o v
         after v on D =
             let A = D.did in
             record {

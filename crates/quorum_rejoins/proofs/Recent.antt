@@ -128,8 +128,8 @@ module _ (S : Scope) (several : 1 < S.ms.count) (P : Provider S) (k : ℕ) (othe
 
     grants : (w : World) → Waiting most o w → Can S 1 (λ v. (c : Cookie) × Granted (suc most) o c v) w
     grants w W = weaker S (omega arith) after
-        (deliver S w T.room P.p lt_p in_p (Grants S.ms several P.p lt_p (shared_entries (w.store P.p)) 0 k false (readings_at w P.p) T.state) (letter n k (W.asks).0 (body.GetCookieRecent o.last)) (W.asks).1 T.state T.up
-        (grants_recent S.ms several P.p lt_p (shared_entries (w.store P.p)) 0 (readings_at w P.p) T.state k (W.asks).0 o.last other (unmarked_now w T) G.runs (let z = G.next in omega arith) (subst (λ (m : Store). (readings_of m).first ≤ suc o.last) (sym T.given) low)))
+        (deliver S w T.room P.p lt_p in_p (Grants S.ms several P.p lt_p (shared_entries (w.store P.p)) (S.clock.event w) k false (readings_at w P.p) T.state) (letter n k (W.asks).0 (body.GetCookieRecent o.last)) (W.asks).1 T.state T.up
+        (grants_recent S.ms several P.p lt_p (shared_entries (w.store P.p)) (S.clock.event w) (readings_at w P.p) T.state k (W.asks).0 o.last other (unmarked_now w T) G.runs (let z = G.next in omega arith) (subst (λ (m : Store). (readings_of m).first ≤ suc o.last) (sym T.given) low)))
       where
         T : Turn1 most w
         T = W.turn
@@ -138,9 +138,9 @@ module _ (S : Scope) (several : 1 < S.ms.count) (P : Provider S) (k : ℕ) (othe
         G = T.gives
 
         c : Cookie
-        c = next_cookie S.ms several P.p lt_p (shared_entries (w.store P.p)) 0 (readings_at w P.p) T.state
+        c = next_cookie S.ms several P.p lt_p (shared_entries (w.store P.p)) (S.clock.event w) (readings_at w P.p) T.state
 
-        after : (v : World) → Onward S w v → Did S (Grants S.ms several P.p lt_p (shared_entries (w.store P.p)) 0 k false (readings_at w P.p) T.state) w P.p v → (c : Cookie) × Granted (suc most) o c v
+        after : (v : World) → Onward S w v → Did S (Grants S.ms several P.p lt_p (shared_entries (w.store P.p)) (S.clock.event w) k false (readings_at w P.p) T.state) w P.p v → (c : Cookie) × Granted (suc most) o c v
         after v on D = (
           c,
           record {
@@ -153,9 +153,9 @@ module _ (S : Scope) (several : 1 < S.ms.count) (P : Provider S) (k : ℕ) (othe
 
     takes : (c : Cookie) (w : World) → Granted (suc most) o c w → Can S 1 (Chunking (suc most) o c o.last (t - o.last)) w
     takes c w W = weaker S (omega arith) after
-        (deliver S w T.room k lt_k in_k (Asked S.ms several k lt_k (shared_entries (w.store k)) 0 P.p false c (place_at (readings_at w k).last) (readings_at w k)) (letter n P.p (W.offer).0 (body.Cookie false c t)) (W.offer).1 M.state M.up
-        (weaken (Asked S.ms several k lt_k (shared_entries (w.store k)) 0 P.p false c (place_at (readings_at w k).last) (readings_at w k)) _ _ (λ y A. (sound y A, A))
-        (takes_cookie S.ms several k lt_k (shared_entries (w.store k)) 0 (readings_at w k) M.state P.p (W.offer).0 false c t (λ e. other (sym e)) (M.holds).0 refl)))
+        (deliver S w T.room k lt_k in_k (Asked S.ms several k lt_k (shared_entries (w.store k)) (S.clock.event w) P.p false c (place_at (readings_at w k).last) (readings_at w k)) (letter n P.p (W.offer).0 (body.Cookie false c t)) (W.offer).1 M.state M.up
+        (weaken (Asked S.ms several k lt_k (shared_entries (w.store k)) (S.clock.event w) P.p false c (place_at (readings_at w k).last) (readings_at w k)) _ _ (λ y A. (sound y A, A))
+        (takes_cookie S.ms several k lt_k (shared_entries (w.store k)) (S.clock.event w) (readings_at w k) M.state P.p (W.offer).0 false c t (λ e. other (sym e)) (M.holds).0 refl)))
       where
         T : Turn1 (suc most) w
         T = W.turn
@@ -166,10 +166,10 @@ module _ (S : Scope) (several : 1 < S.ms.count) (P : Provider S) (k : ℕ) (othe
         at : (readings_at w k).last ≡ o.last
         at = ap (λ (x : Own). x.last) (M.holds).1
 
-        sound : (y : Course) → Asked S.ms several k lt_k (shared_entries (w.store k)) 0 P.p false c (place_at (readings_at w k).last) (readings_at w k) y → Sound (readings_at w k) y
+        sound : (y : Course) → Asked S.ms several k lt_k (shared_entries (w.store k)) (S.clock.event w) P.p false c (place_at (readings_at w k).last) (readings_at w k) y → Sound (readings_at w k) y
         sound y A = nothing (readings_at w k) y A.still A.reads (ap (λ (x : Own). x.marked) (M.holds).1 ∙ plain)
 
-        after : (v : World) → Onward S w v → Did S (Asked S.ms several k lt_k (shared_entries (w.store k)) 0 P.p false c (place_at (readings_at w k).last) (readings_at w k)) w k v → Chunking (suc most) o c o.last (t - o.last) v
+        after : (v : World) → Onward S w v → Did S (Asked S.ms several k lt_k (shared_entries (w.store k)) (S.clock.event w) P.p false c (place_at (readings_at w k).last) (readings_at w k)) w k v → Chunking (suc most) o c o.last (t - o.last) v
         after v on D =
             let A = D.did in
             let own : own_of D.y.readings ≡ o = ap own_of A.reads ∙ (M.holds).1 in
@@ -190,7 +190,7 @@ module _ (S : Scope) (several : 1 < S.ms.count) (P : Provider S) (k : ℕ) (othe
     give : (c : Cookie) (v m : ℕ) (w : World) → Chunking (suc most) o c v m w → Can S 1 (Offered (suc most) o c v) w
     give c v m w C = weaker S (omega arith) after
         (deliver S w T.room P.p lt_p in_p (R (w.store P.p)) (letter n k (C.asks).0 (body.GetChunk c (place_at v))) (C.asks).1 T.state T.up
-        (gives S.ms several P.p lt_p (shared_entries (w.store P.p)) 0 (readings_at w P.p) T.state k (C.asks).0 c (place_at v) other (unmarked_now w T) G.runs Z.held (subst (λ (m : Store). (readings_of m).first ≤ suc v) (sym T.given) Z.low)))
+        (gives S.ms several P.p lt_p (shared_entries (w.store P.p)) (S.clock.event w) (readings_at w P.p) T.state k (C.asks).0 c (place_at v) other (unmarked_now w T) G.runs Z.held (subst (λ (m : Store). (readings_of m).first ≤ suc v) (sym T.given) Z.low)))
       where
         Z : InChunks (suc most) o c v w
         Z = C.stands
@@ -202,7 +202,7 @@ module _ (S : Scope) (several : 1 < S.ms.count) (P : Provider S) (k : ℕ) (othe
         G = T.gives
 
         R : Store → Course → Type 0
-        R m = GivesChunk S.ms several P.p lt_p (shared_entries (w.store P.p)) 0 k (chunk (readings_of m).last c (place_at v) (filter (is_after key_place.Done) (shared_entries m)) n (readings_of m).record_of) (readings_at w P.p) T.state
+        R m = GivesChunk S.ms several P.p lt_p (shared_entries (w.store P.p)) (S.clock.event w) k (chunk (readings_of m).last c (place_at v) (filter (is_after key_place.Done) (shared_entries m)) n (readings_of m).record_of) (readings_at w P.p) T.state
 
         after : (u : World) → Onward S w u → Did S (R (w.store P.p)) w P.p u → Offered (suc most) o c v u
         after u on D = record {
@@ -269,12 +269,12 @@ module _ (S : Scope) (several : 1 < S.ms.count) (P : Provider S) (k : ℕ) (othe
         adds : (X : Fine) (r : Readings) → own_of r ≡ record o { last = v + length B.values } → AddsNone P.log r
         adds X r e = inr (subst (λ (l : ℕ). l ≤ length P.log) (sym (ap (λ (x : Own). x.last) e)) X.within)
 
-        last_then : Fine → t ≤ v + length B.values → (u : World) → Onward S w u → Did S (Stops S.ms several k lt_k (shared_entries (w.store k)) 0 v B.values (readings_at w k)) w k u → Took c v u
+        last_then : Fine → t ≤ v + length B.values → (u : World) → Onward S w u → Did S (Stops S.ms several k lt_k (shared_entries (w.store k)) (S.clock.event w) v B.values (readings_at w k)) w k u → Took c v u
         last_then X reached u on D =
             let own = own_then D.y.readings D.did.own in
             inl (record { turn = turn_k S P k other from D.y T on D.moved (adds X D.y.readings own); last = v + length B.values; reached = reached; within = X.within; own = ap own_of D.moved.reads ∙ own })
 
-        chunk_then : Fine → v + length B.values < t → (x : List Op) (xs : List (List Op)) → B.values ≡ x ∷ xs → (u : World) → Onward S w u → Did S (Learns S.ms several k lt_k (shared_entries (w.store k)) 0 P.p c o.last v B.values (readings_at w k)) w k u → Took c v u
+        chunk_then : Fine → v + length B.values < t → (x : List Op) (xs : List (List Op)) → B.values ≡ x ∷ xs → (u : World) → Onward S w u → Did S (Learns S.ms several k lt_k (shared_entries (w.store k)) (S.clock.event w) P.p c o.last v B.values (readings_at w k)) w k u → Took c v u
         chunk_then X less x xs some u on D =
             let A = D.did in
             let own = own_then D.y.readings A.own in
@@ -297,13 +297,13 @@ module _ (S : Scope) (several : 1 < S.ms.count) (P : Provider S) (k : ℕ) (othe
 
         last_goes : (N : New S.sent w (record { to = k; message = letter n P.p (F.offer).0 (body.LastChunk c (place_at v) B.values [] t) })) → t ≤ v + length B.values → Fine → Can S 1 (Took c v) w
         last_goes N reached X = weaker S (omega arith) (last_then X reached)
-            (deliver S w T.room k lt_k in_k (Stops S.ms several k lt_k (shared_entries (w.store k)) 0 v B.values (readings_at w k)) (letter n P.p (F.offer).0 (body.LastChunk c (place_at v) B.values [] t)) N M.state M.up
-            (learns_last S.ms several k lt_k (shared_entries (w.store k)) 0 (readings_at w k) M.state P.p (F.offer).0 c o.last v B.values t (λ e. other (sym e)) (M.holds).0 unmarked_k at X.plain (let z = X.within in omega arith)))
+            (deliver S w T.room k lt_k in_k (Stops S.ms several k lt_k (shared_entries (w.store k)) (S.clock.event w) v B.values (readings_at w k)) (letter n P.p (F.offer).0 (body.LastChunk c (place_at v) B.values [] t)) N M.state M.up
+            (learns_last S.ms several k lt_k (shared_entries (w.store k)) (S.clock.event w) (readings_at w k) M.state P.p (F.offer).0 c o.last v B.values t (λ e. other (sym e)) (M.holds).0 unmarked_k at X.plain (let z = X.within in omega arith)))
 
         chunk_goes : (N : New S.sent w (record { to = k; message = letter n P.p (F.offer).0 (body.Chunk c (place_at v) B.values [] true) })) → v + length B.values < t → (x : List Op) (xs : List (List Op)) → B.values ≡ x ∷ xs → Fine → Can S 1 (Took c v) w
         chunk_goes N less x xs some X = weaker S (omega arith) (chunk_then X less x xs some)
-            (deliver S w T.room k lt_k in_k (Learns S.ms several k lt_k (shared_entries (w.store k)) 0 P.p c o.last v B.values (readings_at w k)) (letter n P.p (F.offer).0 (body.Chunk c (place_at v) B.values [] true)) N M.state M.up
-            (learns_chunk S.ms several k lt_k (shared_entries (w.store k)) 0 (readings_at w k) M.state P.p (F.offer).0 c o.last v B.values (λ e. other (sym e)) (M.holds).0 unmarked_k at X.plain (let z = X.within in omega arith)))
+            (deliver S w T.room k lt_k in_k (Learns S.ms several k lt_k (shared_entries (w.store k)) (S.clock.event w) P.p c o.last v B.values (readings_at w k)) (letter n P.p (F.offer).0 (body.Chunk c (place_at v) B.values [] true)) N M.state M.up
+            (learns_chunk S.ms several k lt_k (shared_entries (w.store k)) (S.clock.event w) (readings_at w k) M.state P.p (F.offer).0 c o.last v B.values (λ e. other (sym e)) (M.holds).0 unmarked_k at X.plain (let z = X.within in omega arith)))
 
         by : ((chunk t c (place_at v) (filter (is_after key_place.Done) (shared_entries P.given)) n (readings_of P.given).record_of ≡ body.LastChunk c (place_at v) B.values [] t) × (t ≤ v + length B.values))
             ⊎ ((chunk t c (place_at v) (filter (is_after key_place.Done) (shared_entries P.given)) n (readings_of P.given).record_of ≡ body.Chunk c (place_at v) B.values [] true) × (v + length B.values < t) × ((x : List Op) × (xs : List (List Op)) × (B.values ≡ x ∷ xs))) → Can S 1 (Took c v) w

@@ -30,6 +30,7 @@ use Rattle.quorum_elects.proofs.Ranks.{Greatest, greatest_of, in_or_out, same_or
 use Rattle.quorum_elects.proofs.Stores.{near_short}
 use Rattle.quorum_elects.proofs.Walking.{weaken}
 use Rattle.quorum_elects.specs.Ready.{LacksAtMost}
+use Rattle.quorum_elects.specs.Ways.{Clock}
 use Rattle.quorum_laws.specs.Accepting.{IsMajorityOf, readings_at}
 use Rattle.quorum_model.proofs.Continuing.{at}
 use Rattle.quorum_model.proofs.Members.{member_of}
@@ -60,7 +61,7 @@ kept_window zero r last first = omega arith
 kept_window (suc c) r last first = let l = low_from (suc c) in omega arith
 
 -- a majority of a run, ready to join
-module _ (ms : Monitors) (several : 1 < ms.count) (events : List Event) (F : AllFit ms.count events) (there : ran ms events ≡ at (run ms events)) (q : List Bool) (M : IsMajorityOf ms.count q) (R : HaveRoom q (run ms events)) (asks : Option (Session × Command)) where
+module _ (ms : Monitors) (several : 1 < ms.count) (events : List Event) (F : AllFit ms.count events) (there : ran ms events ≡ at (run ms events)) (q : List Bool) (M : IsMajorityOf ms.count q) (R : HaveRoom q (run ms events)) (asks : Option (Session × Command)) (clock : Clock) where
   abbrev w0 : World
   w0 = run ms events
 
@@ -71,7 +72,7 @@ module _ (ms : Monitors) (several : 1 < ms.count) (events : List Event) (F : All
   log = w0.log
 
   abbrev S : Scope
-  S = record { ms = ms; q = q; sent = length w0.messages; asks = asks }
+  S = record { ms = ms; q = q; sent = length w0.messages; asks = asks; clock = clock }
 
   H0 : Holds ms several (run ms events)
   H0 = reached_holds ms several (run ms events) (record { events = events; fit = F; is = there })
@@ -137,14 +138,14 @@ module _ (ms : Monitors) (several : 1 < ms.count) (events : List Event) (F : All
 
   readies : Can S 1 Ready (run ms events)
   readies = weaker S (omega arith) after
-      (start S (run ms events) sane p (lt_of p G.within) G.within (Begins ms several p (lt_of p G.within) (shared_entries (w0.store p)) 0 (readings_at w0 p))
-      (weaken (Begins ms several p (lt_of p G.within) (shared_entries (w0.store p)) 0 (readings_at w0 p)) _ (react (member_of ms p (lt_of p G.within)) (shared_entries (w0.store p)) 0 (readings_at w0 p) (booting p) input.Start) (λ y B. (sound y B, B))
-      (begins ms several p (lt_of p G.within) (shared_entries (w0.store p)) 0 (readings_at w0 p) (let X = R.monitors p G.within in let N = X.numbers in N.boot))))
+      (start S (run ms events) sane p (lt_of p G.within) G.within (Begins ms several p (lt_of p G.within) (shared_entries (w0.store p)) (S.clock.event w0) (readings_at w0 p))
+      (weaken (Begins ms several p (lt_of p G.within) (shared_entries (w0.store p)) (S.clock.event w0) (readings_at w0 p)) _ (react (member_of ms p (lt_of p G.within)) (shared_entries (w0.store p)) (S.clock.event w0) (readings_at w0 p) (booting p) input.Start) (λ y B. (sound y B, B))
+      (begins ms several p (lt_of p G.within) (shared_entries (w0.store p)) (S.clock.event w0) (readings_at w0 p) (let X = R.monitors p G.within in let N = X.numbers in N.boot))))
     where
-      sound : (y : Course) → Begins ms several p (lt_of p G.within) (shared_entries (w0.store p)) 0 (readings_at w0 p) y → Sound (readings_at w0 p) y
+      sound : (y : Course) → Begins ms several p (lt_of p G.within) (shared_entries (w0.store p)) (S.clock.event w0) (readings_at w0 p) y → Sound (readings_at w0 p) y
       sound y B = record { tells = B.tells; fits = B.fits; short = B.short; unmarked = ap (λ (r : Readings). r.marked) B.own ∙ unmarked_p }
 
-      after : (v : World) → Onward S w0 v → Did S (Begins ms several p (lt_of p G.within) (shared_entries (w0.store p)) 0 (readings_at w0 p)) w0 p v → Ready v
+      after : (v : World) → Onward S w0 v → Did S (Begins ms several p (lt_of p G.within) (shared_entries (w0.store p)) (S.clock.event w0) (readings_at w0 p)) w0 p v → Ready v
       after v o D =
           let B = D.did in
           let own = D.moved.reads ∙ B.own in

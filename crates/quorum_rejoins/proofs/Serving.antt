@@ -10,7 +10,7 @@ use Rattle.quorum_elects.proofs.Can.{Can, Scope, steps_append, weaker}
 use Rattle.quorum_elects.proofs.Elected.{near_lacks, way_on}
 use Rattle.quorum_elects.proofs.Steps.{steps_fit}
 use Rattle.quorum_elects.specs.Ready.{AllNear, HasRoom, IsReady, LacksAtMost}
-use Rattle.quorum_elects.specs.Ways.{AreSteps, HasWay, IsStep, OthersRest}
+use Rattle.quorum_elects.specs.Ways.{AreSteps, Clock, ComesInLease, HasWay, IsStep, OthersRest}
 use Rattle.quorum_laws.specs.Accepting.{IsMajorityOf}
 use Rattle.quorum_model.proofs.Continuing.{at, ran_on}
 use Rattle.quorum_model.specs.Events.{AllFit, PlainFits}
@@ -30,23 +30,23 @@ use Rattle.std.proofs.lemmas.List.{append-nil, length-append}
 
 -- ---- several monitors
 
-several_catch_up : (ms : Monitors) → 1 < ms.count → (events : List Event) → AllFit ms.count events → (ran ms events).stop ≡ None → (q : List Bool) → IsMajorityOf ms.count q → HaveRoom q (run ms events) → HasWay ms events q None (1850 * ms.count + 1) (CaughtUp q)
-several_catch_up ms several events F on q M R =
+several_catch_up : (ms : Monitors) → 1 < ms.count → (events : List Event) → AllFit ms.count events → (ran ms events).stop ≡ None → (q : List Bool) → IsMajorityOf ms.count q → HaveRoom q (run ms events) → (clock : Clock) → HasWay ms events q None clock (1850 * ms.count + 1) (CaughtUp q)
+several_catch_up ms several events F on q M R clock =
     let there : ran ms events ≡ at (run ms events) = λ j. record { world = run ms events; stop = on j } in
-    way_on ms events there q M.below None tt (1850 * ms.count + 1) (CaughtUp q)
-    (weaker (record { ms = ms; q = q; sent = length (run ms events).messages; asks = None }) (omega arith) (λ w o A. A.caught) (all_catch_up ms several events F there q M R None))
+    way_on ms events there q M.below None clock tt (1850 * ms.count + 1) (CaughtUp q)
+    (weaker (record { ms = ms; q = q; sent = length (run ms events).messages; asks = None; clock = clock }) (omega arith) (λ w o A. A.caught) (all_catch_up ms several events F there q M R None clock))
 
 -- a step of later events is one of these
-later_step : (q : List Bool) (sent more : ℕ) (asks : Option (Session × Command)) → sent ≤ more → (w : World) (e : Event) → IsStep q more asks w e → IsStep q sent asks w e
-later_step q sent more asks le w (Arrives (Start rank at)) h = h
-later_step q sent more asks le w (Arrives (Deliver message at)) h = ((let z = h.0 in omega arith), h.1)
-later_step q sent more asks le w (Arrives (Ring rank timer at)) h = h
-later_step q sent more asks le w (Arrives (Client rank at session r)) h = h
-later_step q sent more asks le w (Crash p kept) h = h
+later_step : (q : List Bool) (sent more : ℕ) (asks : Option (Session × Command)) (clock : Clock) → sent ≤ more → (w : World) (e : Event) → IsStep q more asks clock w e → IsStep q sent asks clock w e
+later_step q sent more asks clock le w (Arrives (Start rank at)) h = h
+later_step q sent more asks clock le w (Arrives (Deliver message at)) h = (h.0, (let z = h.1 in omega arith), h.2)
+later_step q sent more asks clock le w (Arrives (Ring rank timer at)) h = h
+later_step q sent more asks clock le w (Arrives (Client rank at session r)) h = h
+later_step q sent more asks clock le w (Crash p kept) h = h
 
-later_steps : (ms : Monitors) (q : List Bool) (sent more : ℕ) (asks : Option (Session × Command)) → sent ≤ more → (w : World) (es : List Event) → AreSteps ms q more asks w es → AreSteps ms q sent asks w es
-later_steps ms q sent more asks le w [] h = tt
-later_steps ms q sent more asks le w (e ∷ es) h = (later_step q sent more asks le w e h.0, later_steps ms q sent more asks le (run_from ms w (e ∷ [])) es h.1)
+later_steps : (ms : Monitors) (q : List Bool) (sent more : ℕ) (asks : Option (Session × Command)) (clock : Clock) → sent ≤ more → (w : World) (es : List Event) → AreSteps ms q more asks clock w es → AreSteps ms q sent asks clock w es
+later_steps ms q sent more asks clock le w [] h = tt
+later_steps ms q sent more asks clock le w (e ∷ es) h = (later_step q sent more asks clock le w e h.0, later_steps ms q sent more asks clock le (run_from ms w (e ∷ [])) es h.1)
 
 -- an answer is one to what was asked before, if the log was the same
 served_before : (n : ℕ) (s : Session) (c : Command) (a b w : World) → b.log ≡ a.log → a.events ≤ b.events → IsServed n s c b w → IsServed n s c a w
@@ -63,7 +63,7 @@ served_before n s c a b w same le V = record {
 
 -- a way that goes on after what a majority can do
 module _ (ms : Monitors) (several : 1 < ms.count) (events : List Event) (F : AllFit ms.count events) (on : (ran ms events).stop ≡ None) (q : List Bool) (M : IsMajorityOf ms.count q) (R : HaveRoom q (run ms events)) (may : IsReady ms q (run ms events)) (between : NoneBetween q (run ms events))
-    (s : Session) (c : Command) (form : IsCommand c) (brief : is_too_long c ≡ false) where
+    (s : Session) (c : Command) (form : IsCommand c) (brief : is_too_long c ≡ false) (clock : Clock) (leased : ComesInLease q clock) where
   abbrev n : ℕ
   n = ms.count
 
@@ -74,13 +74,13 @@ module _ (ms : Monitors) (several : 1 < ms.count) (events : List Event) (F : All
   asks = Some (s, c)
 
   abbrev S : Scope
-  S = record { ms = ms; q = q; sent = length (run ms events).messages; asks = Some (s, c) }
+  S = record { ms = ms; q = q; sent = length (run ms events).messages; asks = Some (s, c); clock = clock }
 
   abbrev there : ran ms events ≡ at (run ms events)
   there = λ j. record { world = run ms events; stop = on j }
 
   abbrev Caught : World → Type 0
-  Caught w = AllCaught ms several events F there q M R (Some (s, c)) w
+  Caught w = AllCaught ms several events F there q M R (Some (s, c)) clock w
 
   module _ (C : Can S (1850 * ms.count + 1) Caught (run ms events)) where
     abbrev further : List Event
@@ -93,7 +93,7 @@ module _ (ms : Monitors) (several : 1 < ms.count) (events : List Event) (F : All
     next_is = ap (λ (r : Ran). r.world) reached
 
     steps_of : AllFit ms.count C.events
-    steps_of = steps_fit ms q (length (run ms events).messages) M.below (Some (s, c)) (request_fits c form) (run ms events) C.events C.steps
+    steps_of = steps_fit ms q (length (run ms events).messages) M.below (Some (s, c)) (request_fits c form) clock (run ms events) C.events C.steps
 
     F2 : AllFit ms.count further
     F2 = all_append (λ e. PlainFits ms.count (plain_of e)) events C.events F steps_of
@@ -129,9 +129,9 @@ module _ (ms : Monitors) (several : 1 < ms.count) (events : List Event) (F : All
           log = subst (λ (l : List (List ℕ)). HasRoom (length l)) (sym U.log) R.log;
         }
 
-    serves : HasWay ms further q (Some (s, c)) (2 * ms.count * ms.count + 14 * ms.count + 5) (IsServed ms.count s c)
+    serves : HasWay ms further q (Some (s, c)) clock (2 * ms.count * ms.count + 14 * ms.count + 5) (IsServed ms.count s c)
     serves = close_serve ms several further F2 (ap (λ (r : Ran). r.stop) reached) q M
-        (λ i h. subst (λ (w : World). LacksAtMost 1 w i) (sym next_is) (near i h)) (subst (IsReady ms q) (sym next_is) ready) s c form brief
+        (λ i h. subst (λ (w : World). LacksAtMost 1 w i) (sym next_is) (near i h)) (subst (IsReady ms q) (sym next_is) ready) s c form brief clock leased
 
     joined : events ++ (C.events ++ serves.more) ≡ further ++ serves.more
     joined = sym (append_assoc events C.events serves.more)
@@ -139,12 +139,12 @@ module _ (ms : Monitors) (several : 1 < ms.count) (events : List Event) (F : All
     grows : length (run ms events).messages ≤ length (run ms further).messages
     grows = let o = C.onward in let e = ap (λ (w : World). length w.messages) next_is in let z = ap (λ l. length l) o.messages in let y = length-append (run ms events).messages o.more in omega arith
 
-    both : HasWay ms events q (Some (s, c)) (2 * ms.count * ms.count + 1864 * ms.count + 6) (IsServed ms.count s c)
+    both : HasWay ms events q (Some (s, c)) clock (2 * ms.count * ms.count + 1864 * ms.count + 6) (IsServed ms.count s c)
     both = record {
       more = C.events ++ serves.more;
       few = (let a = C.few in let b = serves.few in let l = length-append C.events serves.more in omega arith);
-      steps = steps_append ms q (length (run ms events).messages) (Some (s, c)) (run ms events) C.next C.events serves.more C.steps C.goes
-          (later_steps ms q (length (run ms events).messages) (length (run ms further).messages) (Some (s, c)) grows C.next serves.more (subst (λ (w : World). AreSteps ms q (length (run ms further).messages) (Some (s, c)) w serves.more) next_is serves.steps));
+      steps = steps_append ms q (length (run ms events).messages) (Some (s, c)) clock (run ms events) C.next C.events serves.more C.steps C.goes
+          (later_steps ms q (length (run ms events).messages) (length (run ms further).messages) (Some (s, c)) clock grows C.next serves.more (subst (λ (w : World). AreSteps ms q (length (run ms further).messages) (Some (s, c)) clock w serves.more) next_is serves.steps));
       fits = all_append (λ e. PlainFits ms.count (plain_of e)) C.events serves.more steps_of serves.fits;
       goes_on = subst (λ (es : List Event). (ran ms es).stop ≡ None) (sym joined) serves.goes_on;
       rest = λ i out. (let a = (C.onward).rest i out in let b = subst (λ (es : List Event). OthersRest q (run ms further) (run ms es)) (sym joined) serves.rest i out in (b.0 ∙ ap (λ (w : World). w.state i) next_is ∙ a.0, b.1 ∙ ap (λ (w : World). w.store i) next_is ∙ a.1));
@@ -153,13 +153,13 @@ module _ (ms : Monitors) (several : 1 < ms.count) (events : List Event) (F : All
     }
 
 several_serve : (ms : Monitors) → 1 < ms.count → (events : List Event) → AllFit ms.count events → (ran ms events).stop ≡ None → (q : List Bool) → IsMajorityOf ms.count q → HaveRoom q (run ms events) → IsReady ms q (run ms events) → NoneBetween q (run ms events)
-    → (s : Session) (c : Command) → IsCommand c → is_too_long c ≡ false → HasWay ms events q (Some (s, c)) (2 * ms.count * ms.count + 1864 * ms.count + 6) (IsServed ms.count s c)
-several_serve ms several events F on q M R may between s c form brief =
-    both ms several events F on q M R may between s c form brief (all_catch_up ms several events F (λ j. record { world = run ms events; stop = on j }) q M R (Some (s, c)))
+    → (s : Session) (c : Command) → IsCommand c → is_too_long c ≡ false → (clock : Clock) → ComesInLease q clock → HasWay ms events q (Some (s, c)) clock (2 * ms.count * ms.count + 1864 * ms.count + 6) (IsServed ms.count s c)
+several_serve ms several events F on q M R may between s c form brief clock leased =
+    both ms several events F on q M R may between s c form brief clock leased (all_catch_up ms several events F (λ j. record { world = run ms events; stop = on j }) q M R (Some (s, c)) clock)
 
 -- ---- one alone, which has the whole log
 
-module _ (ms : Monitors) (one : ms.count ≡ 1) (events : List Event) (F : AllFit ms.count events) (on : (ran ms events).stop ≡ None) (q : List Bool) (M : IsMajorityOf ms.count q) where
+module _ (ms : Monitors) (one : ms.count ≡ 1) (events : List Event) (F : AllFit ms.count events) (on : (ran ms events).stop ≡ None) (q : List Bool) (M : IsMajorityOf ms.count q) (clock : Clock) where
   near_alone : AllNear q (run ms events)
   near_alone i h =
       let N = every ms events F (omega arith) q M in
@@ -178,7 +178,7 @@ module _ (ms : Monitors) (one : ms.count ≡ 1) (events : List Event) (F : AllFi
     copied = λ i h more. lacks i h;
   }
 
-  catches_alone : HasWay ms events q None (1850 * ms.count + 1) (CaughtUp q)
+  catches_alone : HasWay ms events q None clock (1850 * ms.count + 1) (CaughtUp q)
   catches_alone = record {
     more = [];
     few = omega arith;
@@ -191,19 +191,19 @@ module _ (ms : Monitors) (one : ms.count ≡ 1) (events : List Event) (F : AllFi
 
 -- ---- the laws
 
-pub catches_up : (ms : Monitors) → 1 ≤ ms.count → (events : List Event) → AllFit ms.count events → (ran ms events).stop ≡ None → (q : List Bool) → IsMajorityOf ms.count q → HaveRoom q (run ms events) → HasWay ms events q None (1850 * ms.count + 1) (CaughtUp q)
-catches_up ms some events F on q M R = by (cases_order 1 ms.count)
+pub catches_up : (ms : Monitors) → 1 ≤ ms.count → (events : List Event) → AllFit ms.count events → (ran ms events).stop ≡ None → (q : List Bool) → IsMajorityOf ms.count q → HaveRoom q (run ms events) → (clock : Clock) → HasWay ms events q None clock (1850 * ms.count + 1) (CaughtUp q)
+catches_up ms some events F on q M R clock = by (cases_order 1 ms.count)
   where
-    by : (1 ≡ ms.count) ⊎ ((1 < ms.count) ⊎ (ms.count < 1)) → HasWay ms events q None (1850 * ms.count + 1) (CaughtUp q)
-    by (inl e) = catches_alone ms (sym e) events F on q M
-    by (inr (inl several)) = several_catch_up ms several events F on q M R
+    by : (1 ≡ ms.count) ⊎ ((1 < ms.count) ⊎ (ms.count < 1)) → HasWay ms events q None clock (1850 * ms.count + 1) (CaughtUp q)
+    by (inl e) = catches_alone ms (sym e) events F on q M clock
+    by (inr (inl several)) = several_catch_up ms several events F on q M R clock
     by (inr (inr none)) = absurd (omega arith)
 
 pub far_serves : (ms : Monitors) → 1 ≤ ms.count → (events : List Event) → AllFit ms.count events → (ran ms events).stop ≡ None → (q : List Bool) → IsMajorityOf ms.count q → HaveRoom q (run ms events) → IsReady ms q (run ms events) → NoneBetween q (run ms events)
-    → (s : Session) (c : Command) → IsCommand c → is_too_long c ≡ false → HasWay ms events q (Some (s, c)) (2 * ms.count * ms.count + 1864 * ms.count + 6) (IsServed ms.count s c)
-far_serves ms some events F on q M R may between s c form brief = by (cases_order 1 ms.count)
+    → (s : Session) (c : Command) → IsCommand c → is_too_long c ≡ false → (clock : Clock) → ComesInLease q clock → HasWay ms events q (Some (s, c)) clock (2 * ms.count * ms.count + 1864 * ms.count + 6) (IsServed ms.count s c)
+far_serves ms some events F on q M R may between s c form brief clock leased = by (cases_order 1 ms.count)
   where
-    by : (1 ≡ ms.count) ⊎ ((1 < ms.count) ⊎ (ms.count < 1)) → HasWay ms events q (Some (s, c)) (2 * ms.count * ms.count + 1864 * ms.count + 6) (IsServed ms.count s c)
-    by (inl e) = let W = serves_any ms some events F on q M (near_alone ms (sym e) events F on q M) may s c form brief in record { more = W.more; few = (let z = W.few in omega arith); steps = W.steps; fits = W.fits; goes_on = W.goes_on; rest = W.rest; leads = W.leads }
-    by (inr (inl several)) = several_serve ms several events F on q M R may between s c form brief
+    by : (1 ≡ ms.count) ⊎ ((1 < ms.count) ⊎ (ms.count < 1)) → HasWay ms events q (Some (s, c)) clock (2 * ms.count * ms.count + 1864 * ms.count + 6) (IsServed ms.count s c)
+    by (inl e) = let W = serves_any ms some events F on q M (near_alone ms (sym e) events F on q M clock) may s c form brief clock leased in record { more = W.more; few = (let z = W.few in omega arith); steps = W.steps; fits = W.fits; goes_on = W.goes_on; rest = W.rest; leads = W.leads }
+    by (inr (inl several)) = several_serve ms several events F on q M R may between s c form brief clock leased
     by (inr (inr none)) = absurd (omega arith)

@@ -100,17 +100,17 @@ module _ (S : Scope) (several : 1 < S.ms.count) (P : Provider S) (k : ℕ) (othe
 
       marks_it : MustCopy (readings_at v k) (readings_of P.given).first t → Can S 1 (Waiting S several P k other from lt_k in_k lt_p in_p most (own_of (play (mark (readings_at v k)) (readings_at v k)))) v
       marks_it why = weaker S (omega arith) after
-          (deliver_copy S v T.room k lt_k in_k (Marks S.ms several k lt_k (shared_entries (v.store k)) 0 P.p (readings_at v k)) (letter n P.p (A.reply).0 (body.ProbeReply A.quorum (readings_of P.given).first t)) (A.reply).1 M.state M.up
-          (weaken (Marks S.ms several k lt_k (shared_entries (v.store k)) 0 P.p (readings_at v k)) _ _ (λ y B. (bearing y B, B))
-          (must_copy S.ms several k lt_k (shared_entries (v.store k)) 0 (readings_at v k) M.state P.p (A.reply).0 A.quorum (readings_of P.given).first t (λ e. other (sym e)) (M.holds).0 why)))
+          (deliver_copy S v T.room k lt_k in_k (Marks S.ms several k lt_k (shared_entries (v.store k)) (S.clock.event v) P.p (readings_at v k)) (letter n P.p (A.reply).0 (body.ProbeReply A.quorum (readings_of P.given).first t)) (A.reply).1 M.state M.up
+          (weaken (Marks S.ms several k lt_k (shared_entries (v.store k)) (S.clock.event v) P.p (readings_at v k)) _ _ (λ y B. (bearing y B, B))
+          (must_copy S.ms several k lt_k (shared_entries (v.store k)) (S.clock.event v) (readings_at v k) M.state P.p (A.reply).0 A.quorum (readings_of P.given).first t (λ e. other (sym e)) (M.holds).0 why)))
         where
-          bearing : (y : Course) → Marks S.ms several k lt_k (shared_entries (v.store k)) 0 P.p (readings_at v k) y → Bears (v.store k) y
+          bearing : (y : Course) → Marks S.ms several k lt_k (shared_entries (v.store k)) (S.clock.event v) P.p (readings_at v k) y → Bears (v.store k) y
           bearing y B =
               let K = B.takes in
               bears (v.store k) y (mark (readings_at v k) ∷ []) B.changes B.reads (mark_fits (v.store k)) (puts_mark (floor_of (readings_at v k)) (readings_at v k).last_pn (readings_at v k).promise) K.phase
               (subst (λ (z : SyncStage). IsStill z y.state.requester.start y.state.requester.place.version) (sym K.stage) tt)
 
-          after : (u : World) → Onward S v u → Did S (Marks S.ms several k lt_k (shared_entries (v.store k)) 0 P.p (readings_at v k)) v k u → Waiting S several P k other from lt_k in_k lt_p in_p most (own_of (play (mark (readings_at v k)) (readings_at v k))) u
+          after : (u : World) → Onward S v u → Did S (Marks S.ms several k lt_k (shared_entries (v.store k)) (S.clock.event v) P.p (readings_at v k)) v k u → Waiting S several P k other from lt_k in_k lt_p in_p most (own_of (play (mark (readings_at v k)) (readings_at v k))) u
           after u on D =
               let B = D.did in
               record {
@@ -136,11 +136,11 @@ module _ (S : Scope) (several : 1 < S.ms.count) (P : Provider S) (k : ℕ) (othe
       module _ (plain : (readings_at v k).marked ≡ false) (begins : (readings_at v k).last ≤ length P.log) where
         asks_it : (ltb (readings_at v k).last (readings_of P.given).first && ltb 1 (readings_of P.given).first) ≡ false → (readings_at v k).last + lag < t → Can S 1 (recent.Waiting S several P k other from lt_k in_k lt_p in_p most (own_of (readings_at v k))) v
         asks_it low late = weaker S (omega arith) after
-            (deliver S v T.room k lt_k in_k (Asks S.ms several k lt_k (shared_entries (v.store k)) 0 P.p (readings_at v k)) (letter n P.p (A.reply).0 (body.ProbeReply A.quorum (readings_of P.given).first t)) (A.reply).1 M.state M.up
-            (weaken (Asks S.ms several k lt_k (shared_entries (v.store k)) 0 P.p (readings_at v k)) _ _ (λ y B. (recent.nothing (readings_at v k) y B.still B.reads plain, B))
-            (must_ask S.ms several k lt_k (shared_entries (v.store k)) 0 (readings_at v k) M.state P.p (A.reply).0 A.quorum (readings_of P.given).first t (λ e. other (sym e)) (M.holds).0 plain low late)))
+            (deliver S v T.room k lt_k in_k (Asks S.ms several k lt_k (shared_entries (v.store k)) (S.clock.event v) P.p (readings_at v k)) (letter n P.p (A.reply).0 (body.ProbeReply A.quorum (readings_of P.given).first t)) (A.reply).1 M.state M.up
+            (weaken (Asks S.ms several k lt_k (shared_entries (v.store k)) (S.clock.event v) P.p (readings_at v k)) _ _ (λ y B. (recent.nothing (readings_at v k) y B.still B.reads plain, B))
+            (must_ask S.ms several k lt_k (shared_entries (v.store k)) (S.clock.event v) (readings_at v k) M.state P.p (A.reply).0 A.quorum (readings_of P.given).first t (λ e. other (sym e)) (M.holds).0 plain low late)))
           where
-            after : (u : World) → Onward S v u → Did S (Asks S.ms several k lt_k (shared_entries (v.store k)) 0 P.p (readings_at v k)) v k u → recent.Waiting S several P k other from lt_k in_k lt_p in_p most (own_of (readings_at v k)) u
+            after : (u : World) → Onward S v u → Did S (Asks S.ms several k lt_k (shared_entries (v.store k)) (S.clock.event v) P.p (readings_at v k)) v k u → recent.Waiting S several P k other from lt_k in_k lt_p in_p most (own_of (readings_at v k)) u
             after u on D =
                 let B = D.did in
                 record {

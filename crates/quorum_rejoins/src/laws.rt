@@ -4,7 +4,7 @@ ghost use Rattle.mon_bytes.specs.declared.command.Command.{Command};
 ghost use Rattle.mon_msg.specs.Protocol.Commands.{is_too_long};
 ghost use Rattle.mon_wire.specs.declared.request.Session.{Session};
 ghost use Rattle.quorum_elects.specs.Ready.{IsReady};
-ghost use Rattle.quorum_elects.specs.Ways.{HasWay};
+ghost use Rattle.quorum_elects.specs.Ways.{Clock, ComesInLease, HasWay};
 ghost use Rattle.quorum_laws.specs.Accepting.{IsMajorityOf};
 ghost use Rattle.quorum_model.specs.Events.{AllFit};
 ghost use Rattle.quorum_model.specs.Monitors.{Monitors};
@@ -24,19 +24,21 @@ ghost use Rattle.quorum_rejoins.specs.Lagging.{CaughtUp, HaveRoom, NoneBetween};
 pub fn law_majority_catches_up()
     ensures { (ms : Monitors) → 1 ≤ ms.count → (events : List Event) → AllFit ms.count events
         → (ran ms events).stop ≡ None → (q : List Bool) → IsMajorityOf ms.count q → HaveRoom q (run ms events)
-        → HasWay ms events q None (1850 * ms.count + 1) (CaughtUp q) }
+        → (clock : Clock) → HasWay ms events q None clock (1850 * ms.count + 1) (CaughtUp q) }
 {}
 
 /// After every run that nothing stopped, any majority can serve again, under any rule. There are three premises: there
 /// is room, as for `law_majority_catches_up`; one of its members may lead; and no member lacks from 2 to 11 versions,
 /// unless it is in a full synchronization.
 ///
-/// The command that a client asks is well-formed and not too long. At most 2n² + 1,864n + 6 further events, all of them at
+/// The command that a client asks is well-formed and not too long, and comes before the end of its leader's lease. All
+/// other events come at any times. At most 2n² + 1,864n + 6 further events, all of them at
 /// monitors of the majority, lead to its reply: the command is a new version of the log, or its service refuses it.
 pub fn law_far_majority_serves()
     ensures { (ms : Monitors) → 1 ≤ ms.count → (events : List Event) → AllFit ms.count events
         → (ran ms events).stop ≡ None → (q : List Bool) → IsMajorityOf ms.count q → HaveRoom q (run ms events)
         → IsReady ms q (run ms events) → NoneBetween q (run ms events)
         → (s : Session) (c : Command) → IsCommand c → is_too_long c ≡ false
-        → HasWay ms events q (Some (s, c)) (2 * ms.count * ms.count + 1864 * ms.count + 6) (IsServed ms.count s c) }
+        → (clock : Clock) → ComesInLease q clock
+        → HasWay ms events q (Some (s, c)) clock (2 * ms.count * ms.count + 1864 * ms.count + 6) (IsServed ms.count s c) }
 {}
