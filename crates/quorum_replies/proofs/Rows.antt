@@ -18,6 +18,7 @@ use Rattle.mon_msg.specs.declared.plan.Sent.{Sent}
 use Rattle.mon_msg.specs.declared.view.Me.{Me}
 use Rattle.mon_wire.specs.declared.body.Body.TheVariants as body
 use Rattle.mon_wire.specs.declared.body.Body.{Body}
+use Rattle.mon_wire.specs.declared.reply.Reply.TheVariants as reply
 use Rattle.mon_wire.specs.declared.reply.Reply.{Reply}
 use Rattle.mon_wire.specs.declared.request.Request.TheVariants as request
 use Rattle.mon_wire.specs.declared.request.Session.{Session}
@@ -25,7 +26,7 @@ use Rattle.quorum_replies.proofs.Spending.{held, of_any, of_session, queued, que
 use Rattle.std.proofs.Common.{List, None, Option, Some, [], ap, arith, eqb, filter, map, refl, suc, ℕ, ◌+◌, ◌∷◌, ◌≡◌, ◌≤◌}
 use Rattle.std.specs.List.{AllByRecursion}
 use Rattle.table_walk.proofs.Acts.{acts_of}
-use Rattle.table_walk.proofs.Steps.{InHand, MaySend, Steps, brought, origin_of}
+use Rattle.table_walk.proofs.Steps.{ActSteps, InHand, IsOwn, MaySay, MayTell, Steps, brought, origin_of}
 use Rattle.table_walk.proofs.Table.{walked}
 use Rattle.table_walk.proofs.Walk.{Then}
 
@@ -58,10 +59,10 @@ module _ (me : Me) (now : ℕ) (shared : List Entry) (t : Session) (w : Readings
   abbrev Spends : Course → Type 0
   Spends x = spent t x ≤ most
 
-  unsaid : (h : InHand) (x : Course) (xs : List Sent) → AllByRecursion (MaySend me shared h x) xs → replies t xs ≡ 0
-  unsaid h x [] k = refl
-  unsaid h x (sent.Reply u r ∷ xs) k = absurd k.0
-  unsaid h x (sent.Message to m ∷ xs) k = unsaid h x xs k.1
+  unsaid : (May : Body → Type 0) (x : Course) (xs : List Sent) → AllByRecursion (IsOwn me x May) xs → replies t xs ≡ 0
+  unsaid May x [] k = refl
+  unsaid May x (sent.Reply u r ∷ xs) k = absurd k.0
+  unsaid May x (sent.Message to m ∷ xs) k = unsaid May x xs k.1
 
   messages : (e : ℕ) (m : Body) (tos : List ℕ) → replies t (map (message_to me e m) tos) ≡ 0
   messages e m [] = refl
@@ -73,22 +74,17 @@ module _ (me : Me) (now : ℕ) (shared : List Entry) (t : Session) (w : Readings
   answered e (Some (origin.Forwarded f seq)) r = refl
 
   spending : Steps me now shared w s came Fits Spends
-  unfolding full_sync begin_with
+  unfolding full_sync
   spending = record {
     before = λ no. let e = asked_now t came in omega arith;
-    boots = λ is boots short. omega arith;
     after = λ A. omega arith;
     marks = λ f C why A. omega arith;
     answers_probe = λ f e A. omega arith;
-    proposes = λ {x = x} z value o short leads A. let sends = map (message_to me (epoch_of x.readings) (body.Begin x.state.leader.pn (suc x.readings.last) value)) (members me x.state.leader.quorum) in
-        omega (arith, replies_append t x.out sends, messages (epoch_of x.readings) (body.Begin x.state.leader.pn (suc x.readings.last) value) (members me x.state.leader.quorum));
     votes = λ {x = x} f e pn v value C k A. omega (arith, replies_append t x.out (message_to me (epoch_of x.readings) (body.Accept pn v) f ∷ []));
     writes = λ c k A. A;
-    learns = λ v value values k short A. A;
     replays = λ left v end values t z e A. A;
-    copies = λ v values entries k A. A;
-    sends = λ {h = h} {x = x} sends k A. omega (arith, replies_append t x.out sends, unsaid h x sends k);
-    enters = λ p k A. A;
+    copies = λ v values entries t k A. A;
+    sends = λ {x = x} sends k A. omega (arith, replies_append t x.out sends, unsaid (MaySay me shared x) x sends k);
     timers = λ ts A. A;
     elector = λ e A. A;
     prober = λ p A. A;
@@ -97,21 +93,35 @@ module _ (me : Me) (now : ℕ) (shared : List Entry) (t : Session) (w : Readings
     requester = λ q k A. A;
     leader = λ l A. A;
     finds = λ l k A. A;
-    forgets = λ k A. omega arith;
-    collects = λ q pn short A. omega arith;
     takes_queued = λ q qs e is due A. let n = ap (queued t) e in omega arith;
     takes_forwarded = λ f e seq c C new A. A;
-    takes_found = λ how A. A;
-    takes_value = λ value C e A. omega arith;
     makes_value = λ c o ops short e active A. A;
-    proposes_found = λ found A. A;
-    drops_found = λ found A. A;
     queues = λ {x = x} c o short A. omega (arith, queued_append t x.state.clients.queue (record { command = c; origin = o } ∷ []));
     forwards = λ {x = x} c u peon short fits A. omega (arith, replies_append t x.out (message_to me (epoch_of x.readings) (body.Forward x.state.clients.next_seq c) x.state.peon.leader ∷ []), waiting_append t x.state.clients.sessions (record { seq = x.state.clients.next_seq; session = u } ∷ []));
     routes = λ f e seq r C k A. omega (arith, split t seq r s.clients.sessions, replies_append t [] (map (λ (a : Asked). sent.Reply a.session r) (filter (λ (a : Asked). eqb a.seq seq) s.clients.sessions)));
     answers = λ {x = x} h r k A. let o = origin_of h in omega (arith, replies_append t x.out (answers_to me (epoch_of x.readings) o r), answered (epoch_of x.readings) o r);
   }
 
+  spending_within : ActSteps me now shared w s came Fits Spends
+  unfolding begin_with
+  spending_within = record {
+    boots = λ is boots short. omega arith;
+    raises = λ c k A. A;
+    learns = λ v value values k short A. A;
+    proposes = λ {x = x} z value o short leads A. let sends = map (message_to me (epoch_of x.readings) (body.Begin x.state.leader.pn (suc x.readings.last) value)) (members me x.state.leader.quorum) in
+        omega (arith, replies_append t x.out sends, messages (epoch_of x.readings) (body.Begin x.state.leader.pn (suc x.readings.last) value) (members me x.state.leader.quorum));
+    tells = λ {h = h} {x = x} sends k A. omega (arith, replies_append t x.out sends, unsaid (MayTell me h x) x sends k);
+    leads = λ l A. A;
+    enters = λ p k A. A;
+    collects = λ q pn short A. omega arith;
+    forgets = λ k A. omega arith;
+    takes_found = λ how A. A;
+    takes_value = λ value C e A. omega arith;
+    proposes_found = λ found A. A;
+    drops_found = λ found A. A;
+    acknowledges = λ {x = x} v value o A. omega (arith, replies_append t x.out (answers_to me (epoch_of x.readings) o (reply.Done v)), answered (epoch_of x.readings) o (reply.Done v));
+  }
+
 -- what is replied and held after an event was held or asked before it
 pub spends : (me : Me) (now : ℕ) (t : Session) (w : Readings) (s : State) (shared : List Entry) (c : Input) → Then (λ y. spent t y ≤ held t s + asks_now t c) (react me shared now w s c)
-spends me now t w s shared c = walked (spending me now shared t w s c) (acts_of (spending me now shared t w s c))
+spends me now t w s shared c = walked (spending me now shared t w s c) (acts_of (spending me now shared t w s c) (spending_within me now shared t w s c))
