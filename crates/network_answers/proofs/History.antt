@@ -1,6 +1,7 @@
 -- One log and one list of answers for a whole history.
 use Rattle.std.proofs.Common.{List, ◌++◌, ℕ, map}
 use Rattle.network_answers.proofs.Answering.{acknowledged, all_of_log, answer, answered, brings, brings_more, extends, is_log, order, refusals}
+use Rattle.network_answers.proofs.Causes.{answers_caused}
 use Rattle.network_answers.proofs.Fates.{answered_so, made_so, unmade_so}
 use Rattle.network_answers.specs.Answers.{Answer}
 use Rattle.network_answers.specs.History.{Adds, HaveAnswers}
@@ -54,5 +55,6 @@ module _ (ms : Monitors) where
     brings = λ steps may. brings ms (requests ms steps) (acknowledgements ms steps) (leaderships ms steps) (network ms steps) (stood steps may);
     unmade = λ steps may. unmade_so ms (requests ms steps) (acknowledgements ms steps) (leaderships ms steps) (network ms steps) (stood steps may);
     once = λ steps may. answered_so ms (requests ms steps) (acknowledgements ms steps) (leaderships ms steps) (network ms steps) (stood steps may);
+    causes = λ steps may. answers_caused ms steps may;
     goes_on = adds;
   }

@@ -1,8 +1,10 @@
 pub mod Answering
+pub mod Causes
 pub mod Epochs
 pub mod Fates
 pub mod Followed
 pub mod History
 pub mod Lists
+pub mod MarkedMaps
 pub mod Marks
 pub mod Whose

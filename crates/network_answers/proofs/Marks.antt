@@ -76,7 +76,7 @@ pub record IsPut (s : Service) (log : List (List ℕ)) (c : ℕ) (incremental : 
   pub within : version ≤ c
   pub put : Contains (put_in s (ops_in (entry log version))) incremental
 
-is_put : (s : Service) (log : List (List ℕ)) (c : ℕ) (incremental : List ℕ) → Contains (incrementals s log c) incremental → IsPut s log c incremental
+pub is_put : (s : Service) (log : List (List ℕ)) (c : ℕ) (incremental : List ℕ) → Contains (incrementals s log c) incremental → IsPut s log c incremental
 unfolding incrementals
 is_put s log zero incremental (k, lt, e) = absurd (omega (arith, lt))
 is_put s log (suc c) incremental k = elim (Contains-append_cases (incrementals s log c) (put_in s (ops_in (entry log (suc c)))) incremental k) [

@@ -2,6 +2,7 @@
 use Rattle.std.specs.Prelude.{◌≡◌, ℕ, List, ◌++◌}
 use Rattle.std.specs.List.{AllByRecursion}
 use Rattle.network_answers.specs.Answers.{Answer, AreInOrder, IsAnswer, IsOfThisLog, IsRefused}
+use Rattle.network_answers.specs.Causes.{IsCaused}
 use Rattle.network_answers.specs.Fates.{AreAnsweredOnce, AreMadeOnce, AreUnmade}
 use Rattle.quorum_answers.specs.Refused.{IsRefusalReply}
 use Rattle.quorum_model.specs.Monitors.{Monitors}
@@ -31,7 +32,8 @@ pub record Adds (ms : Monitors) (earlier later : List Step) (old_log log : List 
 
 -- After each list of steps there are a log and a list of answers, and later steps only add to both. All maps and all
 -- answers are of that log. Every datagram that went to a client is of one of these answers, and a client joins only
--- such. Each request makes at most one version, and is answered at most once.
+-- such. Each request makes at most one version, and is answered at most once. Each answer that doesn't serve a request
+-- has its cause in a step.
 pub record HaveAnswers (ms : Monitors) : Type 0 where
   pub log : (steps : List Step) → AllMay ms steps → List (List ℕ)
   pub answers : (steps : List Step) → AllMay ms steps → List Answer
@@ -44,6 +46,7 @@ pub record HaveAnswers (ms : Monitors) : Type 0 where
   pub unmade : (steps : List Step) (may : AllMay ms steps)
       → AreUnmade ms.count (requests ms steps) (log steps may) (answers steps may)
   pub once : (steps : List Step) (may : AllMay ms steps) → AreAnsweredOnce (requests ms steps) (answers steps may)
+  pub causes : (steps : List Step) (may : AllMay ms steps) → AllByRecursion (IsCaused ms steps) (answers steps may)
   pub goes_on : (later earlier : List Step) (may : AllMay ms (later ++ earlier))
       → Adds ms earlier (later ++ earlier) (log earlier (may_before ms later earlier may)) (log (later ++ earlier) may)
       (answers earlier (may_before ms later earlier may)) (answers (later ++ earlier) may)

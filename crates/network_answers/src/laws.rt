@@ -32,6 +32,10 @@ ghost use Rattle.network_answers.specs.Followers.{Reaches, Writes};
 /// an answer other than Done has a request of which no version is, neither before the answer nor ever after. If it
 /// asked that monitor only once, that is the request answered. A process answers a session no more often than requests
 /// of the session came to it. A request whose datagram comes twice counts as two requests.
+///
+/// An Unavailable, NotReadable or Busy has its cause in a step of its process, in the state that the process then has.
+/// The process is in no quorum; or it is in one, and has no version or no valid lease; or as many requests wait at it as
+/// may wait. Only a Busy can also come by a ROUTE: then the queue of the leader that sent it was full.
 pub fn law_answers()
     ensures { (ms : Monitors) → HaveAnswers ms }
 {}

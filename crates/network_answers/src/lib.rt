@@ -5,8 +5,10 @@
 
 mod fresh;
 mod laws;
+mod marked;
 mod one_request;
 
 pub use fresh::{law_fresh, law_writes};
 pub use laws::{law_answers, law_followers};
+pub use marked::law_marked_map;
 pub use one_request::law_one_request;

@@ -1,5 +1,5 @@
 -- A run of later steps goes on from one of earlier ones.
-use Rattle.std.proofs.Common.{◌≡◌, inl, inr, ℕ, suc, ◌<◌, ◌≤◌, List, [], ◌∷◌, ◌++◌, sym, ap, subst, ◌∙◌, arith, append_assoc}
+use Rattle.std.proofs.Common.{◌≡◌, inl, inr, ℕ, suc, ◌<◌, ◌≤◌, List, [], ◌∷◌, ◌++◌, Option, sym, ap, subst, ◌∙◌, arith, append_assoc}
 use Rattle.std.proofs.lemmas.List.{append-nil}
 use Rattle.std.proofs.lemmas.List.Elements.{Contains-append_cases, Contains-append_left}
 use Rattle.std.specs.List.{AllByRecursion, Contains}
@@ -11,6 +11,7 @@ use Rattle.quorum_model.specs.Events.{AllFit}
 use Rattle.quorum_model.specs.Monitors.{Monitors, me_of}
 use Rattle.quorum_model.specs.Runs.{run}
 use Rattle.quorum_model.specs.World.{Acknowledged, Acknowledgement, Asked, Event, Replied, World}
+use Rattle.quorum_network.proofs.Acts.{Act}
 use Rattle.quorum_network.proofs.Adding.{AllLater, IsAt, IsLater, IsRepliedAt}
 use Rattle.quorum_network.proofs.Assembling.{Assembly}
 use Rattle.quorum_network.proofs.Facts.{Facts}
@@ -49,10 +50,10 @@ later_again count e f w v le stay i (Client c) bytes (r, among, event, has, rank
 
 module _ (A : Assembly) (ms : Monitors) (old_asks bs asks : List Asked) (old_acks acks added : List Acknowledgement) (old_leads leads led : List Leadership) (old between net : Network)
     (S : Stands A ms old_asks old_acks old_leads old) (T : Stands A ms bs acks leads between) (G : GoesOn A ms old_asks bs old_acks acks old_leads leads old between S T) where
-  one_more : (N : Next A ms asks added led between.sent T.inv.ls net T.w)
+  one_more : {act : Option Act} (N : Next A ms asks added led act between.sent T.inv.ls net T.w)
       → GoesOn A ms old_asks (bs ++ asks) old_acks (acks ++ added) old_leads (leads ++ led) old net S (stands_next A ms bs asks acks added leads led between.sent between net T N)
   unfolding reach_more stands_next
-  one_more (Still same unasked none nobody I letters) = record {
+  one_more (Still same unasked none nobody idle I letters) = record {
     more = G.more;
     is = G.is;
     events = G.events;

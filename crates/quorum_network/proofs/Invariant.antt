@@ -1,5 +1,5 @@
 -- What holds of a network and of the world of its run.
-use Rattle.std.proofs.Common.{◌≡◌, ◌++◌, ℕ, ◌+◌, ◌^◌, ◌<◌, ◌≤◌, List, [], Option, Some, Ok}
+use Rattle.std.proofs.Common.{◌≡◌, ◌++◌, ℕ, ◌+◌, ◌^◌, ◌<◌, ◌≤◌, List, [], Option, None, Some, Ok}
 use Rattle.std.specs.List.{AllByRecursion, Contains}
 use Rattle.mon_bounds.specs.Remembered.{MayRemember}
 use Rattle.mon_link.specs.declared.link.Peer.{Peer}
@@ -17,6 +17,7 @@ use Rattle.quorum_model.specs.World.{Asked, World, Event, plain_of, Envelope, Re
 use Rattle.quorum_network.specs.Network.{Network, Posted, Process, Up, Down, map_of, newest, number_of}
 use Rattle.quorum_network.specs.Requests.{Leadership}
 use Rattle.quorum_network.specs.Running.{answer_of}
+use Rattle.quorum_network.proofs.Acts.{Act, DoesSo}
 use Rattle.quorum_network.proofs.Adding.{Adds}
 use Rattle.quorum_network.proofs.Assembling.{Assembly}
 use Rattle.quorum_network.proofs.Letters.{Letter, IsLong, IsPosted, AreLetters}
@@ -67,11 +68,12 @@ module _ (A : Assembly) (ms : Monitors) where
 
   -- The run has one further event, which adds these requests, acknowledgements and leaders. The network has further
   -- datagrams after these.
-  pub record Moves (asks : List Asked) (acks : List Acknowledgement) (leads : List Leadership) (before : List Posted) (ls : List Letter) (net : Network) (w : World) : Type 0 where
+  pub record Moves (asks : List Asked) (acks : List Acknowledgement) (leads : List Leadership) (act : Option Act) (before : List Posted) (ls : List Letter) (net : Network) (w : World) : Type 0 where
     pub event : Event
     pub world : World
     pub fits : PlainFits ms.count (plain_of event)
     pub next : happens ms w event ≡ Ok world
+    pub did : DoesSo ms w world act
     pub sent : List Posted
     pub wire : net.sent ≡ before ++ sent
     pub adds : Adds ms.count asks acks leads sent w world
@@ -80,6 +82,6 @@ module _ (A : Assembly) (ms : Monitors) where
     pub new : (l : Letter) → Contains adds.letters l → Contains inv.ls l
 
   -- The invariant holds after a step of the network, with no further event of the run or with one.
-  pub data Next (asks : List Asked) (acks : List Acknowledgement) (leads : List Leadership) (before : List Posted) (ls : List Letter) (net : Network) (w : World) : Type 0 where
-    Still : net.sent ≡ before → asks ≡ [] → acks ≡ [] → leads ≡ [] → (I : Inv net w) → I.ls ≡ ls → Next asks acks leads before ls net w
-    Moved : Moves asks acks leads before ls net w → Next asks acks leads before ls net w
+  pub data Next (asks : List Asked) (acks : List Acknowledgement) (leads : List Leadership) (act : Option Act) (before : List Posted) (ls : List Letter) (net : Network) (w : World) : Type 0 where
+    Still : net.sent ≡ before → asks ≡ [] → acks ≡ [] → leads ≡ [] → act ≡ None → (I : Inv net w) → I.ls ≡ ls → Next asks acks leads act before ls net w
+    Moved : Moves asks acks leads act before ls net w → Next asks acks leads act before ls net w

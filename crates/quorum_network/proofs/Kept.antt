@@ -274,12 +274,13 @@ module _ (A : Assembly) (ms : Monitors) (F : Facts ms) (net : Network) (w : Worl
 
         -- the world moves, and it holds then
         pub moves : (asks : List Asked) → v.asked ≡ w.asked ++ asks
-            → Moves A ms asks (acknowledged_in (map_after n r) r.state r.sends) (led_in i (map_after n r) r.state) net.sent I.ls then_net w
+            → Moves A ms asks (acknowledged_in (map_after n r) r.state r.sends) (led_in i (map_after n r) r.state) (Some (record { rank = i; me = me; node = n; at = at; input = came; reaction = r })) net.sent I.ls then_net w
         moves asks asked = record {
           event = Arrives p;
           world = v;
           fits = fits;
           next = happens_so;
+          did = record { known = is; plain = p; fits = fits; there = there; up = up; kv = kv; reacts = subst (λ (m : Store). reaction me at m n.state came ≡ Ok r) kv reacts; replied = replied_moved w p i r; messages = messages_moved w p i r };
           sent = wire;
           wire = refl;
           adds = record {

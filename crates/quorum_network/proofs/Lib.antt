@@ -1,3 +1,4 @@
+pub mod Acts
 pub mod Adding
 pub mod AnyDisk
 pub mod Anyhow

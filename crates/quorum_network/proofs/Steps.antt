@@ -45,6 +45,7 @@ use Rattle.quorum_model.specs.Monitors.{Monitors, me_of}
 use Rattle.quorum_model.specs.World.{Acknowledgement, Asked, Client, Crash, Deliver, Envelope, Plain, Ring, Start, World}
 use Rattle.quorum_network.specs.Network.{Network, Process, Up, Down, map_of, Doing, Begins, Iterates, Until, Whole, Lost, Kept, Step, StepOutcome, iteration_of, kept_reaction, down, at_end, outcome_of, with_outcome, if_made, made_by, after_step, IsAsked, May, newest, number_of}
 use Rattle.quorum_model.specs.Happens.{put_at}
+use Rattle.quorum_network.proofs.Acts.{Act, act_at, act_by, act_in, act_in_iteration}
 use Rattle.quorum_network.proofs.Assembled.{contains_first, contains_later}
 use Rattle.quorum_network.proofs.Assembling.{Assembly}
 use Rattle.quorum_network.proofs.Events.{IsMe, known, meets_it}
@@ -142,14 +143,14 @@ module _ (A : Assembly) (ms : Monitors) (F : Facts ms) (net : Network) (w : Worl
     pub alive : Contains (net.lives i) (number_of net.lives i)
     pub so : CameSo s came
 
-  abbrev NextOf : List Asked → List Acknowledgement → List Leadership → StepOutcome → Type 0
-  NextOf olds acks leads l = Next A ms olds acks leads net.sent I.ls (with_outcome net i l) w
+  abbrev NextOf : List Asked → List Acknowledgement → List Leadership → Option Act → StepOutcome → Type 0
+  NextOf olds acks leads act l = Next A ms olds acks leads act net.sent I.ls (with_outcome net i l) w
 
   -- nothing is kept, and nothing is sent
-  unkept : (q : Process) → map_of q ≡ map_of (net.process i) → IfUp A ms I.ls (number_of net.lives i) i (w.state i) q → IsAlive (net.lives i) q → NextOf [] [] [] (record { process = q; sends = [] })
-  unkept q e u a = let holds = still_holds q e u a in Still (append-nil net.sent) refl refl refl holds.0 holds.1
+  unkept : (q : Process) → map_of q ≡ map_of (net.process i) → IfUp A ms I.ls (number_of net.lives i) i (w.state i) q → IsAlive (net.lives i) q → NextOf [] [] [] None (record { process = q; sends = [] })
+  unkept q e u a = let holds = still_holds q e u a in Still (append-nil net.sent) refl refl refl refl holds.0 holds.1
 
-  still_down : (came : Result (Option TimedInput) NodeEnd) (s : Serving) → IterationFine came s → NextOf [] [] [] (record { process = Down s.node.store.kv; sends = [] })
+  still_down : (came : Result (Option TimedInput) NodeEnd) (s : Serving) → IterationFine came s → NextOf [] [] [] None (record { process = Down s.node.store.kv; sends = [] })
   still_down came s T = unkept (Down s.node.store.kv) T.kv tt tt
 
   -- ---- an iteration with an input
@@ -192,13 +193,14 @@ module _ (A : Assembly) (ms : Monitors) (F : Facts ms) (net : Network) (w : Worl
         alive_by j lt false = I.alive j lt
 
     -- it is a crash of the run, which notes what was asked
-    lost_next : NextOf (asks_in i it.input) [] [] (record { process = Down n.store.kv; sends = [] })
+    lost_next : NextOf (asks_in i it.input) [] [] None (record { process = Down n.store.kv; sends = [] })
     unfolding lost lost_holds
     lost_next = Moved (record {
       event = Crash E.plain false;
       world = lost w E.plain i;
       fits = E.fits;
       next = ap (after_meeting w (Crash E.plain false)) (meets_it ms w E.plain i it.at it.input me n.state E.there is E.up);
+      did = (refl, refl);
       sent = [];
       wire = refl;
       adds = record {
@@ -223,7 +225,7 @@ module _ (A : Assembly) (ms : Monitors) (F : Facts ms) (net : Network) (w : Worl
 
     -- down, with some of its datagrams sent
     down_next : (k : ℕ) (r : Reaction) → reaction_to me n it ≡ Ok r → nat_lt most_size (size_of (map_after n r)) ≡ false
-        → NextOf (asks_in i it.input) (acknowledged_by n (Some r)) (led_by i n (Some r)) (down me n k (Some r))
+        → NextOf (asks_in i it.input) (acknowledged_by n (Some r)) (led_by i n (Some r)) (act_by i me n it (Some r)) (down me n k (Some r))
     down_next k r e small =
         let outs : List Outgoing = with_number n.next (letters me (map_after n r) r.sends) in
         Moved (moves A ms F net w R I i me is n it.at it.input E.plain E.fits E.there here E.up E.may T.remembers r e (E.own r e) small
@@ -233,7 +235,7 @@ module _ (A : Assembly) (ms : Monitors) (F : Facts ms) (net : Network) (w : Worl
 
     -- down, by what it keeps
     abbrev DownNext : ℕ → Option Reaction → Type 0
-    DownNext k o = NextOf (asks_in i it.input) (acknowledged_by n o) (led_by i n o) (down me n k o)
+    DownNext k o = NextOf (asks_in i it.input) (acknowledged_by n o) (led_by i n o) (act_by i me n it o) (down me n k o)
 
     kept_next : (k : ℕ) (x : Result Reaction Which) → reaction_to me n it ≡ x → DownNext k (kept_reaction me t)
     kept_next k (Err which) e = subst (DownNext k) (sym (ap (of_input None small_of) e)) lost_next
@@ -245,7 +247,7 @@ module _ (A : Assembly) (ms : Monitors) (F : Facts ms) (net : Network) (w : Worl
 
     -- up, with all of them sent
     up_next : (r : Reaction) → reaction_to me n it ≡ Ok r → nat_lt most_size (size_of (map_after n r)) ≡ false → nat_lt (2 ^ 62 + 1) (next_number me n r) ≡ false
-        → NextOf (asks_in i it.input) (acknowledged_by n (Some r)) (led_by i n (Some r)) (record { process = Up (done me s r); sends = sent_by me n r })
+        → NextOf (asks_in i it.input) (acknowledged_by n (Some r)) (led_by i n (Some r)) (act_by i me n it (Some r)) (record { process = Up (done me s r); sends = sent_by me n r })
     up_next r e small few =
         let outs : List Outgoing = letters me (map_after n r) r.sends in
         let last : next_after n.next outs ≤ 2 ^ 62 + 1 = ltb-false _ _ few in
@@ -270,21 +272,21 @@ module _ (A : Assembly) (ms : Monitors) (F : Facts ms) (net : Network) (w : Worl
         sym (ap (of_input [] (λ (q : Reaction). cond (nat_lt most_size (size_of (map_after n q))) [] (numbered_by me n q))) e ∙ ap (λ (b : Bool). cond b [] (numbered_by me n r)) small
         ∙ ap (datagrams (boot_in (map_after n r)) n.next) (numbers_found n.next outs (ltb-false _ _ few)))
 
-    whole_next : (x : Result Reaction Which) → reaction_to me n it ≡ x → NextOf (asks_in i it.input) (acknowledged_by n (kept_reaction me t)) (led_by i n (kept_reaction me t)) (at_end me t (reacted me s x))
+    whole_next : (x : Result Reaction Which) → reaction_to me n it ≡ x → NextOf (asks_in i it.input) (acknowledged_by n (kept_reaction me t)) (led_by i n (kept_reaction me t)) (act_by i me n it (kept_reaction me t)) (at_end me t (reacted me s x))
     whole_next (Err which) e = kept_next 0 (Err which) e
     whole_next (Ok r) e = by (nat_lt most_size (size_of (map_after n r))) refl (nat_lt (2 ^ 62 + 1) (next_number me n r)) refl
       where
         by : (b : Bool) → nat_lt most_size (size_of (map_after n r)) ≡ b → (f : Bool) → nat_lt (2 ^ 62 + 1) (next_number me n r) ≡ f
-            → NextOf (asks_in i it.input) (acknowledged_by n (kept_reaction me t)) (led_by i n (kept_reaction me t)) (at_end me t (cond b (Err (end.Full (size_of (map_after n r)))) (cond f (Err (end.Spent which.Seq)) (Ok (done me s r)))))
+            → NextOf (asks_in i it.input) (acknowledged_by n (kept_reaction me t)) (led_by i n (kept_reaction me t)) (act_by i me n it (kept_reaction me t)) (at_end me t (cond b (Err (end.Full (size_of (map_after n r)))) (cond f (Err (end.Spent which.Seq)) (Ok (done me s r)))))
         by true small f few = kept_next 0 (Ok r) e
         by false small true few = kept_next 0 (Ok r) e
         by false small false few =
             let kept_is : kept_reaction me t ≡ Some r = ap (of_input None small_of) e ∙ ap (λ (b : Bool). cond b None (Some r)) small in
-            subst (λ (o : Option Reaction). NextOf (asks_in i it.input) (acknowledged_by n o) (led_by i n o) (record { process = Up (done me s r); sends = sends_of me t })) (sym kept_is)
-            (subst (λ (ds : List Outgoing). NextOf (asks_in i it.input) (acknowledged_by n (Some r)) (led_by i n (Some r)) (record { process = Up (done me s r); sends = ds })) (all_of_them r e small few) (up_next r e small few))
+            subst (λ (o : Option Reaction). NextOf (asks_in i it.input) (acknowledged_by n o) (led_by i n o) (act_by i me n it o) (record { process = Up (done me s r); sends = sends_of me t })) (sym kept_is)
+            (subst (λ (ds : List Outgoing). NextOf (asks_in i it.input) (acknowledged_by n (Some r)) (led_by i n (Some r)) (act_by i me n it (Some r)) (record { process = Up (done me s r); sends = ds })) (all_of_them r e small few) (up_next r e small few))
 
   iteration_next : (came : Result (Option TimedInput) NodeEnd) (s : Serving) (u : Until) → IterationFine came s
-      → NextOf (requests_in i came) (acknowledged_by s.node (kept_by me (record { came = came; serving = s }) u)) (led_by i s.node (kept_by me (record { came = came; serving = s }) u)) (outcome_of me (record { came = came; serving = s }) u)
+      → NextOf (requests_in i came) (acknowledged_by s.node (kept_by me (record { came = came; serving = s }) u)) (led_by i s.node (kept_by me (record { came = came; serving = s }) u)) (act_in i me s.node came (kept_by me (record { came = came; serving = s }) u)) (outcome_of me (record { came = came; serving = s }) u)
   unfolding ended_iteration
   iteration_next (Err e) s Lost T = still_down (Err e) s T
   iteration_next (Err e) s Whole T = still_down (Err e) s T
@@ -357,15 +359,15 @@ module _ (A : Assembly) (ms : Monitors) (F : Facts ms) (net : Network) (w : Worl
         record { kv = map_here; parts = f.parts; most = u.most; remembers = u.remembers me is; alive = alive; so = so_heard h h.came f.came f.parts }
 
   turns_next : (s : Serving) (g : Given) (u : Until) → net.process i ≡ Up s → IsAsked net i (due_by g.began (due s.node.state.timers)) g.answer → IfUp A ms I.ls (number_of net.lives i) i (w.state i) (Up s) → IsAlive (net.lives i) (Up s)
-      → Next A ms (asked_in_iteration i (Some (iteration me g s))) (acknowledged_in_iteration me u (Some (iteration me g s))) (led_in_iteration i me u (Some (iteration me g s))) net.sent I.ls (with_outcome net i (outcome_of me (iteration me g s) u)) w
+      → Next A ms (asked_in_iteration i (Some (iteration me g s))) (acknowledged_in_iteration me u (Some (iteration me g s))) (led_in_iteration i me u (Some (iteration me g s))) (act_in_iteration i me u (Some (iteration me g s))) net.sent I.ls (with_outcome net i (outcome_of me (iteration me g s) u)) w
   turns_next s g u e may up alive = let t : Iteration = iteration me g s in iteration_next t.came t.serving u (turns_fine s e up alive g may)
 
   begins_next : (store_view : StoreView) (clock : Option Readings) (link : Option Observed) (first : ℕ) (u : Until) → store_view.kv ≡ map_of (net.process i) → Contains (net.lives i) (number_of net.lives i)
       → ((l : Letter) → Contains I.ls l → l.by ≡ i → l.boot ≡ number_of net.lives i → ⊥) → (t : Iteration) → t ≡ start first (unstarted me.member.rank store_view clock link)
-      → Next A ms (asked_in_iteration i (Some t)) (acknowledged_in_iteration me u (Some t)) (led_in_iteration i me u (Some t)) net.sent I.ls (with_outcome net i (outcome_of me t u)) w
+      → Next A ms (asked_in_iteration i (Some t)) (acknowledged_in_iteration me u (Some t)) (led_in_iteration i me u (Some t)) (act_in_iteration i me u (Some t)) net.sent I.ls (with_outcome net i (outcome_of me t u)) w
   begins_next store_view clock link first u kv alive none t is_start =
       let s : Iteration = start first (unstarted me.member.rank store_view clock link) in
-      subst (λ (t : Iteration). Next A ms (asked_in_iteration i (Some t)) (acknowledged_in_iteration me u (Some t)) (led_in_iteration i me u (Some t)) net.sent I.ls (with_outcome net i (outcome_of me t u)) w) (sym is_start)
+      subst (λ (t : Iteration). Next A ms (asked_in_iteration i (Some t)) (acknowledged_in_iteration me u (Some t)) (led_in_iteration i me u (Some t)) (act_in_iteration i me u (Some t)) net.sent I.ls (with_outcome net i (outcome_of me t u)) w) (sym is_start)
       (iteration_next s.came s.serving u (begins_fine store_view clock link first kv alive none))
 
 -- ---- a life begins
@@ -432,7 +434,7 @@ module _ (A : Assembly) (ms : Monitors) (F : Facts ms) (net : Network) (w : Worl
   has_here i life false e = absurd cc
 
   made_next : (i : ℕ) (me : Me) → me_of ms i ≡ Some me → (p : Process) (doing : Doing) (u : Until) → net.process i ≡ p → May net i p doing → IfUp A ms I.ls (number_of net.lives i) i (w.state i) p → IsAlive (net.lives i) p
-      → Next A ms (asked_in_iteration i (iteration_of me p doing)) (acknowledged_in_iteration me u (iteration_of me p doing)) (led_in_iteration i me u (iteration_of me p doing)) net.sent I.ls (if_made me net (record { rank = i; doing = doing; up_to = u }) (iteration_of me p doing)) w
+      → Next A ms (asked_in_iteration i (iteration_of me p doing)) (acknowledged_in_iteration me u (iteration_of me p doing)) (led_in_iteration i me u (iteration_of me p doing)) (act_in_iteration i me u (iteration_of me p doing)) net.sent I.ls (if_made me net (record { rank = i; doing = doing; up_to = u }) (iteration_of me p doing)) w
   made_next i me is p (Begins life store_view clock link first) u e may up alive =
       let t : Iteration = start first (unstarted me.member.rank store_view clock link) in
       let then_net : Network = record { process = net.process; lives = put_at net.lives i (life ∷ net.lives i); sent = net.sent } in
@@ -440,14 +442,14 @@ module _ (A : Assembly) (ms : Monitors) (F : Facts ms) (net : Network) (w : Worl
       let one : eqb i i ≡ true = eq-eqb i i refl in
       let none : (l : Letter) → Contains J.0.ls l → l.by ≡ i → l.boot ≡ number_of then_net.lives i → ⊥ =
       λ l c own boot. none_has A ms net w I i life may.1.0 may.1.1 l (subst (λ (ls : List Letter). Contains ls l) J.1 c) own (boot ∙ newest_here i life (eqb i i) one) in
-      subst (λ (ls : List Letter). Next A ms (asked_in_iteration i (Some t)) (acknowledged_in_iteration me u (Some t)) (led_in_iteration i me u (Some t)) net.sent ls (with_outcome then_net i (outcome_of me t u)) w) J.1
+      subst (λ (ls : List Letter). Next A ms (asked_in_iteration i (Some t)) (acknowledged_in_iteration me u (Some t)) (led_in_iteration i me u (Some t)) (act_in_iteration i me u (Some t)) net.sent ls (with_outcome then_net i (outcome_of me t u)) w) J.1
       (begins_next A ms F then_net w R J.0 i me is store_view clock link first u (may.0 ∙ ap map_of (sym e)) (has_here i life (eqb i i) one) none t refl)
   made_next i me is (Up s) (Iterates g) u e may up alive = turns_next A ms F net w R I i me is s g u e may up alive
-  made_next i me is (Down m) (Iterates g) u e may up alive = Still refl refl refl refl I refl
+  made_next i me is (Down m) (Iterates g) u e may up alive = Still refl refl refl refl refl I refl
 
-  pub step_next : (s : Step) → May net s.rank (net.process s.rank) s.doing → Next A ms (asked_by net s (me_of ms s.rank)) (acknowledged_at net s (me_of ms s.rank)) (led_at net s (me_of ms s.rank)) net.sent I.ls (after_step ms net s) w
+  pub step_next : (s : Step) → May net s.rank (net.process s.rank) s.doing → Next A ms (asked_by net s (me_of ms s.rank)) (acknowledged_at net s (me_of ms s.rank)) (led_at net s (me_of ms s.rank)) (act_at net s (me_of ms s.rank)) net.sent I.ls (after_step ms net s) w
   step_next s may = by (me_of ms s.rank) refl
     where
-      by : (x : Option Me) → me_of ms s.rank ≡ x → Next A ms (asked_by net s x) (acknowledged_at net s x) (led_at net s x) net.sent I.ls (made_by net s x) w
-      by None e = Still refl refl refl refl I refl
+      by : (x : Option Me) → me_of ms s.rank ≡ x → Next A ms (asked_by net s x) (acknowledged_at net s x) (led_at net s x) (act_at net s x) net.sent I.ls (made_by net s x) w
+      by None e = Still refl refl refl refl refl I refl
       by (Some me) e = made_next s.rank me e (net.process s.rank) s.doing s.up_to refl may (I.mine s.rank (known ms s.rank me e).below).up (I.alive s.rank (known ms s.rank me e).below)

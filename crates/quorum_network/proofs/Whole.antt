@@ -1,6 +1,6 @@
 -- Every list of steps makes a network that does what a run does.
 use Rattle.std.proofs.lemmas.List.{append-nil}
-use Rattle.std.proofs.Common.{◌≡◌, ℕ, suc, ◌≤◌, List, [], ◌∷◌, ◌++◌, map, refl, sym, ap, subst, ◌∙◌, arith}
+use Rattle.std.proofs.Common.{◌≡◌, ℕ, suc, ◌≤◌, List, [], ◌∷◌, ◌++◌, map, Option, refl, sym, ap, subst, ◌∙◌, arith}
 use Rattle.std.specs.List.{AllByRecursion, Contains}
 use Rattle.mon_frag.proofs.Lists.{all_append}
 use Rattle.mon_link.specs.declared.link.Peer.{Peer}
@@ -16,6 +16,7 @@ use Rattle.quorum_model.specs.Runs.{Ran, run, ran_from}
 use Rattle.quorum_model.specs.World.{Acknowledged, Asked, Replied, World, Event, first_world, plain_of, Acknowledgement}
 use Rattle.quorum_network.specs.Network.{Network, Step, AllMay, Posted, network, first_network, after_step, number_of}
 use Rattle.quorum_network.specs.Running.{IsOfRun, IsSentInRun, DoesARun}
+use Rattle.quorum_network.proofs.Acts.{Act}
 use Rattle.quorum_network.proofs.Adding.{Adds, IsAt, IsBy, IsRepliedAt, IsRepliedBy, given, noted_as}
 use Rattle.quorum_network.proofs.Assembled.{all_self, all_through, assembly}
 use Rattle.quorum_network.proofs.Assembling.{Assembly}
@@ -90,8 +91,8 @@ module _ (A : Assembly) (ms : Monitors) (olds more : List Asked) (acks added : L
     pub active_now : v.active ≡ map noted_as (leads ++ led)
     active_now = D.active ∙ ap (λ (xs : List (ℕ × ℕ)). xs ++ map noted_as led) S.active ∙ sym (noted_more leads led)
 
-  unfoldable pub stands_next : Next A ms more added led before S.inv.ls net S.w → Stands A ms (olds ++ more) (acks ++ added) (leads ++ led) net
-  stands_next (Still sent unasked none nobody I same) = record {
+  unfoldable pub stands_next : {act : Option Act} → Next A ms more added led act before S.inv.ls net S.w → Stands A ms (olds ++ more) (acks ++ added) (leads ++ led) net
+  stands_next (Still sent unasked none nobody idle I same) = record {
     w = S.w;
     reach = S.reach;
     inv = I;
@@ -112,7 +113,7 @@ module _ (A : Assembly) (ms : Monitors) (olds more : List Asked) (acks added : L
     active = active_now M.world M.sent M.adds;
   }
 
-pub stands_first : (A : Assembly) (ms : Monitors) → Stands A ms [] [] [] first_network
+unfoldable pub stands_first : (A : Assembly) (ms : Monitors) → Stands A ms [] [] [] first_network
 unfolding ran_from
 stands_first A ms = record {
   w = first_world;
