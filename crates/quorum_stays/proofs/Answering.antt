@@ -1,4 +1,4 @@
--- Each member answers each read at once while nobody writes.
+-- Each member answers each read at once while leases are valid.
 use Rattle.mon_bytes.specs.declared.entry.Entry.{Entry}
 use Rattle.mon_lease.specs.Lease.{readable, stands}
 use Rattle.mon_msg.specs.Protocol.Course.{Course}
@@ -23,15 +23,13 @@ use Rattle.quorum_model.specs.Happens.{happens, moved}
 use Rattle.quorum_model.specs.Monitors.{Monitors}
 use Rattle.quorum_model.specs.World.{Arrives, Client, World}
 use Rattle.quorum_stays.proofs.Bounds.{inside}
-use Rattle.quorum_stays.proofs.Leases.{leases_stand}
-use Rattle.quorum_stays.proofs.Onward.{unpack}
-use Rattle.quorum_stays.proofs.Staying.{member_phase}
+use Rattle.quorum_stays.proofs.Onward.{one_state, unpack}
+use Rattle.quorum_stays.proofs.Coming.{member}
 use Rattle.quorum_stays.proofs.Stepping.{becomes}
-use Rattle.quorum_stays.specs.Reading.{IsAnswered, Reads, ShowsStore}
-use Rattle.quorum_stays.specs.Steady.{Reign, Renewals, Steady}
-use Rattle.quorum_timed.specs.Begins.{IsQuick}
-use Rattle.quorum_timed.specs.Timed.{MayBe, Pace, Timed}
-use Rattle.std.proofs.Common.{Bool, List, Ok, Result, Some, ap, eqb, false, inl, inr, ltb, refl, subst, sym, true, ℕ, ◌+◌, ◌<◌, ◌∙◌, ◌≡◌}
+use Rattle.quorum_stays.specs.Reading.{IsAnswered, LeasesStand, Reads, ShowsStore}
+use Rattle.quorum_stays.specs.Steady.{Reign, Round, Steady}
+use Rattle.quorum_timed.specs.Timed.{Pace, Timed}
+use Rattle.std.proofs.Common.{Bool, List, Ok, Result, Some, ap, eqb, false, ltb, refl, subst, true, ℕ, ◌+◌, ◌<◌, ◌∙◌, ◌≡◌}
 use Rattle.std.proofs.lemmas.Bool.{lt-ltb, or_right}
 
 -- a member whose lease is valid shows what its store keeps
@@ -63,24 +61,25 @@ module _ (ms : Monitors) (i : ℕ) (lt : ltb i ms.count ≡ true) (sh : List Ent
     unfolding react
     show_row session r k up = rw up (asks session r k)
 
-module _ (ms : Monitors) (q : List Bool) (pace : Pace) (reign : Reign) (r : Renewals) (t : Timed) (K : IsQuick pace) (S : Steady ms q pace reign r t) (M : MayBe ms q pace t t.time) (some : 0 < reign.last)
-    (i : ℕ) (qi : has q i ≡ true) (session : Session) (request : Request) (k : Reads request) (after : World) (happened : happens ms t.world (Arrives (Client i (t.time + pace.clock i) session request)) ≡ Ok after) where
+module _ (ms : Monitors) (q : List Bool) (pace : Pace) (reign : Reign) (r : Round) (t : Timed) (S : Steady ms q pace reign r t) (valid : LeasesStand q pace t)
+    (i : ℕ) (qi : has q i ≡ true) (some : 0 < (readings_of (t.world.store i)).last) (session : Session) (request : Request) (k : Reads request) (after : World)
+    (happened : happens ms t.world (Arrives (Client i (t.time + pace.clock i) session request)) ≡ Ok after) where
   abbrev now : ℕ
   now = t.time + pace.clock i
 
   abbrev L : (s : State) × (t.world.state i ≡ Some s) × (stands (lease_of s) now ≡ true)
-  L = unpack (λ s. stands (lease_of s) now ≡ true) (t.world.state i) (leases_stand ms q pace reign r t K S M i qi)
+  L = unpack (λ s. stands (lease_of s) now ≡ true) (t.world.state i) (valid i qi)
 
   abbrev lt : ltb i ms.count ≡ true
-  lt = inside ms q pace reign K r t S i qi
+  lt = inside ms q pace reign r t S i qi
 
   row : Shows ms i lt (shared_entries (t.world.store i)) now (readings_of (t.world.store i)) L.0 request session (react (member_of ms i lt) (shared_entries (t.world.store i)) now (readings_of (t.world.store i)) L.0 (input.Client session request))
   row =
-      let k2 = S.keep i qi in
-      let either = member_phase ms q pace reign K r t S i qi L.0 L.1 in
-      let member : is_member L.0.phase ≡ true = elim either [ inl e ↦ rw e refl | inr e ↦ rw e refl ] in
-      let up : same_phase L.0.phase phase.Booting ≡ false = elim either [ inl e ↦ rw e refl | inr e ↦ rw e refl ] in
-      show_row ms i lt (shared_entries (t.world.store i)) now (readings_of (t.world.store i)) L.0 member (lt-ltb 0 (readings_of (t.world.store i)).last (subst (λ (z : ℕ). 0 < z) (sym k2.last_is) some)) L.2 session request k up
+      let m = member ms q pace reign r t S i qi lt in
+      let same : m.state ≡ L.0 = one_state (t.world.state i) m.state L.0 m.up L.1 in
+      let in_quorum = subst (λ (z : State). is_member z.phase ≡ true) same m.in_quorum in
+      let up = subst (λ (z : State). same_phase z.phase phase.Booting ≡ false) same m.awake in
+      show_row ms i lt (shared_entries (t.world.store i)) now (readings_of (t.world.store i)) L.0 in_quorum (lt-ltb 0 (readings_of (t.world.store i)).last some) L.2 session request k up
 
   pub answers : IsAnswered t.world after i session request
   unfolding moved

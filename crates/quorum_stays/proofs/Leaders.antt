@@ -1,183 +1,270 @@
--- A quorum that is led stays led when an acknowledgement comes to its leader, and when the leader renews the leases.
-use Rattle.mon_lease.specs.Lease as lease
-use Rattle.mon_msg.specs.Protocol.Readings.{readings_of, shared_entries}
-use Rattle.mon_msg.specs.Protocol.Sending.{members}
-use Rattle.mon_msg.specs.Protocol.Sets.{are_within, is_empty, only}
+-- A quorum stays led when an answer of a peon comes to its leader, unless it is the last one to a value.
+use Rattle.mon_msg.specs.Protocol.Readings.{Readings, epoch_of, promise_of, readings_of, shared_entries}
+use Rattle.mon_msg.specs.Protocol.Sets.{are_within}
 use Rattle.mon_msg.specs.Protocol.State.{State}
-use Rattle.mon_msg.specs.Protocol.Timers.{disarmed, end_of}
+use Rattle.mon_msg.specs.Protocol.Timers.{disarmed}
 use Rattle.mon_msg.specs.declared.input.Input.TheVariants as input
-use Rattle.mon_msg.specs.declared.view.Me.{Me}
-use Rattle.mon_tx.specs.Map.{Store}
 use Rattle.mon_types.specs.Ranks.{has, with_rank}
 use Rattle.mon_wire.specs.declared.body.Body.TheVariants as body
+use Rattle.mon_wire.specs.declared.body.Body.{Body}
+use Rattle.mon_wire.specs.declared.phase.Phase.TheVariants as phase
 use Rattle.mon_wire.specs.declared.phase.Timer.TheVariants as timer
-use Rattle.quorum_model.proofs.Members.{member_of}
 use Rattle.quorum_model.specs.Meets.{message_at}
 use Rattle.quorum_model.specs.Monitors.{Monitors}
-use Rattle.quorum_model.specs.World.{Arrives, Deliver, Envelope, Ring}
-use Rattle.quorum_stays.proofs.Bounds.{by_renewal, few, inside, leading, no_ack, no_lease}
-use Rattle.quorum_stays.proofs.Onward.{all_left, new_at, nothing_left, other_left, pack, something_sent, under}
-use Rattle.quorum_stays.proofs.Renewing.{each, each_is, goes_to_member, none_own}
-use Rattle.quorum_stays.proofs.Rows.{ack_row, renew_row}
-use Rattle.quorum_stays.proofs.States.{acknowledged, has_self, renewed, renewed_timers}
-use Rattle.quorum_stays.proofs.Stepping.{Did, did}
-use Rattle.quorum_stays.specs.Reading.{ClocksGoOn}
-use Rattle.quorum_stays.specs.Steady.{ALease, FollowsSince, IsOfLease, KeepsReign, LeadsSince, Reign, Renewals, Steady, sent}
-use Rattle.quorum_timed.specs.Begins.{IsQuick}
-use Rattle.quorum_timed.specs.Timed.{MayBe, Owed, Pace, Timed, Went, at_time, without_first}
-use Rattle.quorum_walk.proofs.Ranks.{has_with}
-use Rattle.std.proofs.Common.{Bool, List, None, Option, Some, [], ap, arith, cond, inl, inr, length, ltb, refl, subst, suc, sym, true, ℕ, ◌+◌, ◌<◌, ◌∙◌, ◌∷◌, ◌≡◌, ◌≤◌}
-use Rattle.std.proofs.lemmas.Bool.{cases_eq}
-use Rattle.std.specs.List.{AllByRecursion}
-use Rattle.std.specs.Prelude.{IsSomeAnd, is_some, option_map, slice_get}
+use Rattle.quorum_model.specs.World.{Arrives, Deliver}
+use Rattle.quorum_stays.proofs.Bounds.{inside, leading}
+use Rattle.quorum_stays.proofs.Onward.{here_left, other_left, pack}
+use Rattle.quorum_stays.proofs.Peering.{PeonIn, one_peon}
+use Rattle.quorum_stays.proofs.Peons.{head_is, rest_is}
+use Rattle.quorum_stays.proofs.Rows.{accept_row, ack_row, late_ack_row}
+use Rattle.quorum_stays.proofs.States.{accepted, acknowledged, has_self}
+use Rattle.quorum_stays.proofs.Stepping.{Did, brought, did}
+use Rattle.quorum_stays.proofs.Turning.{on_state, other_state, other_store, same_carried}
+use Rattle.quorum_stays.specs.Steady.{Begun, Carries, FollowsSince, HasLease, IsItem, Item, Keeps, Leads, LeadsSince, Noted, Proposes, Reign, Round, Steady, item, in_reign, leased, said, to_leader, to_peon}
+use Rattle.quorum_timed.specs.Timed.{Owed, Pace, Timed, Went, at_time, without_first}
+use Rattle.quorum_walk.proofs.Ranks.{has_with, has_with_is}
+use Rattle.std.proofs.Common.{Bool, List, None, Option, Some, [], ap, arith, cond, drop, false, inl, inr, length, ltb, refl, subst, suc, sym, take, true, zero, ℕ, ◌*◌, ◌+◌, ◌<◌, ◌∙◌, ◌∷◌, ◌≡◌, ◌≤◌, ◌⊎◌}
+use Rattle.std.specs.Prelude.{IsSomeAnd, option_map}
 
-module _ (ms : Monitors) (q : List Bool) (pace : Pace) (reign : Reign) (K : IsQuick pace) (r : Renewals) (t : Timed) (S : Steady ms q pace reign r t)
-    (u : ℕ) (M : MayBe ms q pace t u) (room : ClocksGoOn q pace u) (next : Timed) where
-  abbrev now : ℕ
+-- ---- which answer comes
+
+-- nothing is left of one answer after it
+one_answer : (x y : Item) (rest : List Item) (h g : ℕ) → drop g (take (said h) (y ∷ [])) ≡ x ∷ rest → (g ≡ 0) × (2 ≤ h) × (y ≡ x) × (rest ≡ [])
+one_answer x y rest zero zero e = absurd cc
+one_answer x y rest zero (suc g) e = absurd cc
+one_answer x y rest (suc zero) zero e = absurd cc
+one_answer x y rest (suc zero) (suc g) e = absurd cc
+one_answer x y rest (suc (suc zero)) zero e = (refl, omega arith, head_is y x _ rest e, sym (rest_is y x _ rest e))
+one_answer x y rest (suc (suc (suc h))) zero e = (refl, omega arith, head_is y x _ rest e, sym (rest_is y x _ rest e))
+one_answer x y rest (suc (suc zero)) (suc zero) e = absurd cc
+one_answer x y rest (suc (suc (suc h))) (suc zero) e = absurd cc
+one_answer x y rest (suc (suc zero)) (suc (suc g)) e = absurd cc
+one_answer x y rest (suc (suc (suc h))) (suc (suc g)) e = absurd cc
+
+-- the first of two answers, or the second
+pub two_answers : (x y z : Item) (rest : List Item) (h g : ℕ) → h ≤ 3 → drop g (take (said h) (y ∷ z ∷ [])) ≡ x ∷ rest
+    → ((g ≡ 0) × (2 ≤ h) × (y ≡ x) × (rest ≡ drop (suc zero) (take (said h) (y ∷ z ∷ [])))) ⊎ ((g ≡ 1) × (h ≡ 3) × (z ≡ x) × (rest ≡ []))
+two_answers x y z rest zero zero le e = absurd cc
+two_answers x y z rest zero (suc g) le e = absurd cc
+two_answers x y z rest (suc zero) zero le e = absurd cc
+two_answers x y z rest (suc zero) (suc g) le e = absurd cc
+two_answers x y z rest (suc (suc zero)) zero le e = inl (refl, omega arith, head_is y x _ rest e, sym (rest_is y x _ rest e))
+two_answers x y z rest (suc (suc zero)) (suc zero) le e = absurd cc
+two_answers x y z rest (suc (suc zero)) (suc (suc g)) le e = absurd cc
+two_answers x y z rest (suc (suc (suc zero))) zero le e = inl (refl, omega arith, head_is y x _ rest e, sym (rest_is y x _ rest e))
+two_answers x y z rest (suc (suc (suc zero))) (suc zero) le e = inr (refl, refl, head_is z x _ rest e, sym (rest_is z x _ rest e))
+two_answers x y z rest (suc (suc (suc zero))) (suc (suc zero)) le e = absurd cc
+two_answers x y z rest (suc (suc (suc zero))) (suc (suc (suc g))) le e = absurd cc
+two_answers x y z rest (suc (suc (suc (suc h)))) g le e = absurd (omega arith)
+
+-- ---- an answer comes
+
+module _ (ms : Monitors) (q : List Bool) (pace : Pace) (reign : Reign) (r : Round) (t : Timed) (S : Steady ms q pace reign r t) (u : ℕ) (later : t.time ≤ u)
+    (next : Timed) (f : ℕ) (qf : has q f ≡ true) (nf : f ≡ reign.leader → ⊥) (F : PeonIn ms q pace reign r t f t.under_way) (o : Owed) (others : List Owed)
+    (x : Item) (rest : List Item) (it : IsItem ms reign t.world.messages f reign.leader (t.time + pace.delay) x o)
+    (C : Carries ms reign t.world.messages f reign.leader (t.time + pace.delay) rest others)
+    (went : Went ms q pace (at_time ms q pace u t) (Arrives (Deliver o.number (u + pace.clock reign.leader))) (without_first f reign.leader others t.under_way) next) where
+  abbrev pub now : ℕ
   now = u + pace.clock reign.leader
 
-  abbrev tu : Timed
-  tu = at_time ms q pace u t
+  abbrev pub left : ℕ → ℕ → List Owed
+  left = without_first f reign.leader others t.under_way
 
-  abbrev P : (s : State) × (t.world.state reign.leader ≡ Some s) × LeadsSince reign.leader q (r.latest + pace.clock reign.leader) s
-  P = leading ms q pace reign K r t S
+  pub lt : ltb reign.leader ms.count ≡ true
+  lt = inside ms q pace reign r t S reign.leader S.leads
+
+  pub comes : (b : Body) → x.body ≡ b → option_map (brought now) (message_at t.world.messages o.number)
+      ≡ Some (record { rank = reign.leader; at = now; input = input.Deliver (in_reign ms reign f reign.leader b).message })
+  comes b is = ap (option_map (brought now)) (it.there ∙ ap (λ (z : Body). Some (in_reign ms reign f reign.leader z)) is)
+
+  pub took : Carries ms reign t.world.messages f reign.leader (t.time + pace.delay) rest (left f reign.leader)
+  took = subst (Carries ms reign t.world.messages f reign.leader (t.time + pace.delay) rest) (sym (here_left f reign.leader others t.under_way)) C
+
+  pub kept_down : left reign.leader f ≡ t.under_way reign.leader f
+  kept_down = other_left f reign.leader others t.under_way reign.leader f (λ a _. nf (sym a))
+
+  -- the leader remembers this then, and wrote and sent nothing
+  module _ (s after : State) (up : t.world.state reign.leader ≡ Some s) (D : Did t.world next.world reign.leader after [] []) where
+    pub store_on : (P : Readings → Type 0) → P (readings_of (t.world.store reign.leader)) → P (readings_of (next.world.store reign.leader))
+    store_on P k = subst P (sym (D.kept tt)) k
+
+    pub noted_on : (j taken : ℕ) → (Noted j taken r.next s → Noted j taken r.next after) → IsSomeAnd (t.world.state reign.leader) (Noted j taken r.next) → IsSomeAnd (next.world.state reign.leader) (Noted j taken r.next)
+    noted_on j taken go k = on_state ms q pace reign t next u later _ left went reign.leader s after [] [] up D (Noted j taken r.next) (Noted j taken r.next) reign.leader (λ _ z. go z) (λ ne z k. absurd (ne refl)) k
+
+    pub answered : (more : ℕ) → more ≤ said F.heard → Noted f more r.next after → rest ≡ drop more (take (said F.heard) (to_leader reign pace r))
+        → ((j taken : ℕ) → (j ≡ f → ⊥) → Noted j taken r.next s → Noted j taken r.next after) → Leads ms.count q pace reign r r.next after → Steady ms q pace reign r next
+    answered more few noted is on leads =
+        one_peon ms q pace reign r t S next u later _ left went reign.leader s after [] [] up D f nf (inr refl) new
+        (λ j ne nj. (other_left f reign.leader others t.under_way reign.leader j (λ _ b. nj b), other_left f reign.leader others t.under_way j reign.leader (λ a _. ne a)))
+        (λ g j a. other_left f reign.leader others t.under_way g j (λ y z. nf (sym y ∙ a.1 z)))
+        (store_on (λ z. epoch_of z ≡ reign.epoch) S.epoch, store_on (λ z. z.last ≡ r.version) S.last)
+        (pack (Leads ms.count q pace reign r r.next) (next.world.state reign.leader) after D.up leads)
+        (λ j ne taken k. noted_on j taken (on j taken ne) k) (λ g j _ _. refl)
+      where
+        new : PeonIn ms q pace reign r next f next.under_way
+        new = record {
+          heard = F.heard;
+          taken = more;
+          sent = F.sent;
+          answered = few;
+          follows = other_state ms q pace reign t next u later _ left went reign.leader s after [] [] up D (FollowsSince reign.leader q (leased r F.heard + pace.clock f)) f nf F.follows;
+          lease = other_state ms q pace reign t next u later _ left went reign.leader s after [] [] up D (HasLease (pace.clock f) r F.heard) f nf F.lease;
+          epoch = other_store ms q pace reign t next u later _ left went reign.leader s after [] [] up D (λ z. epoch_of z ≡ reign.epoch) f nf F.epoch;
+          promise = other_store ms q pace reign t next u later _ left went reign.leader s after [] [] up D (λ z. promise_of z ≡ reign.pn) f nf F.promise;
+          keeps = other_store ms q pace reign t next u later _ left went reign.leader s after [] [] up D (Keeps r F.heard) f nf F.keeps;
+          noted = pack (Noted f more r.next) (next.world.state reign.leader) after D.up noted;
+          to_come = same_carried ms q pace reign t next u later _ left went reign.leader s after [] [] up D reign.leader f (drop F.heard (to_peon reign pace r))
+              (subst (Carries ms reign t.world.messages reign.leader f (t.time + pace.delay) (drop F.heard (to_peon reign pace r))) (sym kept_down) F.to_come) refl;
+          to_take = same_carried ms q pace reign t next u later _ left went reign.leader s after [] [] up D f reign.leader (drop more (take (said F.heard) (to_leader reign pace r)))
+              (subst (λ (z : List Item). Carries ms reign t.world.messages f reign.leader (t.time + pace.delay) z (left f reign.leader)) is took) refl;
+        }
+
+-- ---- no value is in progress
+
+module _ (ms : Monitors) (q : List Bool) (pace : Pace) (reign : Reign) (r0 : Round) (t : Timed) (S : Steady ms q pace reign (record r0 { next = None }) t) (u : ℕ) (later : t.time ≤ u)
+    (next : Timed) (f : ℕ) (qf : has q f ≡ true) (nf : f ≡ reign.leader → ⊥) (F : PeonIn ms q pace reign (record r0 { next = None }) t f t.under_way) (o : Owed) (others : List Owed)
+    (x : Item) (rest : List Item) (it : IsItem ms reign t.world.messages f reign.leader (t.time + pace.delay) x o)
+    (C : Carries ms reign t.world.messages f reign.leader (t.time + pace.delay) rest others)
+    (went : Went ms q pace (at_time ms q pace u t) (Arrives (Deliver o.number (u + pace.clock reign.leader))) (without_first f reign.leader others t.under_way) next)
+    (items : drop F.taken (take (said F.heard) (to_leader reign pace (record r0 { next = None }))) ≡ x ∷ rest) where
+  abbrev r : Round
+  r = record r0 { next = None }
+
+  shape : (F.taken ≡ 0) × (2 ≤ F.heard) × (item (body.LeaseAck r0.version) (r0.latest + 2 * pace.delay) ≡ x) × (rest ≡ [])
+  shape = one_answer x _ rest F.heard F.taken items
+
+  A : (s : State) × (t.world.state reign.leader ≡ Some s) × LeadsSince reign q (r0.latest + pace.clock reign.leader) s
+  A = leading ms q pace reign r t S
 
   abbrev s : State
-  s = P.0
+  s = A.0
 
-  F : LeadsSince reign.leader q (r.latest + pace.clock reign.leader) s
-  F = P.2
+  abbrev here : ltb reign.leader ms.count ≡ true
+  here = lt ms q pace reign r t S u later next f qf nf F o others x rest it C went
 
-  abbrev lt : ltb reign.leader ms.count ≡ true
-  lt = inside ms q pace reign K r t S reign.leader S.leads
+  abbrev store : Readings
+  store = readings_of (t.world.store reign.leader)
 
-  -- ---- an acknowledgement
+  body_is : x.body ≡ body.LeaseAck store.last
+  body_is = ap (λ (y : Item). y.body) (sym shape.2) ∙ ap body.LeaseAck (sym S.last)
 
-  module _ (f : ℕ) (qf : has q f ≡ true) (nf : f ≡ reign.leader → ⊥) (o : Owed) (others : List Owed) (first : t.under_way f reign.leader ≡ o ∷ others)
-      (there : message_at t.world.messages o.number ≡ Some (sent ms reign f reign.leader (body.LeaseAck reign.last)))
-      (went : Went ms q pace tu (Arrives (Deliver o.number now)) (without_first f reign.leader others t.under_way) next) where
-    abbrev left : ℕ → ℕ → List Owed
-    left = without_first f reign.leader others t.under_way
+  abbrev after : State
+  after = record s {
+    leader = record s.leader { acks = with_rank s.leader.acks f };
+    timers = cond (are_within ms.count s.leader.quorum (with_rank s.leader.acks f)) (disarmed timer.LeaseAck s.timers) s.timers;
+  }
 
-    abbrev acks : List Bool
-    acks = with_rank s.leader.acks f
+  D : Did t.world next.world reign.leader (record s {
+    leader = record s.leader { acks = with_rank s.leader.acks f };
+    timers = cond (are_within ms.count s.leader.quorum (with_rank s.leader.acks f)) (disarmed timer.LeaseAck s.timers) s.timers;
+  }) [] []
+  D = let L = A.2 in
+      did ms t.world next.world (Deliver o.number (u + pace.clock reign.leader)) reign.leader here (u + pace.clock reign.leader) (input.Deliver (in_reign ms reign f reign.leader (body.LeaseAck store.last)).message) s
+      (comes ms q pace reign r t S u later next f qf nf F o others x rest it C went _ body_is) A.1 went.happened _
+      (ack_row ms reign.leader here (shared_entries (t.world.store reign.leader)) (u + pace.clock reign.leader) store s f reign.epoch nf (subst (λ (z : List Bool). has z f ≡ true) (sym L.quorum) qf) S.epoch L.leads)
 
-    abbrev after : State
-    after = record s { leader = record s.leader { acks = acks }; timers = cond (are_within ms.count s.leader.quorum acks) (disarmed timer.LeaseAck s.timers) s.timers }
+  pub ack_comes : Steady ms q pace reign (record r0 { next = None }) next
+  ack_comes =
+      let L = A.2 in
+      let few : f < length s.leader.acks = (let a = S.members f qf in let b = ms.most in let c = L.ranks in omega arith) in
+      answered ms q pace reign r t S u later next f qf nf F o others x rest it C went s _ A.1 D 1 (said_some F.heard shape.1) (λ _. has_self s.leader.acks f few)
+      (shape.3 ∙ sym (empty F.heard))
+      (λ j taken ne N one. has_with s.leader.acks f j (N one)) (acknowledged reign q (r0.latest + pace.clock reign.leader) s L ms.count f)
+    where
+      said_some : (h : ℕ) → 2 ≤ h → 1 ≤ said h
+      said_some zero le = absurd (omega arith)
+      said_some (suc h) le = omega arith
 
-    D : Did t.world next.world reign.leader after []
-    D =
-        let k = S.keep reign.leader S.leads in
-        let row = ack_row ms reign.leader lt (shared_entries (t.world.store reign.leader)) now (readings_of (t.world.store reign.leader)) s f reign.epoch reign.last nf F.leads
-        (subst (λ (z : List Bool). has z f ≡ true) (sym F.quorum) qf) k.epoch_is k.last_is in
-        did ms t.world next.world (Deliver o.number now) reign.leader lt now (input.Deliver (sent ms reign f reign.leader (body.LeaseAck reign.last)).message) s
-        (ap (option_map (λ (e : Envelope). record { rank = e.to; at = now; input = input.Deliver e.message })) there) P.1 went.happened _ row refl
+      empty : (h : ℕ) → drop (suc zero) (take (said h) (to_leader reign pace (record r0 { next = None }))) ≡ []
+      empty zero = refl
+      empty (suc zero) = refl
+      empty (suc (suc zero)) = refl
+      empty (suc (suc (suc h))) = refl
 
-    few_acks : f < length s.leader.acks
-    few_acks = let a = S.members f qf in let b = ms.most in let c = F.ranks in omega arith
+-- ---- a value is in progress
 
-    has_ack : (j : ℕ) → (j ≡ f → IsSomeAnd (next.world.state reign.leader) (λ s. has s.leader.acks j ≡ true)) → (j ≡ f → ⊥) → IsSomeAnd (t.world.state reign.leader) (λ s. has s.leader.acks j ≡ true) → IsSomeAnd (next.world.state reign.leader) (λ s. has s.leader.acks j ≡ true)
-    has_ack j _ ne old = pack (λ s. has s.leader.acks j ≡ true) (next.world.state reign.leader) after D.up (has_with s.leader.acks f j (subst (λ (z : Option State). IsSomeAnd z (λ s. has s.leader.acks j ≡ true)) P.1 old))
+module _ (ms : Monitors) (q : List Bool) (pace : Pace) (reign : Reign) (r0 : Round) (b : Begun) (t : Timed) (S : Steady ms q pace reign (record r0 { next = Some b }) t) (u : ℕ) (later : t.time ≤ u)
+    (next : Timed) (f : ℕ) (qf : has q f ≡ true) (nf : f ≡ reign.leader → ⊥) (F : PeonIn ms q pace reign (record r0 { next = Some b }) t f t.under_way) (o : Owed) (others : List Owed)
+    (x : Item) (rest : List Item) (it : IsItem ms reign t.world.messages f reign.leader (t.time + pace.delay) x o)
+    (C : Carries ms reign t.world.messages f reign.leader (t.time + pace.delay) rest others)
+    (went : Went ms q pace (at_time ms q pace u t) (Arrives (Deliver o.number (u + pace.clock reign.leader))) (without_first f reign.leader others t.under_way) next) where
+  abbrev pub rb : Round
+  rb = record r0 { next = Some b }
 
-    mine : IsSomeAnd (next.world.state reign.leader) (λ s. has s.leader.acks f ≡ true)
-    mine = pack (λ s. has s.leader.acks f ≡ true) (next.world.state reign.leader) after D.up (has_self s.leader.acks f few_acks)
+  abbrev pub B : (s : State) × (t.world.state reign.leader ≡ Some s) × Proposes ms.count q pace reign rb b s
+  B = leading ms q pace reign rb t S
 
-    tail : AllByRecursion (IsOfLease ms pace reign r t.world.messages f reign.leader) others
-    tail = (subst (AllByRecursion (IsOfLease ms pace reign r t.world.messages f reign.leader)) first (S.under_way f reign.leader qf S.leads)).1
+  abbrev pub s0 : State
+  s0 = B.0
 
-    empty_before : (g j : ℕ) → (g ≡ f → j ≡ reign.leader → ⊥) → next.under_way g j ≡ [] → t.under_way g j ≡ []
-    empty_before g j ne none = sym (other_left f reign.leader others t.under_way g j ne) ∙ nothing_left ms q pace reign tu next _ left went reign.leader after [] D g j none
+  abbrev pub busy : State
+  busy = record s0 { phase = phase.Updating; leader = record s0.leader { quorum = q; pn = reign.pn; value = Some b.value } }
 
-    pub ack_comes : Steady ms q pace reign r next
-    ack_comes = record {
-      leads = S.leads;
-      second = S.second;
-      second_in = S.second_in;
-      second_is = S.second_is;
-      members = S.members;
-      since = S.since;
-      reached = (let a = S.reached in let b = M.later in let c = went.time in omega arith);
-      apart = S.apart;
-      ordered = S.ordered;
-      keep = λ j qj. subst (λ (m : Store). KeepsReign reign (readings_of m)) (sym (D.stores j)) (S.keep j qj);
-      lead = pack (LeadsSince reign.leader q (r.latest + pace.clock reign.leader)) (next.world.state reign.leader) after D.up (acknowledged ms.count reign.leader q (r.latest + pace.clock reign.leader) f s F);
-      follow = λ j qj nj. subst (λ (z : Option State). IsSomeAnd z (FollowsSince reign.leader q (r.before + pace.clock j))) (sym (D.others j nj)) (S.follow j qj nj);
-      fresh = λ j qj nj none. subst (λ (z : Option State). IsSomeAnd z (FollowsSince reign.leader q (r.latest + pace.clock j))) (sym (D.others j nj)) (S.fresh j qj nj (empty_before reign.leader j (λ _ e. nj e) none));
-      acked = λ j qj nj a b. elim (cases_eq j f) [
-        | inl e ↦ subst (λ (z : ℕ). IsSomeAnd (next.world.state reign.leader) (λ s. has s.leader.acks z ≡ true)) (sym e) mine
-        | inr ne ↦ has_ack j (λ e. absurd (ne e)) ne (S.acked j qj nj (empty_before reign.leader j (λ _ e. nj e) a) (empty_before j reign.leader (λ e _. ne e) b))
-      ];
-      under_way = λ g j qg qj. under ms q pace reign tu next _ left went reign.leader after [] D r r (omega arith) g j
-          (all_left f reign.leader others t.under_way (IsOfLease ms pace reign r t.world.messages) g j tail (S.under_way g j qg qj)) (λ d m at from to. absurd cc);
-    }
+  busy_is : s0 ≡ busy
+  busy_is = let X = B.2.proposes in (λ i. record s0 { phase = X.leads i; leader = record s0.leader { quorum = X.quorum i; pn = X.number i; value = X.proposed i } })
 
-  -- ---- a renewal
+  pub up_busy : t.world.state reign.leader ≡ Some (record s0 { phase = phase.Updating; leader = record s0.leader { quorum = q; pn = reign.pn; value = Some b.value } })
+  up_busy = B.1 ∙ ap Some busy_is
 
-  module _ (end : ℕ) (set : end_of timer.Renew s.timers ≡ Some end) (due : end ≤ now)
-      (went : Went ms q pace tu (Arrives (Ring reign.leader timer.Renew now)) t.under_way next) where
-    abbrev me : Me
-    me = member_of ms reign.leader lt
+  pub proposes_busy : Proposes ms.count q pace reign rb b (record s0 { phase = phase.Updating; leader = record s0.leader { quorum = q; pn = reign.pn; value = Some b.value } })
+  proposes_busy = subst (Proposes ms.count q pace reign rb b) busy_is B.2
 
-    abbrev later : Renewals
-    later = record { latest = u; before = r.latest }
+  abbrev here1 : ltb reign.leader ms.count ≡ true
+  here1 = lt ms q pace reign rb t S u later next f qf nf F o others x rest it C went
 
-    abbrev afterwards : State
-    afterwards = record s { leader = record s.leader { lease = lease.extended now; acks = only reign.leader }; timers = renewed_timers now (is_empty (members me s.leader.quorum)) s.timers }
+  abbrev pub store1 : Readings
+  store1 = readings_of (t.world.store reign.leader)
 
-    abbrev es : List Envelope
-    es = each me reign.epoch (body.Lease reign.last) (members me q)
+  pub sent_few : F.heard ≤ 3
+  sent_few = let a = F.sent in omega arith
 
-    E : Did t.world next.world reign.leader afterwards es
-    E =
-        let k = S.keep reign.leader S.leads in
-        let row = renew_row ms reign.leader lt (shared_entries (t.world.store reign.leader)) now (readings_of (t.world.store reign.leader)) s F.leads (ap is_some F.renews) F.idle in
-        let said : each me _ (body.Lease _) (members me s.leader.quorum) ≡ es = rw (k.epoch_is, k.last_is, F.quorum) refl in
-        subst (Did t.world next.world reign.leader afterwards) said
-        (did ms t.world next.world (Ring reign.leader timer.Renew now) reign.leader lt now (input.Timer timer.Renew) s refl P.1 went.happened _ row refl)
+  -- an acknowledgement that comes late
+  pub late_ack_comes : F.taken ≡ 0 → 2 ≤ F.heard → item (body.LeaseAck r0.version) (r0.latest + 2 * pace.delay) ≡ x → rest ≡ drop (suc zero) (take (said F.heard) (to_leader reign pace (record r0 { next = Some b })))
+      → Steady ms q pace reign (record r0 { next = Some b }) next
+  late_ack_comes none some is list =
+      answered ms q pace reign rb t S u later next f qf nf F o others x rest it C went busy busy up_busy D1 1 (said_some F.heard some) fresh list (λ j taken ne N. N) proposes_busy
+    where
+      said_some : (h : ℕ) → 2 ≤ h → 1 ≤ said h
+      said_some zero le = absurd (omega arith)
+      said_some (suc h) le = omega arith
 
-    late : r.latest + 3000 ≤ u
-    late = let z : Some (r.latest + pace.clock reign.leader + 3000) ≡ Some end = sym F.renews ∙ set in let y : r.latest + pace.clock reign.leader + 3000 ≡ end = cc in omega arith
+      D1 : Did t.world next.world reign.leader (record s0 { phase = phase.Updating; leader = record s0.leader { quorum = q; pn = reign.pn; value = Some b.value } }) [] []
+      D1 = did ms t.world next.world (Deliver o.number (u + pace.clock reign.leader)) reign.leader here1 (u + pace.clock reign.leader) (input.Deliver (in_reign ms reign f reign.leader (body.LeaseAck r0.version)).message) busy
+          (comes ms q pace reign rb t S u later next f qf nf F o others x rest it C went _ (ap (λ (y : Item). y.body) (sym is))) up_busy went.happened _
+          (late_ack_row ms reign.leader here1 (shared_entries (t.world.store reign.leader)) (u + pace.clock reign.leader) store1 busy f reign.epoch nf qf S.epoch r0.version refl)
 
-    before_now : r.latest ≤ u
-    before_now = omega arith
+      old : Noted f F.taken (Some b) busy
+      old = noted_at (Some b) busy up_busy
+        where
+          noted_at : (z : Option Begun) (s : State) → t.world.state reign.leader ≡ Some s → Noted f F.taken (Some b) s
+          noted_at z s e = subst (λ (y : Option State). IsSomeAnd y (Noted f F.taken (Some b))) e F.noted
 
-    all_acked : end_of timer.LeaseAck s.timers ≡ None
-    all_acked = F.heard (λ i qi. elim (cases_eq i reign.leader) [
-      | inl e ↦ subst (λ (z : ℕ). has s.leader.acks z ≡ true) (sym e) F.own
-      | inr ne ↦ subst (λ (z : Option State). IsSomeAnd z (λ s. has s.leader.acks i ≡ true)) P.1 (S.acked i qi ne (no_lease ms q pace reign K r t S u M late i qi ne) (no_ack ms q pace reign K r t S u M late i qi ne))
-    ])
+      fresh : Noted f 1 (Some b) busy
+      fresh = ((λ e. absurd (omega arith)), (λ h. (let z = old.1 h in absurd (omega arith))))
 
-    -- each peon is sent a LEASE
-    sent_to : (j : ℕ) → has q j ≡ true → (j ≡ reign.leader → ⊥) → next.under_way reign.leader j ≡ [] → ⊥
-    sent_to j qj nj none =
-        let g = goes_to_member me reign.epoch (body.Lease reign.last) q j qj nj (S.members j qj) in
-        something_sent ms q pace reign tu next _ t.under_way went reign.leader afterwards es E reign.leader j g.index (sent ms reign reign.leader j (body.Lease reign.last)) g.there refl refl none
+  -- an acceptance, and others are missing
+  module _ (one : F.taken ≡ 1) (all : F.heard ≡ 3) (is : item (body.Accept reign.pn (suc r0.version)) (b.at + 2 * pace.delay) ≡ x) (list : rest ≡ []) where
+    pub accept_body : x.body ≡ body.Accept reign.pn (suc store1.last)
+    accept_body = ap (λ (y : Item). y.body) (sym is) ∙ ap (λ (v : ℕ). body.Accept reign.pn (suc v)) (sym S.last)
 
-    new : (f j d : ℕ) (m : Envelope) → slice_get es d ≡ Some m → m.message.from ≡ f → m.to ≡ j
-        → IsOfLease ms pace reign later next.world.messages f j (record { number = suc (length t.world.messages) + d; by = u + pace.delay })
-    new f j d m at from to =
-        let x = each_is me reign.epoch (body.Lease reign.last) (λ k. k ≡ reign.leader → ⊥) (members me q) (none_own q reign.leader ms.count 0) d m at in
-        let f_is : reign.leader ≡ f = sym (ap (λ (z : Envelope). z.message.from) x.0) ∙ from in
-        let is : m ≡ sent ms reign f j (body.Lease reign.last) =
-        x.0 ∙ ap (λ (z : ℕ). sent ms reign reign.leader z (body.Lease reign.last)) to ∙ ap (λ (z : ℕ). sent ms reign z j (body.Lease reign.last)) f_is in
-        ALease (sym f_is) (λ e. x.1 (to ∙ e)) (new_at ms q pace reign tu next _ t.under_way went reign.leader afterwards es E d m at ∙ ap Some is) (omega arith)
+    pub accept_comes : are_within ms.count q (with_rank s0.leader.accepted f) ≡ false → Steady ms q pace reign (record r0 { next = Some b }) next
+    accept_comes more =
+        let P = proposes_busy in
+        let X = P.proposes in
+        let few : f < length s0.leader.accepted = (let a = S.members f qf in let b = ms.most in let c = X.ranks in omega arith) in
+        answered ms q pace reign rb t S u later next f qf nf F o others x rest it C went busy _ up_busy D2 2 (subst (λ (z : ℕ). 2 ≤ said z) (sym all) (omega arith))
+        ((λ _. has_self s0.leader.accepted f few), (λ _. refl)) (list ∙ sym (empty F.heard all))
+        (λ j taken ne N. ((λ e. has_with s0.leader.accepted f j (N.0 e)), (λ h. elim (has_with_is s0.leader.accepted f j h) [ inl e ↦ absurd (ne e) | inr h2 ↦ N.1 h2 ])))
+        (record { proposes = accepted ms.count reign q b.value (b.at + pace.clock reign.leader) busy X f more; made = P.made; fits = P.fits; after = P.after; before = P.before })
+      where
+        empty : (h : ℕ) → h ≡ 3 → drop (suc (suc zero)) (take (said h) (to_leader reign pace (record r0 { next = Some b }))) ≡ []
+        empty zero e = refl
+        empty (suc zero) e = refl
+        empty (suc (suc zero)) e = refl
+        empty (suc (suc (suc zero))) e = refl
+        empty (suc (suc (suc (suc h)))) e = refl
 
-    pub renew_fires : Steady ms q pace reign later next
-    renew_fires = record {
-      leads = S.leads;
-      second = S.second;
-      second_in = S.second_in;
-      second_is = S.second_is;
-      members = S.members;
-      since = (let a = S.since in omega arith);
-      reached = (let c = went.time in omega arith);
-      apart = by_renewal ms q pace reign K r t S u M;
-      ordered = before_now;
-      keep = λ j qj. subst (λ (m : Store). KeepsReign reign (readings_of m)) (sym (E.stores j)) (S.keep j qj);
-      lead = pack (LeadsSince reign.leader q now) (next.world.state reign.leader) afterwards E.up
-          (renewed reign.leader S.second q (r.latest + pace.clock reign.leader) now (is_empty (members me s.leader.quorum)) s (few ms q pace reign K r t S) S.second_in S.second_is (room reign.leader S.leads) all_acked F);
-      follow = λ j qj nj. subst (λ (z : Option State). IsSomeAnd z (FollowsSince reign.leader q (r.latest + pace.clock j))) (sym (E.others j nj)) (S.fresh j qj nj (no_lease ms q pace reign K r t S u M late j qj nj));
-      fresh = λ j qj nj none. absurd (sent_to j qj nj none);
-      acked = λ j qj nj a b. absurd (sent_to j qj nj a);
-      under_way = λ f j qf qj. under ms q pace reign tu next _ t.under_way went reign.leader afterwards es E r later before_now f j (S.under_way f j qf qj) (new f j);
-    }
+        D2 : Did t.world next.world reign.leader (record busy { leader = record (busy.leader) { accepted = with_rank s0.leader.accepted f } }) [] []
+        D2 = did ms t.world next.world (Deliver o.number (u + pace.clock reign.leader)) reign.leader here1 (u + pace.clock reign.leader) (input.Deliver (in_reign ms reign f reign.leader (body.Accept reign.pn (suc store1.last))).message) busy
+            (comes ms q pace reign rb t S u later next f qf nf F o others x rest it C went _ accept_body) up_busy went.happened _
+            (accept_row ms reign.leader here1 (shared_entries (t.world.store reign.leader)) (u + pace.clock reign.leader) store1 s0 q reign.pn b.value f reign.epoch nf qf S.epoch more)

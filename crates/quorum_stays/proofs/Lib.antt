@@ -1,5 +1,9 @@
 pub mod Answering
 pub mod Bounds
+pub mod Carrying
+pub mod Coming
+pub mod Committing
+pub mod Giving
 pub mod Leaders
 pub mod Leases
 pub mod Leaving
@@ -7,11 +11,16 @@ pub mod LeavingActs
 pub mod LeavingRows
 pub mod LeavingTable
 pub mod Onward
+pub mod Outcomes
+pub mod Peering
 pub mod Peons
-pub mod Renewing
+pub mod Quiets
 pub mod Rows
+pub mod Sending
 pub mod States
 pub mod Staying
 pub mod Stepping
+pub mod Stores
 pub mod Timers
+pub mod Turning
 pub mod UnderWay

@@ -1,15 +1,18 @@
--- What an event among members leaves of what was under way, and what it adds.
+-- What is under way after an event among members.
+use Rattle.mon_msg.specs.Protocol.Changes.{Change}
 use Rattle.mon_msg.specs.Protocol.State.{State}
-use Rattle.log_model.proofs.Lists.{all_append, all_map}
+use Rattle.mon_wire.specs.declared.body.Body.{Body}
 use Rattle.quorum_model.specs.Meets.{message_at}
 use Rattle.quorum_model.specs.Monitors.{Monitors}
 use Rattle.quorum_model.specs.World.{Envelope, Event}
+use Rattle.quorum_stays.proofs.Carrying.{Gives, before_due, carries_append, carries_on, due_at, new_carries}
 use Rattle.quorum_stays.proofs.Stepping.{Did}
-use Rattle.quorum_stays.proofs.UnderWay.{all_numbers, all_owed, get_more, new_are, new_there, none_left, none_owed, none_right, numbers, some_numbers}
-use Rattle.quorum_stays.specs.Steady.{ALease, AnAck, IsOfLease, Reign, Renewals}
+use Rattle.quorum_stays.proofs.UnderWay.{new_are, new_there, numbers}
+use Rattle.quorum_stays.specs.Steady.{Carries, Item, Reign}
 use Rattle.quorum_timed.specs.Timed.{Owed, Pace, Timed, Went, new_between, owed_by, without_first}
-use Rattle.std.proofs.Common.{Bool, List, None, Option, Some, [], ap, arith, eqb, length, refl, subst, suc, sym, zero, ℕ, ◌&&◌, ◌++◌, ◌+◌, ◌∙◌, ◌≡◌, ◌≤◌}
-use Rattle.std.proofs.lemmas.Bool.{and_parts, cond_both, eqb-true}
+use Rattle.std.proofs.Common.{Bool, List, None, Option, Some, [], ap, arith, eqb, length, refl, subst, suc, sym, ℕ, ◌&&◌, ◌++◌, ◌+◌, ◌∙◌, ◌≡◌, ◌≤◌}
+use Rattle.std.proofs.lemmas.Bool.{and_parts, cond_both, eq-eqb, eqb-true}
+use Rattle.std.proofs.lemmas.List.{append-nil}
 use Rattle.std.specs.List.{AllByRecursion}
 use Rattle.std.specs.Prelude.{IsSomeAnd, slice_get}
 
@@ -22,6 +25,10 @@ unpack P (Some s) k = (s, refl, k)
 pub pack : (P : State → Type 0) (o : Option State) (s : State) → o ≡ Some s → P s → IsSomeAnd o P
 pack P o s e k = subst (λ (z : Option State). IsSomeAnd z P) (sym e) k
 
+-- a monitor has one state
+pub one_state : (o : Option State) (a b : State) → o ≡ Some a → o ≡ Some b → a ≡ b
+one_state o a b x y = let same : Some a ≡ Some b = sym x ∙ y in cc
+
 -- ---- the first message from f to i is gone
 
 module _ (f i : ℕ) (others : List Owed) (all : ℕ → ℕ → List Owed) where
@@ -29,52 +36,53 @@ module _ (f i : ℕ) (others : List Owed) (all : ℕ → ℕ → List Owed) wher
   other_left g j ne = cond_both (eqb g f && eqb j i) others (all g j) (λ (x : List Owed). x ≡ all g j)
       (λ t. (let parts = and_parts (eqb g f) (eqb j i) t in absurd (ne (eqb-true g f parts.0) (eqb-true j i parts.1)))) (λ _. refl)
 
-  pub all_left : (P : ℕ → ℕ → Owed → Type 0) (g j : ℕ) → AllByRecursion (P f i) others → AllByRecursion (P g j) (all g j) → AllByRecursion (P g j) (without_first f i others all g j)
-  all_left P g j few all_of = cond_both (eqb g f && eqb j i) others (all g j) (AllByRecursion (P g j))
+  pub here_left : without_first f i others all f i ≡ others
+  here_left = let a = eq-eqb f f refl in let b = eq-eqb i i refl in rw (a, b) refl
+
+  pub list_left : (P : ℕ → ℕ → List Owed → Type 0) (g j : ℕ) → P f i others → P g j (all g j) → P g j (without_first f i others all g j)
+  list_left P g j few all_of = cond_both (eqb g f && eqb j i) others (all g j) (P g j)
       (λ t. (let parts = and_parts (eqb g f) (eqb j i) t in
-      subst (λ (z : ℕ). AllByRecursion (P z j) others) (sym (eqb-true g f parts.0)) (subst (λ (z : ℕ). AllByRecursion (P f z) others) (sym (eqb-true j i parts.1)) few))) (λ _. all_of)
+      subst (λ (z : ℕ). P z j others) (sym (eqb-true g f parts.0)) (subst (λ (z : ℕ). P f z others) (sym (eqb-true j i parts.1)) few))) (λ _. all_of)
+
+  pub all_left : (P : ℕ → ℕ → Owed → Type 0) (g j : ℕ) → AllByRecursion (P f i) others → AllByRecursion (P g j) (all g j) → AllByRecursion (P g j) (without_first f i others all g j)
+  all_left P g j few all_of = list_left (λ g j os. AllByRecursion (P g j) os) g j few all_of
 
 -- ---- what is under way after an event
 
 module _ (ms : Monitors) (q : List Bool) (pace : Pace) (reign : Reign) (t next : Timed) (e : Event) (left : ℕ → ℕ → List Owed) (went : Went ms q pace t e left next)
-    (i : ℕ) (s : State) (es : List Envelope) (D : Did t.world next.world i s es) where
-  abbrev sent : ℕ
-  sent = length t.world.messages
+    (i : ℕ) (s : State) (cs : List Change) (es : List Envelope) (D : Did t.world next.world i s cs es) where
+  abbrev count : ℕ
+  count = length t.world.messages
 
-  next_under_way : (f j : ℕ) → next.under_way f j ≡ left f j ++ owed_by (t.time + pace.delay) (numbers f j (suc sent) es)
+  next_under_way : (f j : ℕ) → next.under_way f j ≡ left f j ++ owed_by (t.time + pace.delay) (numbers f j (suc count) es)
   next_under_way f j =
       went.sent f j
-      ∙ ap (λ (m : List Envelope). left f j ++ owed_by (t.time + pace.delay) (new_between sent f j m)) D.messages
+      ∙ ap (λ (m : List Envelope). left f j ++ owed_by (t.time + pace.delay) (new_between count f j m)) D.messages
       ∙ ap (λ (ns : List ℕ). left f j ++ owed_by (t.time + pace.delay) ns) (new_are f j t.world.messages es)
 
-  pub nothing_left : (f j : ℕ) → next.under_way f j ≡ [] → left f j ≡ []
-  nothing_left f j none = none_left (left f j) _ (sym (next_under_way f j) ∙ none)
-
-  -- what is sent to j is under way
-  pub something_sent : (f j d : ℕ) (m : Envelope) → slice_get es d ≡ Some m → m.message.from ≡ f → m.to ≡ j → next.under_way f j ≡ [] → ⊥
-  something_sent f j d m there from to none =
-      some_numbers f j (suc sent) es d m there from to (none_owed (t.time + pace.delay) _ (none_right (left f j) _ (sym (next_under_way f j) ∙ none)))
-
-  still_there : (k : ℕ) (m : Envelope) → message_at t.world.messages k ≡ Some m → message_at next.world.messages k ≡ Some m
-  still_there zero m there = absurd cc
-  still_there (suc k) m there = ap (λ (z : List Envelope). slice_get z k) D.messages ∙ get_more t.world.messages es k m there
-
-  pub new_at : (d : ℕ) (m : Envelope) → slice_get es d ≡ Some m → message_at next.world.messages (suc sent + d) ≡ Some m
+  new_at : (d : ℕ) (m : Envelope) → slice_get es d ≡ Some m → message_at (t.world.messages ++ es) (suc count + d) ≡ Some m
   new_at d m there =
-      let number : suc sent + d ≡ suc (sent + d) = omega arith in
-      ap (message_at next.world.messages) number ∙ ap (λ (z : List Envelope). slice_get z (sent + d)) D.messages ∙ new_there t.world.messages es d m there
+      let number : suc count + d ≡ suc (count + d) = omega arith in
+      ap (message_at (t.world.messages ++ es)) number ∙ new_there t.world.messages es d m there
 
-  module _ (r later : Renewals) (le : r.latest ≤ later.latest) where
-    pub still : (f j : ℕ) (o : Owed) → IsOfLease ms pace reign r t.world.messages f j o → IsOfLease ms pace reign later next.world.messages f j o
-    still f j o (ALease is ne there due) = ALease is ne (still_there o.number _ there) (omega arith)
-    still f j o (AnAck is ne there due) = AnAck is ne (still_there o.number _ there) (omega arith)
+  -- What is left under way is followed by what was sent, which arrives by `due`.
+  -- What is left under way is followed by what was sent, which arrives by `due`.
+  pub lands : (f j top due : ℕ) (xs : List Item) (bs : List Body) → top ≤ t.time + pace.delay → t.time + pace.delay ≤ due
+      → Carries ms reign t.world.messages f j top xs (left f j) → Gives ms reign f j bs es
+      → Carries ms reign next.world.messages f j (next.time + pace.delay) (xs ++ due_at due bs) (next.under_way f j)
+  lands f j top due xs bs le late C G =
+      let now = t.time + pace.delay in
+      let old = carries_on ms reign f j t.world.messages es top now le xs (left f j) C in
+      let new = new_carries ms reign f j (t.world.messages ++ es) now due late (suc count) es new_at bs G in
+      let both = carries_append ms reign f j (t.world.messages ++ es) now xs (due_at due bs) (left f j) _ (before_due now due late bs) old new in
+      subst (λ (z : ℕ). Carries ms reign next.world.messages f j (z + pace.delay) (xs ++ due_at due bs) (next.under_way f j)) (sym went.time)
+      (subst (λ (z : List Envelope). Carries ms reign z f j now (xs ++ due_at due bs) (next.under_way f j)) (sym D.messages)
+      (subst (Carries ms reign (t.world.messages ++ es) f j now (xs ++ due_at due bs)) (sym (next_under_way f j)) both))
 
-    pub under : (f j : ℕ) → AllByRecursion (IsOfLease ms pace reign r t.world.messages f j) (left f j)
-        → ((d : ℕ) (m : Envelope) → slice_get es d ≡ Some m → m.message.from ≡ f → m.to ≡ j → IsOfLease ms pace reign later next.world.messages f j (record { number = suc sent + d; by = t.time + pace.delay }))
-        → AllByRecursion (IsOfLease ms pace reign later next.world.messages f j) (next.under_way f j)
-    under f j old new =
-        subst (AllByRecursion (IsOfLease ms pace reign later next.world.messages f j)) (sym (next_under_way f j))
-        (all_append (IsOfLease ms pace reign later next.world.messages f j) (left f j) _
-        (all_map (IsOfLease ms pace reign r t.world.messages f j) (IsOfLease ms pace reign later next.world.messages f j) (still f j) (left f j) old)
-        (all_owed (t.time + pace.delay) (numbers f j (suc sent) es) (λ k. IsOfLease ms pace reign later next.world.messages f j (record { number = k; by = t.time + pace.delay })) (IsOfLease ms pace reign later next.world.messages f j) (λ k x. x)
-        (all_numbers f j (suc sent) es (λ k. IsOfLease ms pace reign later next.world.messages f j (record { number = k; by = t.time + pace.delay })) new)))
+  -- nothing but messages about clients' commands was sent
+  pub lands_same : (f j top : ℕ) (xs : List Item) → top ≤ t.time + pace.delay
+      → Carries ms reign t.world.messages f j top xs (left f j) → Gives ms reign f j [] es
+      → Carries ms reign next.world.messages f j (next.time + pace.delay) xs (next.under_way f j)
+  lands_same f j top xs le C G =
+      subst (λ (z : List Item). Carries ms reign next.world.messages f j (next.time + pace.delay) z (next.under_way f j)) (append-nil xs)
+      (lands f j top (t.time + pace.delay) xs [] le (omega arith) C G)

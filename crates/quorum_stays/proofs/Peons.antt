@@ -1,130 +1,298 @@
--- A quorum that is led stays led when a LEASE comes to a peon.
+-- A quorum stays led when a peon takes a message of its round.
 use Rattle.mon_lease.specs.Lease as lease
-use Rattle.mon_msg.specs.Protocol.Readings.{readings_of, shared_entries}
+use Rattle.mon_msg.specs.Protocol.Changes.{Change, Last, Learn, Vote}
+use Rattle.mon_msg.specs.Protocol.Played.{played}
+use Rattle.mon_msg.specs.Protocol.Readings.{Readings, epoch_of, promise_of, readings_of, shared_entries}
 use Rattle.mon_msg.specs.Protocol.State.{State}
 use Rattle.mon_msg.specs.Protocol.Timers.{armed}
 use Rattle.mon_msg.specs.declared.input.Input.TheVariants as input
-use Rattle.mon_tx.specs.Map.{Store}
 use Rattle.mon_types.specs.Ranks.{has}
 use Rattle.mon_wire.specs.declared.body.Body.TheVariants as body
+use Rattle.mon_wire.specs.declared.body.Body.{Body}
 use Rattle.mon_wire.specs.declared.phase.Timer.TheVariants as timer
 use Rattle.quorum_model.specs.Meets.{message_at}
 use Rattle.quorum_model.specs.Monitors.{Monitors}
 use Rattle.quorum_model.specs.World.{Arrives, Deliver, Envelope}
-use Rattle.quorum_stays.proofs.Bounds.{by_lease, following, inside}
-use Rattle.quorum_stays.proofs.Onward.{all_left, new_at, nothing_left, other_left, pack, something_sent, under}
-use Rattle.quorum_stays.proofs.Rows.{lease_row}
-use Rattle.quorum_stays.proofs.States.{earlier, leased}
-use Rattle.quorum_stays.proofs.Stepping.{Did, did}
+use Rattle.quorum_stays.proofs.Bounds.{by_lease, first_of, inside, leading}
+use Rattle.quorum_stays.proofs.Carrying.{Gives}
+use Rattle.quorum_stays.proofs.Onward.{here_left, lands, other_left, pack, unpack}
+use Rattle.quorum_stays.proofs.Peering.{PeonIn, one_peon}
+use Rattle.quorum_stays.proofs.Rows.{begin_row, commit_row, lease_row}
+use Rattle.quorum_stays.proofs.States.{begun_follows, leased_follows}
+use Rattle.quorum_stays.proofs.Stepping.{Did, brought, did}
+use Rattle.quorum_stays.proofs.Stores.{learned_epoch, learned_pending, learned_promise, settled}
+use Rattle.quorum_stays.proofs.Turning.{other_state, other_store, same_carried}
 use Rattle.quorum_stays.specs.Reading.{ClocksGoOn}
-use Rattle.quorum_stays.specs.Steady.{AnAck, FollowsSince, IsOfLease, KeepsReign, LeadsSince, Reign, Renewals, Steady, sent}
+use Rattle.quorum_stays.specs.Steady.{Begun, Carries, FollowsSince, HasLease, IsItem, Item, Keeps, Leads, Noted, Reign, Round, Steady, in_reign, leased, said, to_leader, to_peon}
 use Rattle.quorum_timed.specs.Begins.{IsQuick}
 use Rattle.quorum_timed.specs.Timed.{MayBe, Owed, Pace, Timed, Went, at_time, without_first}
-use Rattle.std.proofs.Common.{Bool, List, Option, Some, [], ap, arith, inl, inr, length, refl, subst, suc, sym, true, zero, ℕ, ◌+◌, ◌∙◌, ◌∷◌, ◌≡◌, ◌≤◌}
-use Rattle.std.proofs.lemmas.Bool.{cases_eq}
-use Rattle.std.specs.List.{AllByRecursion}
-use Rattle.std.specs.Prelude.{IsSomeAnd, option_map, slice_get}
+use Rattle.std.proofs.Common.{Bool, List, None, Some, [], ap, arith, drop, inl, inr, refl, subst, suc, sym, take, true, zero, ℕ, ◌*◌, ◌+◌, ◌^◌, ◌∙◌, ◌∷◌, ◌≡◌, ◌≤◌}
+use Rattle.std.specs.Prelude.{IsSomeAnd, option_map}
 
-single : (x m : Envelope) (d : ℕ) → slice_get (x ∷ []) d ≡ Some m → x ≡ m
-single x m zero there = cc
-single x m (suc d) there = absurd cc
+pub head_is : {A : Type 0} (x y : A) (xs ys : List A) → x ∷ xs ≡ y ∷ ys → x ≡ y
+head_is x y xs ys e = cc
 
-module _ (ms : Monitors) (q : List Bool) (pace : Pace) (reign : Reign) (K : IsQuick pace) (r : Renewals) (t : Timed) (S : Steady ms q pace reign r t)
-    (u : ℕ) (M : MayBe ms q pace t u) (room : ClocksGoOn q pace u) (next : Timed)
-    (i : ℕ) (qi : has q i ≡ true) (ni : i ≡ reign.leader → ⊥) (o : Owed) (others : List Owed) (first : t.under_way reign.leader i ≡ o ∷ others)
-    (there : message_at t.world.messages o.number ≡ Some (sent ms reign reign.leader i (body.Lease reign.last)))
+pub rest_is : {A : Type 0} (x y : A) (xs ys : List A) → x ∷ xs ≡ y ∷ ys → xs ≡ ys
+rest_is x y xs ys e = cc
+
+-- one message from f to i
+pub gives_one : (ms : Monitors) (reign : Reign) (f i : ℕ) (b : Body) → Gives ms reign f i (b ∷ []) (in_reign ms reign f i b ∷ [])
+gives_one ms reign f i b = inr (inr (b, [], refl, refl, refl))
+
+pub gives_elsewhere : (ms : Monitors) (reign : Reign) (f i : ℕ) (b : Body) (g j : ℕ) → (g ≡ f → j ≡ i → ⊥) → Gives ms reign g j [] (in_reign ms reign f i b ∷ [])
+gives_elsewhere ms reign f i b g j ne = inl ((λ x y. ne (sym x) (sym y)), refl)
+
+module _ (ms : Monitors) (q : List Bool) (pace : Pace) (reign : Reign) (K : IsQuick pace) (r : Round) (t : Timed) (S : Steady ms q pace reign r t) (u : ℕ) (M : MayBe ms q pace t u)
+    (room : ClocksGoOn q pace u) (next : Timed) (i : ℕ) (qi : has q i ≡ true) (ni : i ≡ reign.leader → ⊥) (F : PeonIn ms q pace reign r t i t.under_way) (o : Owed) (others : List Owed)
+    (x : Item) (rest : List Item) (items : drop F.heard (to_peon reign pace r) ≡ x ∷ rest) (it : IsItem ms reign t.world.messages reign.leader i (t.time + pace.delay) x o)
+    (C : Carries ms reign t.world.messages reign.leader i (t.time + pace.delay) rest others)
     (went : Went ms q pace (at_time ms q pace u t) (Arrives (Deliver o.number (u + pace.clock i))) (without_first reign.leader i others t.under_way) next) where
   abbrev now : ℕ
   now = u + pace.clock i
 
-  abbrev tu : Timed
-  tu = at_time ms q pace u t
-
   abbrev left : ℕ → ℕ → List Owed
   left = without_first reign.leader i others t.under_way
 
-  abbrev reply : Envelope
-  reply = sent ms reign i reign.leader (body.LeaseAck reign.last)
+  abbrev w : Readings
+  w = readings_of (t.world.store i)
 
-  abbrev P : (s : State) × (t.world.state i ≡ Some s) × FollowsSince reign.leader q (r.before + pace.clock i) s
-  P = following ms q pace reign K r t S i qi ni
+  P : (s : State) × (t.world.state i ≡ Some s) × FollowsSince reign.leader q (leased r F.heard + pace.clock i) s
+  P = unpack (FollowsSince reign.leader q (leased r F.heard + pace.clock i)) (t.world.state i) F.follows
 
   abbrev s : State
   s = P.0
 
-  F : FollowsSince reign.leader q (r.before + pace.clock i) s
-  F = P.2
+  later : t.time ≤ u
+  later = M.later
 
-  abbrev after : State
-  after = record s { peon = record s.peon { lease = lease.extended now }; timers = armed now timer.Lease s.timers }
+  lost : left reign.leader i ≡ others
+  lost = here_left reign.leader i others t.under_way
 
-  D : Did t.world next.world i after (reply ∷ [])
-  D =
-      let k = S.keep i qi in
-      let lt = inside ms q pace reign K r t S i qi in
-      let row = lease_row ms i lt (shared_entries (t.world.store i)) now (readings_of (t.world.store i)) s reign.leader reign.epoch reign.last (λ e. ni (sym e)) F.follows F.leader_is k.epoch_is k.last_is k.settled in
-      let said : record { to = reign.leader; message = record { from = i; monitors = ms.count; epoch = _; body = body.LeaseAck _ } } ∷ [] ≡ reply ∷ [] = rw (k.epoch_is, k.last_is) refl in
-      subst (Did t.world next.world i after) said
-      (did ms t.world next.world (Deliver o.number now) i lt now (input.Deliver (sent ms reign reign.leader i (body.Lease reign.last)).message) s
-      (ap (option_map (λ (e : Envelope). record { rank = e.to; at = now; input = input.Deliver e.message })) there) P.1 went.happened _ row refl)
+  kept_up : left i reign.leader ≡ t.under_way i reign.leader
+  kept_up = other_left reign.leader i others t.under_way i reign.leader (λ a _. ni a)
 
-  since_latest : r.latest + pace.clock i ≤ now
-  since_latest = let a = S.reached in let b = M.later in omega arith
+  there : (b : Body) → x.body ≡ b → message_at t.world.messages o.number ≡ Some (in_reign ms reign reign.leader i b)
+  there b is = it.there ∙ ap (λ (z : Body). Some (in_reign ms reign reign.leader i z)) is
 
-  G : FollowsSince reign.leader q (r.latest + pace.clock i) after
-  G = leased reign.leader q (r.before + pace.clock i) (r.latest + pace.clock i) now s since_latest (room i qi) F
+  comes : (b : Body) → x.body ≡ b → option_map (brought now) (message_at t.world.messages o.number)
+      ≡ Some (record { rank = i; at = now; input = input.Deliver (in_reign ms reign reign.leader i b).message })
+  comes b is = ap (option_map (brought now)) (there b is)
 
-  mine : IsSomeAnd (next.world.state i) (FollowsSince reign.leader q (r.latest + pace.clock i))
-  mine = pack (FollowsSince reign.leader q (r.latest + pace.clock i)) (next.world.state i) after D.up G
+  items_at : (h : ℕ) → F.heard ≡ h → drop h (to_peon reign pace r) ≡ x ∷ rest
+  items_at h is = subst (λ (z : ℕ). drop z (to_peon reign pace r) ≡ x ∷ rest) is items
 
-  mine_before : IsSomeAnd (next.world.state i) (FollowsSince reign.leader q (r.before + pace.clock i))
-  mine_before = pack (FollowsSince reign.leader q (r.before + pace.clock i)) (next.world.state i) after D.up (earlier reign.leader q (r.before + pace.clock i) (r.latest + pace.clock i) after (let z = S.ordered in omega arith) G)
+  keeps_at : (h : ℕ) → F.heard ≡ h → Keeps r h w
+  keeps_at h is = subst (λ (z : ℕ). Keeps r z w) is F.keeps
 
-  abbrev not_leader : reign.leader ≡ i → ⊥
-  not_leader e = ni (sym e)
+  follows_at : (h : ℕ) → F.heard ≡ h → FollowsSince reign.leader q (leased r h + pace.clock i) s
+  follows_at h is = subst (λ (z : ℕ). FollowsSince reign.leader q (leased r z + pace.clock i) s) is P.2
 
-  new : (f j d : ℕ) (m : Envelope) → slice_get (reply ∷ []) d ≡ Some m → m.message.from ≡ f → m.to ≡ j
-      → IsOfLease ms pace reign r next.world.messages f j (record { number = suc (length t.world.messages) + d; by = u + pace.delay })
-  new f j d m at from to =
-      let same : reply ≡ m = single reply m d at in
-      let f_is : i ≡ f = ap (λ (z : Envelope). z.message.from) same ∙ from in
-      let j_is : reign.leader ≡ j = ap (λ (z : Envelope). z.to) same ∙ to in
-      let is : m ≡ sent ms reign f j (body.LeaseAck reign.last) =
-      sym same ∙ ap (λ (z : ℕ). sent ms reign z reign.leader (body.LeaseAck reign.last)) f_is ∙ ap (λ (z : ℕ). sent ms reign f z (body.LeaseAck reign.last)) j_is in
-      let z = by_lease ms q pace reign K r t S u M i qi ni o others first in
-      AnAck (sym j_is) (λ e. ni (f_is ∙ e)) (new_at ms q pace reign tu next _ left went i after (reply ∷ []) D d m at ∙ ap Some is) (omega arith)
+  answered_at : (h : ℕ) → F.heard ≡ h → F.taken ≤ said h
+  answered_at h is = subst (λ (z : ℕ). F.taken ≤ said z) is F.answered
 
-  tail : AllByRecursion (IsOfLease ms pace reign r t.world.messages reign.leader i) others
-  tail = (subst (AllByRecursion (IsOfLease ms pace reign r t.world.messages reign.leader i)) first (S.under_way reign.leader i S.leads qi)).1
+  take_at : (h : ℕ) → F.heard ≡ h → Carries ms reign t.world.messages i reign.leader (t.time + pace.delay) (drop F.taken (take (said h) (to_leader reign pace r))) (left i reign.leader)
+  take_at h is = subst (Carries ms reign t.world.messages i reign.leader (t.time + pace.delay) (drop F.taken (take (said h) (to_leader reign pace r)))) (sym kept_up)
+      (subst (λ (z : ℕ). Carries ms reign t.world.messages i reign.leader (t.time + pace.delay) (drop F.taken (take (said z) (to_leader reign pace r))) (t.under_way i reign.leader)) is F.to_take)
 
-  empty_before : (f j : ℕ) → (f ≡ reign.leader → j ≡ i → ⊥) → next.under_way f j ≡ [] → t.under_way f j ≡ []
-  empty_before f j ne none = sym (other_left reign.leader i others t.under_way f j ne) ∙ nothing_left ms q pace reign tu next _ left went i after (reply ∷ []) D f j none
+  come : (xs : List Item) → xs ≡ rest → Carries ms reign t.world.messages reign.leader i (t.time + pace.delay) xs (left reign.leader i)
+  come xs is = subst (Carries ms reign t.world.messages reign.leader i (t.time + pace.delay) xs) (sym lost)
+      (subst (λ (z : List Item). Carries ms reign t.world.messages reign.leader i (t.time + pace.delay) z others) (sym is) C)
 
-  pub lease_comes : Steady ms q pace reign r next
-  lease_comes = record {
-    leads = S.leads;
-    second = S.second;
-    second_in = S.second_in;
-    second_is = S.second_is;
-    members = S.members;
-    since = S.since;
-    reached = (let a = S.reached in let b = M.later in let c = went.time in omega arith);
-    apart = S.apart;
-    ordered = S.ordered;
-    keep = λ j qj. subst (λ (m : Store). KeepsReign reign (readings_of m)) (sym (D.stores j)) (S.keep j qj);
-    lead = subst (λ (z : Option State). IsSomeAnd z (LeadsSince reign.leader q (r.latest + pace.clock reign.leader))) (sym (D.others reign.leader not_leader)) S.lead;
-    follow = λ j qj nj. elim (cases_eq j i) [
-      | inl e ↦ subst (λ (z : ℕ). IsSomeAnd (next.world.state z) (FollowsSince reign.leader q (r.before + pace.clock z))) (sym e) mine_before
-      | inr ne ↦ subst (λ (z : Option State). IsSomeAnd z (FollowsSince reign.leader q (r.before + pace.clock j))) (sym (D.others j ne)) (S.follow j qj nj)
-    ];
-    fresh = λ j qj nj none. elim (cases_eq j i) [
-      | inl e ↦ subst (λ (z : ℕ). IsSomeAnd (next.world.state z) (FollowsSince reign.leader q (r.latest + pace.clock z))) (sym e) mine
-      | inr ne ↦ subst (λ (z : Option State). IsSomeAnd z (FollowsSince reign.leader q (r.latest + pace.clock j))) (sym (D.others j ne)) (S.fresh j qj nj (empty_before reign.leader j (λ _ e. ne e) none))
-    ];
-    acked = λ j qj nj a b. elim (cases_eq j i) [
-      | inl e ↦ absurd (something_sent ms q pace reign tu next _ left went i after (reply ∷ []) D i reign.leader 0 reply refl refl refl (subst (λ (z : ℕ). next.under_way z reign.leader ≡ []) e b))
-      | inr ne ↦ subst (λ (z : Option State). IsSomeAnd z (λ s. has s.leader.acks j ≡ true)) (sym (D.others reign.leader not_leader)) (S.acked j qj nj (empty_before reign.leader j (λ _ e. ne e) a) (empty_before j reign.leader (λ e _. nj e) b))
-    ];
-    under_way = λ f j qf qj. under ms q pace reign tu next _ left went i after (reply ∷ []) D r r (omega arith) f j
-        (all_left reign.leader i others t.under_way (IsOfLease ms pace reign r t.world.messages) f j tail (S.under_way f j qf qj)) (new f j);
-  }
+  -- what the peon remembers then, what it changed, and what it sent
+  module _ (after : State) (cs : List Change) (es : List Envelope) (D : Did t.world next.world i after cs es) where
+    not_leader : reign.leader ≡ i → ⊥
+    not_leader e = ni (sym e)
+
+    noted_on : (j taken : ℕ) → IsSomeAnd (t.world.state reign.leader) (Noted j taken r.next) → IsSomeAnd (next.world.state reign.leader) (Noted j taken r.next)
+    noted_on j taken k = other_state ms q pace reign t next u later _ left went i s after cs es P.1 D (Noted j taken r.next) reign.leader not_leader k
+
+    done : PeonIn ms q pace reign r next i next.under_way → ((f j : ℕ) → (f ≡ i → j ≡ reign.leader → ⊥) → Gives ms reign f j [] es) → Steady ms q pace reign r next
+    done G gives = one_peon ms q pace reign r t S next u later _ left went i s after cs es P.1 D i ni (inl refl) G
+        (λ j ne nj. (other_left reign.leader i others t.under_way reign.leader j (λ _ b. ne b), other_left reign.leader i others t.under_way j reign.leader (λ a _. nj a)))
+        (λ f j a. other_left reign.leader i others t.under_way f j (λ y z. ni (sym z ∙ a.0 y))) (
+          other_store ms q pace reign t next u later _ left went i s after cs es P.1 D (λ w. epoch_of w ≡ reign.epoch) reign.leader not_leader S.epoch,
+          other_store ms q pace reign t next u later _ left went i s after cs es P.1 D (λ w. w.last ≡ r.version) reign.leader not_leader S.last,
+        )
+        (other_state ms q pace reign t next u later _ left went i s after cs es P.1 D (Leads ms.count q pace reign r r.next) reign.leader not_leader S.lead)
+        (λ j ne taken k. noted_on j taken k) (λ f j _ b. gives f j b)
+
+  -- ---- a COMMIT
+
+  pub commit_comes : F.heard ≡ zero → Steady ms q pace reign r next
+  commit_comes is = done s (Learn (suc w.last) r.value ∷ Last (suc w.last) ∷ []) [] D new (λ f j ne. refl)
+    where
+      k : Keeps r zero w
+      k = keeps_at zero is
+
+      fits : suc w.last ≤ 2 ^ 62
+      fits = let a = S.fits in let b = k.0 in omega arith
+
+      body_is : x.body ≡ body.Commit (suc w.last) (r.value ∷ [])
+      body_is = ap (λ (y : Item). y.body) (sym (head_is _ x _ rest (items_at zero is))) ∙ ap (λ (v : ℕ). body.Commit v (r.value ∷ [])) (sym k.0)
+
+      D : Did t.world next.world i s (Learn (suc w.last) r.value ∷ Last (suc w.last) ∷ []) []
+      D = let lt = inside ms q pace reign r t S i qi in let G = P.2 in
+          did ms t.world next.world (Deliver o.number now) i lt now (input.Deliver (in_reign ms reign reign.leader i (body.Commit (suc w.last) (r.value ∷ []))).message) s (comes _ body_is) P.1 went.happened _
+          (commit_row ms i lt (shared_entries (t.world.store i)) now w s reign.leader reign.epoch (λ e. ni (sym e)) G.follows G.leader_is F.epoch r.value fits)
+
+      kept : readings_of (next.world.store i) ≡ played (Learn (suc w.last) r.value ∷ Last (suc w.last) ∷ []) w
+      kept = D.kept (tt, (fits, tt))
+
+      new : PeonIn ms q pace reign r next i next.under_way
+      new = record {
+        heard = suc zero;
+        taken = F.taken;
+        sent = omega arith;
+        answered = answered_at zero is;
+        follows = pack (FollowsSince reign.leader q (r.before + pace.clock i)) (next.world.state i) s D.up (follows_at zero is);
+        lease = pack (HasLease (pace.clock i) r (suc zero)) (next.world.state i) s D.up (λ lt. (let e = k.3 in absurd (omega arith)));
+        epoch = ap epoch_of kept ∙ learned_epoch (suc w.last) r.value w k.2 ∙ F.epoch;
+        promise = ap promise_of kept ∙ learned_promise (suc w.last) r.value w k.2 ∙ F.promise;
+        keeps = subst (Keeps r (suc zero)) (sym kept) (k.0, settled (played (Learn (suc w.last) r.value ∷ Last (suc w.last) ∷ []) w) (learned_pending (suc w.last) r.value w k.2 ∙ k.1 ∙ sym k.0));
+        noted = noted_on s _ [] D i F.taken F.noted;
+        to_come = same_carried ms q pace reign t next u later _ left went i s s _ [] P.1 D reign.leader i (drop (suc zero) (to_peon reign pace r)) (come _ (rest_is _ x _ rest (items_at zero is))) refl;
+        to_take = same_carried ms q pace reign t next u later _ left went i s s _ [] P.1 D i reign.leader (drop F.taken (take zero (to_leader reign pace r))) (take_at zero is) refl;
+      }
+
+  -- ---- a LEASE
+
+  pub lease_comes : F.heard ≡ suc zero → Steady ms q pace reign r next
+  lease_comes is = done after [] (reply ∷ []) D new (λ f j ne. gives_elsewhere ms reign i reign.leader (body.LeaseAck r.version) f j ne)
+    where
+      k : Keeps r (suc zero) w
+      k = keeps_at (suc zero) is
+
+      body_is : x.body ≡ body.Lease w.last
+      body_is = ap (λ (y : Item). y.body) (sym (head_is _ x _ rest (items_at (suc zero) is))) ∙ ap body.Lease (sym k.0)
+
+      after : State
+      after = record s { peon = record s.peon { lease = lease.extended now }; timers = armed now timer.Lease s.timers }
+
+      reply : Envelope
+      reply = in_reign ms reign i reign.leader (body.LeaseAck r.version)
+
+      D : Did t.world next.world i (record s { peon = record s.peon { lease = lease.extended now }; timers = armed now timer.Lease s.timers }) [] (in_reign ms reign i reign.leader (body.LeaseAck r.version) ∷ [])
+      D = let lt = inside ms q pace reign r t S i qi in let G = P.2 in
+          let e = F.epoch in
+          let l = k.0 in
+          let same : record { to = reign.leader; message = record { from = i; monitors = ms.count; epoch = epoch_of w; body = body.LeaseAck w.last } } ∷ [] ≡ in_reign ms reign i reign.leader (body.LeaseAck r.version) ∷ [] = (λ d. record { to = reign.leader; message = record { from = i; monitors = ms.count; epoch = e d; body = body.LeaseAck (l d) } } ∷ []) in
+          subst (Did t.world next.world i (record s { peon = record s.peon { lease = lease.extended now }; timers = armed now timer.Lease s.timers }) []) same
+          (did ms t.world next.world (Deliver o.number now) i lt now (input.Deliver (in_reign ms reign reign.leader i (body.Lease w.last)).message) s (comes _ body_is) P.1 went.happened _
+          (lease_row ms i lt (shared_entries (t.world.store i)) now w s reign.leader reign.epoch (λ e. ni (sym e)) G.follows G.leader_is F.epoch k.1))
+
+      none : F.taken ≡ zero
+      none = let a = answered_at (suc zero) is in omega arith
+
+      soon : u ≤ r.latest + pace.delay
+      soon = by_lease ms q pace reign r t S K u M i qi F (let z = is in omega arith)
+
+      since : r.latest + pace.clock i ≤ now
+      since = let a = S.reached in let b = later in omega arith
+
+      taken : Carries ms reign t.world.messages i reign.leader (t.time + pace.delay) [] (left i reign.leader)
+      taken = subst (λ (z : ℕ). Carries ms reign t.world.messages i reign.leader (t.time + pace.delay) (drop z (take zero (to_leader reign pace r))) (left i reign.leader)) none (take_at (suc zero) is)
+
+      new : PeonIn ms q pace reign r next i next.under_way
+      new = record {
+        heard = suc (suc zero);
+        taken = zero;
+        sent = omega arith;
+        answered = omega arith;
+        follows = pack (FollowsSince reign.leader q (r.latest + pace.clock i)) (next.world.state i) _ D.up
+            (leased_follows reign.leader q (r.before + pace.clock i) s (follows_at (suc zero) is) (r.latest + pace.clock i) now since (room i qi));
+        lease = pack (HasLease (pace.clock i) r (suc (suc zero))) (next.world.state i) _ D.up (let a = since in let b = room i qi in omega arith);
+        epoch = subst (λ (z : Readings). epoch_of z ≡ reign.epoch) (sym (D.kept tt)) F.epoch;
+        promise = subst (λ (z : Readings). promise_of z ≡ reign.pn) (sym (D.kept tt)) F.promise;
+        keeps = subst (Keeps r (suc (suc zero))) (sym (D.kept tt)) k;
+        noted = subst (λ (z : ℕ). IsSomeAnd (next.world.state reign.leader) (Noted i z r.next)) none (noted_on _ [] _ D i F.taken F.noted);
+        to_come = same_carried ms q pace reign t next u later _ left went i s _ [] _ P.1 D reign.leader i (drop (suc (suc zero)) (to_peon reign pace r)) (come _ (rest_is _ x _ rest (items_at (suc zero) is)))
+            (gives_elsewhere ms reign i reign.leader (body.LeaseAck r.version) reign.leader i (λ a _. ni (sym a)));
+        to_take = lands ms q pace reign (at_time ms q pace u t) next _ left went i _ [] _ D i reign.leader (t.time + pace.delay) (r.latest + 2 * pace.delay) [] (body.LeaseAck r.version ∷ [])
+            (let a = later in omega arith) (let a = soon in omega arith) taken (gives_one ms reign i reign.leader (body.LeaseAck r.version));
+      }
+
+-- ---- a BEGIN
+
+module _ (ms : Monitors) (q : List Bool) (pace : Pace) (reign : Reign) (K : IsQuick pace) (r0 : Round) (b : Begun) (t : Timed) (S : Steady ms q pace reign (record r0 { next = Some b }) t) (u : ℕ) (M : MayBe ms q pace t u)
+    (room : ClocksGoOn q pace u) (next : Timed) (i : ℕ) (qi : has q i ≡ true) (ni : i ≡ reign.leader → ⊥) (F : PeonIn ms q pace reign (record r0 { next = Some b }) t i t.under_way) (o : Owed) (others : List Owed)
+    (x : Item) (rest : List Item) (items : drop F.heard (to_peon reign pace (record r0 { next = Some b })) ≡ x ∷ rest) (it : IsItem ms reign t.world.messages reign.leader i (t.time + pace.delay) x o)
+    (C : Carries ms reign t.world.messages reign.leader i (t.time + pace.delay) rest others)
+    (went : Went ms q pace (at_time ms q pace u t) (Arrives (Deliver o.number (u + pace.clock i))) (without_first reign.leader i others t.under_way) next) where
+  abbrev r : Round
+  r = record r0 { next = Some b }
+
+  abbrev now1 : ℕ
+  now1 = u + pace.clock i
+
+  abbrev v : Readings
+  v = readings_of (t.world.store i)
+
+  abbrev Q : (s : State) × (t.world.state i ≡ Some s) × FollowsSince reign.leader q (leased r F.heard + pace.clock i) s
+  Q = P ms q pace reign K r t S u M room next i qi ni F o others x rest items it C went
+
+  pub begin_comes : F.heard ≡ suc (suc zero) → Steady ms q pace reign (record r0 { next = Some b }) next
+  begin_comes is = done ms q pace reign K r t S u M room next i qi ni F o others x rest items it C went after (Vote (suc v.last) (promise_of v) b.value ∷ []) (in_reign ms reign i reign.leader (body.Accept reign.pn (suc r0.version)) ∷ []) D new
+      (λ f j ne. gives_elsewhere ms reign i reign.leader (body.Accept reign.pn (suc r0.version)) f j ne)
+    where
+      after : State
+      after = record (Q.0) { peon = record (Q.0.peon) { lease = None } }
+
+      k : Keeps r (suc (suc zero)) v
+      k = keeps_at ms q pace reign K r t S u M room next i qi ni F o others x rest items it C went (suc (suc zero)) is
+
+      list : drop (suc (suc zero)) (to_peon reign pace r) ≡ x ∷ rest
+      list = items_at ms q pace reign K r t S u M room next i qi ni F o others x rest items it C went (suc (suc zero)) is
+
+      body_is : x.body ≡ body.Begin (promise_of v) (suc v.last) b.value
+      body_is =
+          let e = F.promise in
+          let l = k.0 in
+          ap (λ (y : Item). y.body) (sym (head_is _ x _ rest list)) ∙ sym (λ d. body.Begin (e d) (suc (l d)) b.value)
+
+      D : Did t.world next.world i (record (Q.0) { peon = record (Q.0.peon) { lease = None } }) (Vote (suc v.last) (promise_of v) b.value ∷ []) (in_reign ms reign i reign.leader (body.Accept reign.pn (suc r0.version)) ∷ [])
+      D = let lt = inside ms q pace reign r t S i qi in let G = Q.2 in
+          let e = F.epoch in
+          let p = F.promise in
+          let l = k.0 in
+          let same : record { to = reign.leader; message = record { from = i; monitors = ms.count; epoch = epoch_of v; body = body.Accept (promise_of v) (suc v.last) } } ∷ [] ≡ in_reign ms reign i reign.leader (body.Accept reign.pn (suc r0.version)) ∷ [] = (λ d. record { to = reign.leader; message = record { from = i; monitors = ms.count; epoch = e d; body = body.Accept (p d) (suc (l d)) } } ∷ []) in
+          subst (Did t.world next.world i (record (Q.0) { peon = record (Q.0.peon) { lease = None } }) (Vote (suc v.last) (promise_of v) b.value ∷ [])) same
+          (did ms t.world next.world (Deliver o.number now1) i lt now1 (input.Deliver (in_reign ms reign reign.leader i (body.Begin (promise_of v) (suc v.last) b.value)).message) Q.0
+          (comes ms q pace reign K r t S u M room next i qi ni F o others x rest items it C went _ body_is) Q.1 went.happened _
+          (begin_row ms i lt (shared_entries (t.world.store i)) now1 v Q.0 reign.leader reign.epoch (λ e. ni (sym e)) G.follows G.leader_is F.epoch b.value))
+
+      fits : (suc v.last ≤ 2 ^ 62) × (promise_of v ≤ 2 ^ 62)
+      fits = let lead = leading ms q pace reign r t S in let a = lead.2.fits in let l = k.0 in let c = S.short in let p = F.promise in (omega arith, omega arith)
+
+      kept : readings_of (next.world.store i) ≡ played (Vote (suc v.last) (promise_of v) b.value ∷ []) v
+      kept = D.kept (fits, tt)
+
+      soon : u ≤ b.at + pace.delay
+      soon = first_of ms q pace reign r t S K u M reign.leader i S.leads qi _ _
+          (subst (λ (z : ℕ). Carries ms reign t.world.messages reign.leader i (t.time + pace.delay) (drop z (to_peon reign pace r)) (t.under_way reign.leader i)) is F.to_come)
+
+      takes : (g : ℕ) → g ≤ suc zero → Carries ms reign t.world.messages i reign.leader (t.time + pace.delay) (drop g (take (suc zero) (to_leader reign pace r))) (without_first reign.leader i others t.under_way i reign.leader)
+          → Carries ms reign next.world.messages i reign.leader (next.time + pace.delay) (drop g (take (suc (suc zero)) (to_leader reign pace r))) (next.under_way i reign.leader)
+      takes zero le c = lands ms q pace reign (at_time ms q pace u t) next _ _ went i _ _ _ D i reign.leader (t.time + pace.delay) (b.at + 2 * pace.delay) (drop zero (take (suc zero) (to_leader reign pace r))) (body.Accept reign.pn (suc r0.version) ∷ [])
+          (let a = M.later in omega arith) (let a = soon in omega arith) c (gives_one ms reign i reign.leader (body.Accept reign.pn (suc r0.version)))
+      takes (suc zero) le c = lands ms q pace reign (at_time ms q pace u t) next _ _ went i _ _ _ D i reign.leader (t.time + pace.delay) (b.at + 2 * pace.delay) [] (body.Accept reign.pn (suc r0.version) ∷ [])
+          (let a = M.later in omega arith) (let a = soon in omega arith) c (gives_one ms reign i reign.leader (body.Accept reign.pn (suc r0.version)))
+      takes (suc (suc g)) le c = absurd (omega arith)
+
+      new : PeonIn ms q pace reign (record r0 { next = Some b }) next i next.under_way
+      new = record {
+        heard = suc (suc (suc zero));
+        taken = F.taken;
+        sent = omega arith;
+        answered = (let a = answered_at ms q pace reign K r t S u M room next i qi ni F o others x rest items it C went (suc (suc zero)) is in omega arith);
+        follows = pack (FollowsSince reign.leader q (r.latest + pace.clock i)) (next.world.state i) _ D.up
+            (begun_follows reign.leader q (r.latest + pace.clock i) Q.0 (follows_at ms q pace reign K r t S u M room next i qi ni F o others x rest items it C went (suc (suc zero)) is));
+        lease = pack (HasLease (pace.clock i) r (suc (suc (suc zero)))) (next.world.state i) _ D.up tt;
+        epoch = subst (λ (z : Readings). epoch_of z ≡ reign.epoch) (sym kept) F.epoch;
+        promise = subst (λ (z : Readings). promise_of z ≡ reign.pn) (sym kept) F.promise;
+        keeps = subst (Keeps r (suc (suc (suc zero)))) (sym kept) (k.0, ap suc k.0);
+        noted = noted_on ms q pace reign K r t S u M room next i qi ni F o others x rest items it C went _ _ _ D i F.taken F.noted;
+        to_come = same_carried ms q pace reign t next u M.later _ _ went i Q.0 _ _ _ Q.1 D reign.leader i [] (come ms q pace reign K r t S u M room next i qi ni F o others x rest items it C went [] (rest_is _ x _ rest list))
+            (gives_elsewhere ms reign i reign.leader (body.Accept reign.pn (suc r0.version)) reign.leader i (λ a _. ni (sym a)));
+        to_take = takes F.taken (answered_at ms q pace reign K r t S u M room next i qi ni F o others x rest items it C went (suc (suc zero)) is)
+            (take_at ms q pace reign K r t S u M room next i qi ni F o others x rest items it C went (suc (suc zero)) is);
+      }

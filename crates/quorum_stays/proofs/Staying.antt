@@ -1,188 +1,150 @@
--- A quorum that is led stays led while nobody writes.
+-- A quorum that is led stays led, whatever clients ask.
 use Rattle.mon_msg.specs.Protocol.Phases.{same_phase}
-use Rattle.mon_msg.specs.Protocol.Readings.{readings_of, shared_entries}
 use Rattle.mon_msg.specs.Protocol.State.{State}
 use Rattle.mon_msg.specs.Protocol.Timers.{end_of}
-use Rattle.mon_msg.specs.declared.input.Input.TheVariants as input
-use Rattle.mon_tx.specs.Map.{Store}
-use Rattle.mon_types.specs.Ranks.{has}
+use Rattle.mon_types.specs.Ranks.{has, with_rank}
+use Rattle.mon_msg.specs.Protocol.Sets.{are_within}
 use Rattle.mon_wire.specs.declared.body.Body.TheVariants as body
 use Rattle.mon_wire.specs.declared.phase.Phase.TheVariants as phase
-use Rattle.mon_wire.specs.declared.phase.Phase.{Phase}
 use Rattle.mon_wire.specs.declared.phase.Timer.{Timer}
-use Rattle.mon_wire.specs.declared.request.Request.{Request}
-use Rattle.mon_wire.specs.declared.request.Session.{Session}
 use Rattle.quorum_model.specs.Monitors.{Monitors}
-use Rattle.quorum_model.specs.World.{Arrives, Client, Deliver, Event, Ring}
-use Rattle.quorum_stays.proofs.Bounds.{by_renewal, following, held_since, inside, leading}
-use Rattle.quorum_stays.proofs.Leaders.{ack_comes, renew_fires}
-use Rattle.quorum_stays.proofs.Onward.{nothing_left, under}
-use Rattle.quorum_stays.proofs.Peons.{lease_comes}
-use Rattle.quorum_stays.proofs.Rows.{read_row}
-use Rattle.quorum_stays.proofs.Stepping.{Did, did}
-use Rattle.quorum_stays.specs.Reading.{ClocksGoOn, NobodyWrites, Reads, WritesNothing}
-use Rattle.quorum_stays.specs.Steady.{ALease, AnAck, FollowsSince, IsOfLease, KeepsReign, LeadsSince, Reign, Renewals, Steady, sent}
+use Rattle.quorum_model.specs.World.{Arrives, Deliver, Event, Ring}
+use Rattle.quorum_stays.proofs.Bounds.{by_progress, by_renewal, leading}
+use Rattle.quorum_stays.proofs.Coming.{Handles, Onward, Stays, handled, onward, still}
+use Rattle.quorum_stays.proofs.Committing.{commits_all}
+use Rattle.quorum_stays.proofs.Giving.{renews, value_begins}
+use Rattle.quorum_stays.proofs.Leaders.{accept_comes, ack_comes, late_ack_comes, sent_few, two_answers}
+use Rattle.quorum_stays.proofs.Carrying.{carries_later}
+use Rattle.quorum_stays.proofs.Onward.{one_state}
+use Rattle.quorum_stays.proofs.Peering.{PeonIn}
+use Rattle.quorum_stays.proofs.Peons.{begin_comes, commit_comes, lease_comes}
+use Rattle.quorum_stays.specs.Reading.{ClocksGoOn}
+use Rattle.quorum_stays.specs.Steady.{Begun, Carries, IsItem, Item, LeadsSince, Proposes, Reign, Round, Steady, item, said, to_leader, to_peon}
 use Rattle.quorum_timed.specs.Begins.{IsQuick}
-use Rattle.quorum_timed.specs.Calls.{Calls}
-use Rattle.quorum_timed.specs.Timed.{Again, Arriving, Asking, Comes, Firing, Leads, MayBe, Owed, Pace, Timed, Went, at_time, without_first}
-use Rattle.std.proofs.Common.{Bool, List, Option, Some, [], ap, arith, false, inl, inr, refl, subst, sym, true, ℕ, ◌+◌, ◌∙◌, ◌∷◌, ◌≡◌, ◌≤◌, ◌⊎◌}
-use Rattle.std.proofs.lemmas.Bool.{cases_eq, false≢true}
-use Rattle.std.specs.List.{AllByRecursion}
+use Rattle.quorum_timed.specs.Timed.{Again, Arriving, Asking, Comes, Firing, Leads as LeadsTo, MayBe, Owed, Pace, Timed, Went, at_time, without_first}
+use Rattle.std.proofs.Common.{Bool, List, None, Option, Some, [], ap, arith, drop, false, inl, inr, refl, subst, suc, sym, take, true, zero, ℕ, ◌*◌, ◌+◌, ◌<◌, ◌∙◌, ◌∷◌, ◌≡◌, ◌≤◌}
+use Rattle.std.proofs.lemmas.Bool.{false≢true}
 use Rattle.std.specs.Prelude.{IsSomeAnd}
 
--- a monitor has one state
-one_state : (o : Option State) (a b : State) → o ≡ Some a → o ≡ Some b → a ≡ b
-one_state o a b x y = let same : Some a ≡ Some b = sym x ∙ y in cc
+-- ---- no value is in progress
 
--- a candidate is electing
-not_electing : (p : Phase) → same_phase p phase.Electing ≡ false → p ≡ phase.Electing → ⊥
-not_electing p e is = false≢true (sym e ∙ ap (λ (z : Phase). same_phase z phase.Electing) is)
+module _ (ms : Monitors) (q : List Bool) (pace : Pace) (reign : Reign) (K : IsQuick pace) (r : Round) (t : Timed) (u : ℕ) (M : MayBe ms q pace t u) (room : ClocksGoOn q pace u) (next : Timed) where
+  module _ (S : Steady ms q pace reign (record r { next = None }) t) where
+    abbrev calm : Round
+    calm = record r { next = None }
 
-module _ (ms : Monitors) (q : List Bool) (pace : Pace) (reign : Reign) (K : IsQuick pace) (r : Renewals) (t : Timed) (S : Steady ms q pace reign r t) where
-  -- a member leads or follows
-  pub member_phase : (i : ℕ) → has q i ≡ true → (s : State) → t.world.state i ≡ Some s → (s.phase ≡ phase.Active) ⊎ (s.phase ≡ phase.Peon)
-  member_phase i qi s up = elim (cases_eq i reign.leader) [
-    | inl e ↦ (let l = leading ms q pace reign K r t S in
-        let F = l.2 in
-        let same : l.0 ≡ s = one_state (t.world.state reign.leader) l.0 s l.1 (subst (λ (z : ℕ). t.world.state z ≡ Some s) e up) in
-        inl (subst (λ (z : State). z.phase ≡ phase.Active) same F.leads))
-    | inr ne ↦ (let l = following ms q pace reign K r t S i qi ne in
-        let F = l.2 in
-        let same : l.0 ≡ s = one_state (t.world.state i) l.0 s l.1 up in
-        inr (subst (λ (z : State). z.phase ≡ phase.Peon) same F.follows))
-  ]
+    from_calm : (later : Round) → r.version ≤ later.version → later.committed ≡ r.committed → Onward (record r { next = None }) later
+    from_calm later le committed = record { rises = le; kept = λ e. committed; same = λ b is. absurd cc }
+
+    calm_down : (i : ℕ) (qi : has q i ≡ true) (ni : i ≡ reign.leader → ⊥) (F : PeonIn ms q pace reign (record r { next = None }) t i t.under_way) (o : Owed) (others : List Owed) (x : Item) (rest : List Item)
+        → drop F.heard (to_peon reign pace (record r { next = None })) ≡ x ∷ rest → IsItem ms reign t.world.messages reign.leader i (t.time + pace.delay) x o → Carries ms reign t.world.messages reign.leader i (t.time + pace.delay) rest others
+        → Went ms q pace (at_time ms q pace u t) (Arrives (Deliver o.number (u + pace.clock i))) (without_first reign.leader i others t.under_way) next → Stays ms q pace reign (record r { next = None }) next
+    calm_down i qi ni F o others x rest items it C went = by F.heard refl items
+      where
+        by : (h : ℕ) → F.heard ≡ h → drop h (to_peon reign pace (record r { next = None })) ≡ x ∷ rest → Stays ms q pace reign (record r { next = None }) next
+        by zero is e = (calm, commit_comes ms q pace reign K calm t S u M room next i qi ni F o others x rest items it C went is, still (record r { next = None }))
+        by (suc zero) is e = (calm, lease_comes ms q pace reign K calm t S u M room next i qi ni F o others x rest items it C went is, still (record r { next = None }))
+        by (suc (suc zero)) is e = absurd cc
+        by (suc (suc (suc h))) is e = let a = F.sent in absurd (omega arith)
+
+    pub calm_handles : Handles ms q pace reign (record r { next = None }) t S u next
+    calm_handles = record {
+      begins = λ left T e went B. (let b = B.begins in (
+        record r { next = Some (record { value = b.proposed; at = u }) },
+        value_begins ms q pace reign r (record t { under_way = left }) T u M.later (by_renewal ms q pace reign calm t S K u M refl) room next e went B.state B.up B.here b.clients b.timers b.tidy b.proposed b.from b.made
+            b.fits B.course b.is B.did_it,
+        from_calm (record r { next = Some (record { value = b.proposed; at = u }) }) (omega arith) refl,
+      ));
+      down = calm_down;
+      up = λ f qf nf F o others x rest items it C went. (calm, ack_comes ms q pace reign r t S u M.later next f qf nf F o others x rest it C went items, still (record r { next = None }));
+      timer = λ s up kind end ne set due went. (let L : LeadsSince reign q (r.latest + pace.clock reign.leader) s = subst (λ (o : Option State). IsSomeAnd o (LeadsSince reign q (r.latest + pace.clock reign.leader))) up S.lead in
+          elim (L.only kind end set) [
+            | inl is ↦ (
+              record r { latest = u; before = r.latest; next = None },
+              renews ms q pace reign K r t S u M room next s up end (subst (λ (z : Timer). end_of z s.timers ≡ Some end) is set) due
+                  (subst (λ (z : Timer). Went ms q pace (at_time ms q pace u t) (Arrives (Ring reign.leader z (u + pace.clock reign.leader))) t.under_way next) is went),
+              from_calm (record r { latest = u; before = r.latest; next = None }) (omega arith) refl,
+            )
+            | inr (inl is) ↦ (let y = L.awaits end (subst (λ (z : Timer). end_of z s.timers ≡ Some end) is set) in
+                let z = by_renewal ms q pace reign calm t S K u M refl in
+                let k = K.leases in
+                absurd (omega arith))
+            | inr (inr is) ↦ absurd (ne is)
+          ]);
+    }
+
+  -- ---- a value is in progress
+
+  module _ (b : Begun) (S : Steady ms q pace reign (record r { next = Some b }) t) where
+    abbrev busy : Round
+    busy = record r { next = Some b }
+
+    busy_down : (i : ℕ) (qi : has q i ≡ true) (ni : i ≡ reign.leader → ⊥) (F : PeonIn ms q pace reign (record r { next = Some b }) t i t.under_way) (o : Owed) (others : List Owed) (x : Item) (rest : List Item)
+        → drop F.heard (to_peon reign pace (record r { next = Some b })) ≡ x ∷ rest → IsItem ms reign t.world.messages reign.leader i (t.time + pace.delay) x o → Carries ms reign t.world.messages reign.leader i (t.time + pace.delay) rest others
+        → Went ms q pace (at_time ms q pace u t) (Arrives (Deliver o.number (u + pace.clock i))) (without_first reign.leader i others t.under_way) next → Stays ms q pace reign (record r { next = Some b }) next
+    busy_down i qi ni F o others x rest items it C went = by F.heard refl items
+      where
+        by : (h : ℕ) → F.heard ≡ h → drop h (to_peon reign pace (record r { next = Some b })) ≡ x ∷ rest → Stays ms q pace reign (record r { next = Some b }) next
+        by zero is e = (busy, commit_comes ms q pace reign K busy t S u M room next i qi ni F o others x rest items it C went is, still (record r { next = Some b }))
+        by (suc zero) is e = (busy, lease_comes ms q pace reign K busy t S u M room next i qi ni F o others x rest items it C went is, still (record r { next = Some b }))
+        by (suc (suc zero)) is e = (busy, begin_comes ms q pace reign K r b t S u M room next i qi ni F o others x rest items it C went is, still (record r { next = Some b }))
+        by (suc (suc (suc zero))) is e = absurd cc
+        by (suc (suc (suc (suc h)))) is e = let a = F.sent in absurd (omega arith)
+
+    busy_up : (f : ℕ) (qf : has q f ≡ true) (nf : f ≡ reign.leader → ⊥) (F : PeonIn ms q pace reign (record r { next = Some b }) t f t.under_way) (o : Owed) (others : List Owed) (x : Item) (rest : List Item)
+        → drop F.taken (take (said F.heard) (to_leader reign pace (record r { next = Some b }))) ≡ x ∷ rest → IsItem ms reign t.world.messages f reign.leader (t.time + pace.delay) x o → Carries ms reign t.world.messages f reign.leader (t.time + pace.delay) rest others
+        → Went ms q pace (at_time ms q pace u t) (Arrives (Deliver o.number (u + pace.clock reign.leader))) (without_first f reign.leader others t.under_way) next → Stays ms q pace reign (record r { next = Some b }) next
+    busy_up f qf nf F o others x rest items it C went =
+        elim (two_answers x _ _ rest F.heard F.taken (sent_few ms q pace reign r b t S u M.later next f qf nf F o others x rest it C went) items) [
+          | inl k ↦ (busy, late_ack_comes ms q pace reign r b t S u M.later next f qf nf F o others x rest it C went k.0 k.1 k.2 k.3, still (record r { next = Some b }))
+          | inr k ↦ accepts k.0 k.1 k.2 k.3
+        ]
+      where
+        accepts : F.taken ≡ 1 → F.heard ≡ 3 → item (body.Accept reign.pn (suc r.version)) (b.at + 2 * pace.delay) ≡ x → rest ≡ [] → Stays ms q pace reign (record r { next = Some b }) next
+        accepts one all is list = by (are_within ms.count q (with_rank (leading ms q pace reign busy t S).0.leader.accepted f)) refl
+          where
+            by : (z : Bool) → are_within ms.count q (with_rank (leading ms q pace reign busy t S).0.leader.accepted f) ≡ z → Stays ms q pace reign (record r { next = Some b }) next
+            by false more = (busy, accept_comes ms q pace reign r b t S u M.later next f qf nf F o others x rest it C went one all is list more, still (record r { next = Some b }))
+            by true full = (_, commits_all ms q pace reign K r b t S u M room next f qf nf F o others x rest it C went one all is list full, record { rises = omega arith; kept = λ e. absurd (omega arith); same = λ c e. inr (omega arith) })
+
+    pub busy_handles : Handles ms q pace reign (record r { next = Some b }) t S u next
+    busy_handles = record {
+      begins = λ left T e went B. (let l = leading ms q pace reign busy t S in
+          let X = l.2.proposes in
+          let same : B.state ≡ l.0 = one_state (t.world.state reign.leader) B.state l.0 B.up l.1 in
+          let updating : B.state.phase ≡ phase.Updating = ap (λ (z : State). z.phase) same ∙ X.leads in
+          let idle : same_phase B.state.phase phase.Active ≡ false = rw updating refl in
+          absurd (false≢true (sym idle ∙ B.begins.active)));
+      down = busy_down;
+      up = busy_up;
+      timer = λ s up kind end ne set due went. (let P : Proposes ms.count q pace reign busy b s = subst (λ (o : Option State). IsSomeAnd o (Proposes ms.count q pace reign busy b)) up S.lead in
+          let X = P.proposes in
+          elim (X.only kind end set) [
+            | inl is ↦ absurd (ne is)
+            | inr k ↦ (let y = k.1 in
+                let z = by_progress ms q pace reign busy t S K u M b refl in
+                let m = K.elections in
+                absurd (omega arith))
+          ]);
+    }
+
+-- ---- a run
 
 module _ (ms : Monitors) (q : List Bool) (pace : Pace) (reign : Reign) (K : IsQuick pace) where
-  abbrev Stays : Timed → Type 0
-  Stays next = (later : Renewals) × Steady ms q pace reign later next
-
-  module _ (r : Renewals) (t : Timed) (S : Steady ms q pace reign r t) (u : ℕ) (M : MayBe ms q pace t u) (room : ClocksGoOn q pace u) (next : Timed) where
-    abbrev tu : Timed
-    tu = at_time ms q pace u t
-
-    no_call : (k f i : ℕ) → has q f ≡ true → Calls t.world k f i → ⊥
-    no_call k f i qf C =
-        let C2 = C.still in
-        let electing = C2.elects in
-        elim (member_phase ms q pace reign K r t S f qf C2.state C2.up) [
-          | inl e ↦ not_electing phase.Active refl (sym e ∙ electing)
-          | inr e ↦ not_electing phase.Peon refl (sym e ∙ electing)
-        ]
-
-    -- ---- a read
-
-    module _ (i : ℕ) (qi : has q i ≡ true) (session : Session) (request : Request) (k : Reads request) (s : State) (up : t.world.state i ≡ Some s)
-        (went : Went ms q pace tu (Arrives (Client i (u + pace.clock i) session request)) t.under_way next) where
-      awake : same_phase s.phase phase.Booting ≡ false
-      awake = elim (member_phase ms q pace reign K r t S i qi s up) [ inl e ↦ rw e refl | inr e ↦ rw e refl ]
-
-      D : Did t.world next.world i s []
-      D =
-          let lt = inside ms q pace reign K r t S i qi in
-          let row = read_row ms i lt (shared_entries (t.world.store i)) (u + pace.clock i) (readings_of (t.world.store i)) s session request k awake in
-          subst (λ (z : State). Did t.world next.world i z []) row.state (subst (Did t.world next.world i row.y.state) row.silent
-          (did ms t.world next.world (Client i (u + pace.clock i) session request) i lt (u + pace.clock i) (input.Client session request) s refl up went.happened row.y row.is row.unwritten))
-
-      same : (j : ℕ) → next.world.state j ≡ t.world.state j
-      same j = elim (cases_eq j i) [ inl e ↦ subst (λ (z : ℕ). next.world.state z ≡ t.world.state z) (sym e) (D.up ∙ sym up) | inr ne ↦ D.others j ne ]
-
-      empty_before : (f j : ℕ) → next.under_way f j ≡ [] → t.under_way f j ≡ []
-      empty_before f j none = nothing_left ms q pace reign tu next _ t.under_way went i s [] D f j none
-
-      reads : Steady ms q pace reign r next
-      reads = record {
-        leads = S.leads;
-        second = S.second;
-        second_in = S.second_in;
-        second_is = S.second_is;
-        members = S.members;
-        since = S.since;
-        reached = (let a = S.reached in let b = M.later in let c = went.time in omega arith);
-        apart = S.apart;
-        ordered = S.ordered;
-        keep = λ j qj. subst (λ (m : Store). KeepsReign reign (readings_of m)) (sym (D.stores j)) (S.keep j qj);
-        lead = subst (λ (z : Option State). IsSomeAnd z (LeadsSince reign.leader q (r.latest + pace.clock reign.leader))) (sym (same reign.leader)) S.lead;
-        follow = λ j qj nj. subst (λ (z : Option State). IsSomeAnd z (FollowsSince reign.leader q (r.before + pace.clock j))) (sym (same j)) (S.follow j qj nj);
-        fresh = λ j qj nj none. subst (λ (z : Option State). IsSomeAnd z (FollowsSince reign.leader q (r.latest + pace.clock j))) (sym (same j)) (S.fresh j qj nj (empty_before reign.leader j none));
-        acked = λ j qj nj a b. subst (λ (z : Option State). IsSomeAnd z (λ s. has s.leader.acks j ≡ true)) (sym (same reign.leader)) (S.acked j qj nj (empty_before reign.leader j a) (empty_before j reign.leader b));
-        under_way = λ f j qf qj. under ms q pace reign tu next _ t.under_way went i s [] D r r (omega arith) f j (S.under_way f j qf qj) (λ d m at from to. absurd cc);
-      }
-
-    -- ---- a message
-
-    arrives : (f i : ℕ) → has q f ≡ true → has q i ≡ true → (o : Owed) (others : List Owed) → t.under_way f i ≡ o ∷ others
-        → Went ms q pace tu (Arrives (Deliver o.number (u + pace.clock i))) (without_first f i others t.under_way) next → Stays next
-    arrives f i qf qi o others first went = by (subst (AllByRecursion (IsOfLease ms pace reign r t.world.messages f i)) first (S.under_way f i qf qi)).0
-      where
-        by : IsOfLease ms pace reign r t.world.messages f i o → Stays next
-        by (ALease is ne there due) = (
-          r,
-          lease_comes ms q pace reign K r t S u M room next i qi ne o others
-              (subst (λ (z : ℕ). t.under_way z i ≡ o ∷ others) is first) (there ∙ ap (λ (z : ℕ). Some (sent ms reign z i (body.Lease reign.last))) is)
-              (subst (λ (z : ℕ). Went ms q pace tu (Arrives (Deliver o.number (u + pace.clock i))) (without_first z i others t.under_way) next) is went),
-        )
-        by (AnAck is ne there due) = (
-          r,
-          ack_comes ms q pace reign K r t S u M room next f qf ne o others
-              (subst (λ (z : ℕ). t.under_way f z ≡ o ∷ others) is first) (there ∙ ap (λ (z : ℕ). Some (sent ms reign f z (body.LeaseAck reign.last))) is)
-              (subst (λ (z : ℕ). Went ms q pace tu (Arrives (Deliver o.number (u + pace.clock z))) (without_first f z others t.under_way) next) is went),
-        )
-
-    -- ---- a timer
-
-    fires_at_leader : (s : State) → t.world.state reign.leader ≡ Some s → (kind : Timer) (end : ℕ) → end_of kind s.timers ≡ Some end → end ≤ u + pace.clock reign.leader
-        → Went ms q pace tu (Arrives (Ring reign.leader kind (u + pace.clock reign.leader))) t.under_way next → Stays next
-    fires_at_leader s up kind end set due went =
-        let l = leading ms q pace reign K r t S in
-        let F = l.2 in
-        let same : s ≡ l.0 = one_state (t.world.state reign.leader) s l.0 up l.1 in
-        let its : end_of kind l.0.timers ≡ Some end = subst (λ (z : State). end_of kind z.timers ≡ Some end) same set in
-        elim (F.only kind end its) [
-          | inl is ↦ (
-            record { latest = u; before = r.latest },
-            renew_fires ms q pace reign K r t S u M room next end (subst (λ (z : Timer). end_of z l.0.timers ≡ Some end) is its) due
-                (subst (λ (z : Timer). Went ms q pace tu (Arrives (Ring reign.leader z (u + pace.clock reign.leader))) t.under_way next) is went),
-          )
-          | inr is ↦ (let y = F.awaits end (subst (λ (z : Timer). end_of z l.0.timers ≡ Some end) is its) in
-              let z = by_renewal ms q pace reign K r t S u M in
-              let k = K.leases in
-              absurd (omega arith))
-        ]
-
-    fires_at_peon : (i : ℕ) → has q i ≡ true → (i ≡ reign.leader → ⊥) → (s : State) → t.world.state i ≡ Some s → (kind : Timer) (end : ℕ) → end_of kind s.timers ≡ Some end → end ≤ u + pace.clock i → Stays next
-    fires_at_peon i qi ne s up kind end set due =
-        let h = held_since ms q pace reign K r t S u M i qi ne in
-        let F = h.3 in
-        let less = h.4 in
-        let same : s ≡ h.1 = one_state (t.world.state i) s h.1 up h.2 in
-        let its : end_of kind h.1.timers ≡ Some end = subst (λ (z : State). end_of kind z.timers ≡ Some end) same set in
-        let is = F.only kind end its in
-        let z = F.waits end (subst (λ (z : Timer). end_of z h.1.timers ≡ Some end) is its) in
-        absurd (omega arith)
-
-    fires : (i : ℕ) → has q i ≡ true → (s : State) → t.world.state i ≡ Some s → (kind : Timer) (end : ℕ) → end_of kind s.timers ≡ Some end → end ≤ u + pace.clock i
-        → Went ms q pace tu (Arrives (Ring i kind (u + pace.clock i))) t.under_way next → Stays next
-    fires i qi s up kind end set due went = elim (cases_eq i reign.leader) [
-      | inl e ↦ fires_at_leader s (subst (λ (z : ℕ). t.world.state z ≡ Some s) e up) kind end set (subst (λ (z : ℕ). end ≤ u + pace.clock z) e due)
-          (subst (λ (z : ℕ). Went ms q pace tu (Arrives (Ring z kind (u + pace.clock z))) t.under_way next) e went)
-      | inr ne ↦ fires_at_peon i qi ne s up kind end set due
-    ]
-
-    some_state : (i : ℕ) → has q i ≡ true → (s : State) × (t.world.state i ≡ Some s)
-    some_state i qi = elim (cases_eq i reign.leader) [
-      | inl e ↦ (let l = leading ms q pace reign K r t S in (l.0, subst (λ (z : ℕ). t.world.state z ≡ Some l.0) (sym e) l.1))
-      | inr ne ↦ (let l = following ms q pace reign K r t S i qi ne in (l.0, l.1))
-    ]
-
-    pub stays : (e : Event) → Comes ms q pace tu next e → WritesNothing e → Stays next
-    stays e (Arriving f i qf qi o others first is went) k = arrives f i qf qi o others first (subst (λ (z : Event). Went ms q pace tu z (without_first f i others t.under_way) next) is went)
-    stays e (Again f i qf qi n calls is went) k = absurd (no_call n f i qf calls)
-    stays e (Firing i qi s up kind end set due is went) k = fires i qi s up kind end set due (subst (λ (z : Event). Went ms q pace tu z t.under_way next) is went)
-    stays e (Asking i qi session request is went) k =
-        let up = some_state i qi in
-        (r, reads i qi session request (subst WritesNothing is k) up.0 up.1 (subst (λ (z : Event). Went ms q pace tu z t.under_way next) is went))
-
-  -- ---- a run
+  stays : (r : Round) (t : Timed) → Steady ms q pace reign r t → (u : ℕ) → MayBe ms q pace t u → ClocksGoOn q pace u → (next : Timed) (e : Event) → Comes ms q pace (at_time ms q pace u t) next e → Stays ms q pace reign r next
+  stays r t S u M room next e C = by r.next refl
+    where
+      by : (o : Option Begun) → r.next ≡ o → Stays ms q pace reign r next
+      by None is =
+          let same : r ≡ record r { next = None } = (λ i. record r { next = is i }) in
+          let T = subst (λ (z : Round). Steady ms q pace reign z t) same S in
+          let N = handled ms q pace reign K (record r { next = None }) t T u M next (calm_handles ms q pace reign K r t u M room next T) e C in
+          (N.0, N.1, subst (λ (z : Round). Onward z N.0) (sym same) N.2)
+      by (Some b) is =
+          let same : r ≡ record r { next = Some b } = (λ i. record r { next = is i }) in
+          let T = subst (λ (z : Round). Steady ms q pace reign z t) same S in
+          let N = handled ms q pace reign K (record r { next = Some b }) t T u M next (busy_handles ms q pace reign K r t u M room next b T) e C in
+          (N.0, N.1, subst (λ (z : Round). Onward z N.0) (sym same) N.2)
 
   time_of_next : (t next : Timed) (e : Event) → Comes ms q pace t next e → next.time ≡ t.time
   time_of_next t next e (Arriving f i qf qi o others first is went) = went.time
@@ -190,7 +152,7 @@ module _ (ms : Monitors) (q : List Bool) (pace : Pace) (reign : Reign) (K : IsQu
   time_of_next t next e (Firing i qi s up kind end set due is went) = went.time
   time_of_next t next e (Asking i qi session request is went) = went.time
 
-  goes_on : (more : List (ℕ × Event)) (t last : Timed) → Leads ms q pace t more last → t.time ≤ last.time
+  goes_on : (more : List (ℕ × Event)) (t last : Timed) → LeadsTo ms q pace t more last → t.time ≤ last.time
   goes_on [] t last L = let M : MayBe ms q pace t last.time = L.0 in M.later
   goes_on ((u, e) ∷ more) t last L =
       let M : MayBe ms q pace t u = L.0 in
@@ -199,32 +161,71 @@ module _ (ms : Monitors) (q : List Bool) (pace : Pace) (reign : Reign) (K : IsQu
       let c = goes_on more L.1.0 last L.1.2 in
       omega arith
 
-  pub runs_on : (r : Renewals) (t last : Timed) (more : List (ℕ × Event)) → Steady ms q pace reign r t → Leads ms q pace t more last → NobodyWrites more → ClocksGoOn q pace last.time → Stays last
-  runs_on r t last [] S L k room =
-      let M : MayBe ms q pace t last.time = L.0 in (
-        r,
-        subst (λ (z : Timed). Steady ms q pace reign r z) (sym L.1) (record {
-          leads = S.leads;
-          second = S.second;
-          second_in = S.second_in;
-          second_is = S.second_is;
-          members = S.members;
-          since = S.since;
-          reached = (let a = S.reached in let b = M.later in omega arith);
-          apart = S.apart;
-          ordered = S.ordered;
-          keep = S.keep;
-          lead = S.lead;
-          follow = S.follow;
-          fresh = S.fresh;
-          acked = S.acked;
-          under_way = S.under_way;
-        }),
-      )
-  runs_on r t last ((u, e) ∷ more) S L k room =
+  -- time alone changes nothing
+  waits_on : (r : Round) (t : Timed) → Steady ms q pace reign r t → (u : ℕ) → t.time ≤ u → Steady ms q pace reign r (at_time ms q pace u t)
+  waits_on r t S u later = record {
+    leads = S.leads;
+    second = S.second;
+    second_in = S.second_in;
+    second_is = S.second_is;
+    members = S.members;
+    short = S.short;
+    since = S.since;
+    reached = (let a = S.reached in omega arith);
+    ordered = S.ordered;
+    renewed = S.renewed;
+    apart = S.apart;
+    only_renewed = S.only_renewed;
+    epoch = S.epoch;
+    last = S.last;
+    fits = S.fits;
+    lead = S.lead;
+    peons = λ j qj nj. (let F = S.peons j qj nj in record {
+      heard = F.heard;
+      taken = F.taken;
+      sent = F.sent;
+      answered = F.answered;
+      follows = F.follows;
+      lease = F.lease;
+      epoch = F.epoch;
+      promise = F.promise;
+      keeps = F.keeps;
+      noted = F.noted;
+      to_come = carries_later ms reign reign.leader j t.world.messages (t.time + pace.delay) (u + pace.delay) (omega arith) _ _ F.to_come;
+      to_take = carries_later ms reign j reign.leader t.world.messages (t.time + pace.delay) (u + pace.delay) (omega arith) _ _ F.to_take;
+    });
+    others = λ f j qf qj a. carries_later ms reign f j t.world.messages (t.time + pace.delay) (u + pace.delay) (omega arith) _ _ (S.others f j qf qj a);
+  }
+
+  pub runs_on : (r : Round) (t last : Timed) (more : List (ℕ × Event)) → Steady ms q pace reign r t → LeadsTo ms q pace t more last → ClocksGoOn q pace last.time → Stays ms q pace reign r last
+  runs_on r t last [] S L room =
+      let M : MayBe ms q pace t last.time = L.0 in
+      (r, subst (λ (z : Timed). Steady ms q pace reign r z) (sym L.1) (waits_on r t S last.time M.later), still r)
+  runs_on r t last ((u, e) ∷ more) S L room =
       let next = L.1.0 in
       let b = time_of_next (at_time ms q pace u t) next e L.1.1 in
       let c = goes_on more next last L.1.2 in
       let at : ClocksGoOn q pace u = (λ i qi. (let z = room i qi in omega arith)) in
-      let N = stays r t S u L.0 at next e L.1.1 k.0 in
-      runs_on N.0 next last more N.1 L.1.2 k.1 room
+      let N = stays r t S u L.0 at next e L.1.1 in
+      let O = runs_on N.0 next last more N.1 L.1.2 room in
+      (O.0, O.1, onward r N.0 O.0 N.2 O.2)
+
+  pub stays_led : (r : Round) (t last : Timed) (more : List (ℕ × Event)) → Steady ms q pace reign r t → LeadsTo ms q pace t more last → ClocksGoOn q pace last.time
+      → (later : Round) × Steady ms q pace reign later last × (r.version ≤ later.version) × (later.version ≡ r.version → later.committed ≡ r.committed)
+  stays_led r t last more S L room = let N = runs_on r t last more S L room in let o = N.2 in (N.0, N.1, o.rises, o.kept)
+
+  -- a value isn't in progress for longer than its messages take
+  pub commits_in_time : (r : Round) (b : Begun) (t last : Timed) (more : List (ℕ × Event)) → Steady ms q pace reign r t → r.next ≡ Some b → LeadsTo ms q pace t more last → ClocksGoOn q pace last.time
+      → b.at + 2 * pace.delay < last.time → (later : Round) × Steady ms q pace reign later last × (r.version < later.version)
+  commits_in_time r b t last [] S is L room past = let M : MayBe ms q pace t last.time = L.0 in let z = by_progress ms q pace reign r t S K last.time M b is in absurd (omega arith)
+  commits_in_time r b t last ((u, e) ∷ more) S is L room past =
+      let next = L.1.0 in
+      let c = time_of_next (at_time ms q pace u t) next e L.1.1 in
+      let d = goes_on more next last L.1.2 in
+      let at : ClocksGoOn q pace u = (λ i qi. (let z = room i qi in omega arith)) in
+      let N = stays r t S u L.0 at next e L.1.1 in
+      let o = N.2 in
+      elim (o.same b is) [
+        | inl k ↦ (let O = commits_in_time N.0 b next last more N.1 k L.1.2 room past in (O.0, O.1, (let x = o.rises in let y = O.2 in omega arith)))
+        | inr lt ↦ (let O = runs_on N.0 next last more N.1 L.1.2 room in let p = O.2 in (O.0, O.1, (let y = p.rises in omega arith)))
+      ]

@@ -1,36 +1,41 @@
--- What an event at which a monitor writes nothing makes of the world.
+-- What an event makes of the world: of the monitor that reacts, of its store, and of what is sent.
 use Rattle.mon_kv.specs.Readers.{most_size, size_of}
 use Rattle.mon_msg.specs.Joined.{joined}
-use Rattle.mon_msg.specs.Protocol.Changes.{encoded}
+use Rattle.mon_msg.proofs.Changed.{readings-joined}
+use Rattle.mon_msg.specs.Protocol.Changes.{Change, encoded}
 use Rattle.mon_msg.specs.Protocol.Course.{Course}
+use Rattle.mon_msg.specs.Protocol.Played.{Fits, played}
 use Rattle.mon_msg.specs.Protocol.Reaction.{Reaction, any_reaction, reaction_of}
 use Rattle.mon_msg.specs.Protocol.Readings.{readings_of, shared_entries}
 use Rattle.mon_msg.specs.Protocol.State.{State}
 use Rattle.mon_msg.specs.Protocol.Table.{react}
+use Rattle.mon_msg.specs.declared.input.Input.TheVariants as input
 use Rattle.mon_msg.specs.declared.input.Input.{Input}
 use Rattle.mon_msg.specs.declared.view.Me.{Me}
-use Rattle.mon_tx.specs.Map.{Store, apply}
+use Rattle.mon_tx.specs.Map.{apply}
 use Rattle.mon_types.specs.declared.names.Which.{Which}
 use Rattle.quorum_model.proofs.Members.{me_is, member_of}
 use Rattle.quorum_model.specs.Clients.{messages_of}
 use Rattle.quorum_model.specs.Happens.{Full, Stop, after_meeting, happens, in_world, moved}
-use Rattle.quorum_model.specs.Meets.{Meeting, Reacts, arrival, meeting, meeting_at, meets, state_at}
+use Rattle.quorum_model.specs.Meets.{Arrival, Meeting, Reacts, arrival, meeting, meeting_at, meets, state_at}
 use Rattle.quorum_model.specs.Monitors.{Monitors}
 use Rattle.quorum_model.specs.World.{Arrives, Envelope, Plain, World}
-use Rattle.std.proofs.Common.{Err, List, Ok, Option, Result, Some, [], ap, eqb, ltb, refl, subst, sym, true, ℕ, ◌++◌, ◌∙◌, ◌≡◌}
-use Rattle.std.proofs.lemmas.Bool.{cond_both, eq-eqb, eqb-true, ne_eqb}
+use Rattle.std.proofs.Common.{Err, List, Ok, Option, Result, Some, ap, ltb, refl, subst, sym, true, ℕ, ◌++◌, ◌∙◌, ◌≡◌}
+use Rattle.std.proofs.lemmas.Bool.{cond_both, eq-eqb, ne_eqb}
+use Rattle.std.specs.List.{AllByRecursion}
 use Rattle.std.specs.Prelude.{nat_lt}
 
--- monitor i remembers s then, and sent these messages; nothing is written
-pub record Did (w next : World) (i : ℕ) (s : State) (es : List Envelope) : Type 0 where
+-- a message that comes to its receiver
+abbrev pub brought : (at : ℕ) → Envelope → Arrival
+brought at e = record { rank = e.to; at = at; input = input.Deliver e.message }
+
+-- monitor i remembers s then, made these changes, and sent these messages
+pub record Did (w next : World) (i : ℕ) (s : State) (cs : List Change) (es : List Envelope) : Type 0 where
   pub up : next.state i ≡ Some s
   pub others : (j : ℕ) → (j ≡ i → ⊥) → next.state j ≡ w.state j
-  pub stores : (j : ℕ) → next.store j ≡ w.store j
+  pub kept : AllByRecursion Fits cs → readings_of (next.store i) ≡ played cs (readings_of (w.store i))
+  pub stores : (j : ℕ) → (j ≡ i → ⊥) → next.store j ≡ w.store j
   pub messages : next.messages ≡ w.messages ++ es
-
-unwritten : (m : Store) → apply (joined (encoded [])) m ≡ m
-unfolding joined
-unwritten m = refl
 
 module _ (ms : Monitors) (w next : World) (p : Plain) (i : ℕ) (lt : ltb i ms.count ≡ true) (now : ℕ) (came : Input) (s : State)
     (a : arrival w p ≡ Some (record { rank = i; at = now; input = came })) (c : state_at i (w.state i) came ≡ Some s)
@@ -53,22 +58,19 @@ module _ (ms : Monitors) (w next : World) (p : Plain) (i : ℕ) (lt : ltb i ms.c
         (λ t e. absurd cc) (λ t e. (let same : moved w p i (reaction_of y) ≡ next = cc in sym same))
         (subst (λ (z : Meeting). after_meeting w (Arrives p) z ≡ Ok next) m happened)
 
-  module _ (y : Course) (is : reacted ≡ Ok y) (nothing : y.changes ≡ []) where
-    after : Did w (moved w p i (reaction_of y)) i y.state (messages_of y.out)
+  module _ (y : Course) (is : reacted ≡ Ok y) where
+    after : Did w (moved w p i (reaction_of y)) i y.state y.changes (messages_of y.out)
     unfolding moved
     after = record {
       up = rw (eq-eqb i i refl) refl;
       others = λ j ne. rw (ne_eqb j i ne) refl;
-      stores = λ j. cond_both (eqb j i) (apply (joined (encoded y.changes)) (w.store i)) (w.store j) (λ (m : Store). m ≡ w.store j)
-          (λ t. rw nothing (unwritten (w.store i)) ∙ ap w.store (sym (eqb_is j t))) (λ _. refl);
+      kept = λ fits. rw (eq-eqb i i refl) (readings-joined y.changes fits (w.store i));
+      stores = λ j ne. rw (ne_eqb j i ne) refl;
       messages = refl;
     }
-      where
-        eqb_is : (j : ℕ) → eqb j i ≡ true → j ≡ i
-        eqb_is j t = eqb-true j i t
 
-    pub did : Did w next i y.state (messages_of y.out)
-    did = subst (λ (v : World). Did w v i y.state (messages_of y.out)) (sym (becomes y is)) after
+    pub did : Did w next i y.state y.changes (messages_of y.out)
+    did = subst (λ (v : World). Did w v i y.state y.changes (messages_of y.out)) (sym (becomes y is)) after
 
   -- it reacts, if it is up
   pub reacts : (y : Course) × (reacted ≡ Ok y)

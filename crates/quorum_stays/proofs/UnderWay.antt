@@ -18,14 +18,6 @@ get_after : {A : Type 0} (xs ys : List A) (k : ℕ) → slice_get (xs ++ ys) (le
 get_after [] ys k = ap (slice_get ys) (omega arith)
 get_after (x ∷ xs) ys k = let next : length (x ∷ xs) + k ≡ suc (length xs + k) = omega arith in rw next (get_after xs ys k)
 
-pub none_left : {A : Type 0} (xs ys : List A) → xs ++ ys ≡ [] → xs ≡ []
-none_left [] ys e = refl
-none_left (x ∷ xs) ys e = absurd cc
-
-pub none_right : {A : Type 0} (xs ys : List A) → xs ++ ys ≡ [] → ys ≡ []
-none_right [] ys e = e
-none_right (x ∷ xs) ys e = absurd cc
-
 -- ---- the numbers of new messages
 
 -- the numbers of those of some messages that go from f to i, if the first has number k
@@ -51,29 +43,9 @@ all_numbers f i k (e ∷ es) P h = by (eqb e.message.from f && eqb e.to i) refl 
         (subst P here (h 0 e refl (eqb-true e.message.from f parts.0) (eqb-true e.to i parts.1)), all)
     by false t all = all
 
--- a message from f to i is among them
-pub some_numbers : (f i k : ℕ) (es : List Envelope) (d : ℕ) (e : Envelope) → slice_get es d ≡ Some e → e.message.from ≡ f → e.to ≡ i → numbers f i k es ≡ [] → ⊥
-some_numbers f i k [] d e there from to none = absurd cc
-some_numbers f i k (g ∷ es) d e there from to none = by (eqb g.message.from f && eqb g.to i) refl (λ d there none. some_numbers f i (k + 1) es d e there from to none) d there none
-  where
-    by : (b : Bool) → (eqb g.message.from f && eqb g.to i) ≡ b → ((d : ℕ) → slice_get es d ≡ Some e → numbers f i (k + 1) es ≡ [] → ⊥) → (d : ℕ) → slice_get (g ∷ es) d ≡ Some e
-        → map (λ m. m.0) (cond b ((k, g) ∷ filter (λ m. eqb m.1.message.from f && eqb m.1.to i) (enumerate_from (k + 1) es)) (filter (λ m. eqb m.1.message.from f && eqb m.1.to i) (enumerate_from (k + 1) es))) ≡ [] → ⊥
-    by true t later d there none = absurd cc
-    by false t later zero there none =
-        let same : g ≡ e = cc in
-        let yes_from : eqb g.message.from f ≡ true = eq-eqb g.message.from f (ap (λ (x : Envelope). x.message.from) same ∙ from) in
-        let yes_to : eqb g.to i ≡ true = eq-eqb g.to i (ap (λ (x : Envelope). x.to) same ∙ to) in
-        let yes : (eqb g.message.from f && eqb g.to i) ≡ true = rw (yes_from, yes_to) refl in
-        absurd cc
-    by false t later (suc d) there none = later d there none
-
 pub all_owed : (by_time : ℕ) (ns : List ℕ) (P : ℕ → Type 0) (Q : Owed → Type 0) → ((k : ℕ) → P k → Q (record { number = k; by = by_time })) → AllByRecursion P ns → AllByRecursion Q (owed_by by_time ns)
 all_owed by_time [] P Q h all = tt
 all_owed by_time (n ∷ ns) P Q h all = (h n all.0, all_owed by_time ns P Q h all.1)
-
-pub none_owed : (by_time : ℕ) (ns : List ℕ) → owed_by by_time ns ≡ [] → ns ≡ []
-none_owed by_time [] e = refl
-none_owed by_time (n ∷ ns) e = absurd cc
 
 -- the message of a new number is there
 pub new_there : (old es : List Envelope) (d : ℕ) (e : Envelope) → slice_get es d ≡ Some e → slice_get (old ++ es) (length old + d) ≡ Some e

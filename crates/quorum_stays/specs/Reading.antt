@@ -1,4 +1,4 @@
--- Events by which nobody writes, and leases that stand.
+-- Reads, and leases that stand.
 use Rattle.mon_lease.specs.Lease.{stands}
 use Rattle.mon_msg.specs.Protocol.Readings.{Readings, readings_of}
 use Rattle.mon_msg.specs.Protocol.Reads.{shown, since}
@@ -8,23 +8,14 @@ use Rattle.mon_wire.specs.declared.reply.Reply.{Reply}
 use Rattle.mon_wire.specs.declared.request.Request.TheVariants as request
 use Rattle.mon_wire.specs.declared.request.Request.{Request}
 use Rattle.mon_wire.specs.declared.request.Session.{Session}
-use Rattle.quorum_model.specs.World.{Arrives, Client, Event, Replied, World}
+use Rattle.quorum_model.specs.World.{Replied, World}
 use Rattle.quorum_timed.specs.Timed.{Pace, Timed}
-use Rattle.std.specs.List.{AllByRecursion}
 use Rattle.std.specs.Prelude.{Bool, IsSomeAnd, List, [], true, ℕ, ◌++◌, ◌+◌, ◌^◌, ◌∷◌, ◌≡◌, ◌≤◌}
 
 abbrev pub Reads : Request → Type 0
 Reads (request.Show service) = Unit {0}
 Reads (request.Since service version) = Unit {0}
 Reads other = ⊥
-
--- a client that asks only reads
-abbrev pub WritesNothing : Event → Type 0
-WritesNothing (Arrives (Client rank at session r)) = Reads r
-WritesNothing other = Unit {0}
-
-abbrev pub NobodyWrites : List (ℕ × Event) → Type 0
-NobodyWrites more = AllByRecursion (λ m. WritesNothing m.1) more
 
 -- The clocks of the members don't reach their end by this time.
 abbrev pub ClocksGoOn : List Bool → Pace → (u : ℕ) → Type 0

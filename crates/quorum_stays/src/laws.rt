@@ -1,4 +1,5 @@
-ghost use Rattle.std.specs.Prelude.{ℕ, ◌+◌, ◌<◌, ◌≡◌, Bool, true, List, Ok};
+ghost use Rattle.std.specs.Prelude.{ℕ, ◌*◌, ◌+◌, ◌<◌, ◌≡◌, ◌≤◌, Bool, None, Some, true, List, Ok};
+ghost use Rattle.mon_msg.specs.Protocol.Readings.{readings_of};
 ghost use Rattle.mon_types.specs.Ranks.{has};
 ghost use Rattle.mon_wire.specs.declared.request.Request.{Request};
 ghost use Rattle.mon_wire.specs.declared.request.Session.{Session};
@@ -6,33 +7,45 @@ ghost use Rattle.quorum_model.specs.Happens.{happens};
 ghost use Rattle.quorum_model.specs.Monitors.{Monitors};
 ghost use Rattle.quorum_model.specs.World.{Arrives, Client, Event, World};
 ghost use Rattle.quorum_stays.specs.Leaving.{FollowMembers};
-ghost use Rattle.quorum_stays.specs.Reading.{ClocksGoOn, IsAnswered, LeasesStand, NobodyWrites, Reads};
-ghost use Rattle.quorum_stays.specs.Steady.{Reign, Renewals, Steady};
+ghost use Rattle.quorum_stays.specs.Reading.{ClocksGoOn, IsAnswered, LeasesStand, Reads};
+ghost use Rattle.quorum_stays.specs.Steady.{Begun, Reign, Round, Steady};
 ghost use Rattle.quorum_timed.specs.Begins.{Begins, IsQuick};
 ghost use Rattle.quorum_timed.specs.Timed.{Leads, MayBe, Pace, Timed};
 
-/// A quorum that is led stays led by the same leader in the same epoch, as long as messages and timers are punctual and
-/// nobody writes. Clients may read at any rate.
+/// A quorum that is led stays led by the same leader in the same epoch, whatever clients ask, as long as messages and
+/// timers are punctual. Its last version never falls, and while it stays the same, so does the time of the last commit.
 pub fn law_stays_led()
-    ensures { (ms : Monitors) (q : List Bool) (pace : Pace) (reign : Reign) (r : Renewals) (t last : Timed)
+    ensures { (ms : Monitors) (q : List Bool) (pace : Pace) (reign : Reign) (r : Round) (t last : Timed)
         (more : List (ℕ × Event)) → IsQuick pace → Steady ms q pace reign r t → Leads ms q pace t more last
-        → NobodyWrites more → ClocksGoOn q pace last.time
-        → (later : Renewals) × Steady ms q pace reign later last }
+        → ClocksGoOn q pace last.time
+        → (later : Round) × Steady ms q pace reign later last × (r.version ≤ later.version)
+        × (later.version ≡ r.version → later.committed ≡ r.committed) }
 {}
 
-/// In a quorum that is led so, the lease of each member is valid at all times.
+/// In a quorum that is led so, each value that the leader begins is committed within twice the delay of messages.
+pub fn law_values_are_committed()
+    ensures { (ms : Monitors) (q : List Bool) (pace : Pace) (reign : Reign) (r : Round) (b : Begun) (t last : Timed)
+        (more : List (ℕ × Event)) → IsQuick pace → Steady ms q pace reign r t → r.next ≡ Some b
+        → Leads ms q pace t more last → ClocksGoOn q pace last.time → b.at + 2 * pace.delay < last.time
+        → (later : Round) × Steady ms q pace reign later last × (r.version < later.version) }
+{}
+
+/// In a quorum that is led so, the lease of each member is valid while no value is in progress, from one delay after
+/// the last commit on. So it is at all times while no value is begun, since the time of the last commit then stays the
+/// same (`law_stays_led`).
 pub fn law_leases_stand()
-    ensures { (ms : Monitors) (q : List Bool) (pace : Pace) (reign : Reign) (r : Renewals) (t : Timed)
-        → IsQuick pace → Steady ms q pace reign r t → MayBe ms q pace t t.time → LeasesStand q pace t }
+    ensures { (ms : Monitors) (q : List Bool) (pace : Pace) (reign : Reign) (r : Round) (t : Timed)
+        → IsQuick pace → Steady ms q pace reign r t → MayBe ms q pace t t.time → r.next ≡ None
+        → r.committed + pace.delay < t.time → LeasesStand q pace t }
 {}
 
-/// In a quorum that is led so, each member answers each read at once, if anything was committed. It shows what its
-/// store keeps, which is the last version of all members.
+/// A member of such a quorum answers each read at once while the leases are valid, if anything was committed. It shows
+/// what its store keeps.
 pub fn law_reads_are_answered()
-    ensures { (ms : Monitors) (q : List Bool) (pace : Pace) (reign : Reign) (r : Renewals) (t : Timed) → IsQuick pace
-        → Steady ms q pace reign r t → MayBe ms q pace t t.time → 0 < reign.last
-        → (i : ℕ) → has q i ≡ true → (session : Session) (request : Request) → Reads request → (after : World)
-        → happens ms t.world (Arrives (Client i (t.time + pace.clock i) session request)) ≡ Ok after
+    ensures { (ms : Monitors) (q : List Bool) (pace : Pace) (reign : Reign) (r : Round) (t : Timed)
+        → Steady ms q pace reign r t → LeasesStand q pace t → (i : ℕ) → has q i ≡ true
+        → 0 < (readings_of (t.world.store i)).last → (session : Session) (request : Request) → Reads request
+        → (after : World) → happens ms t.world (Arrives (Client i (t.time + pace.clock i) session request)) ≡ Ok after
         → IsAnswered t.world after i session request }
 {}
 

@@ -3,4 +3,7 @@
 
 mod laws;
 
-pub use laws::{law_leases_stand, law_lost_leader_is_left, law_reads_are_answered, law_stays_led};
+pub use laws::{
+    law_leases_stand, law_lost_leader_is_left, law_reads_are_answered, law_stays_led,
+    law_values_are_committed,
+};

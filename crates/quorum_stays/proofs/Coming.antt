@@ -1,0 +1,335 @@
+-- What comes to a member of a quorum that is led.
+use Rattle.mon_msg.specs.Protocol.Course.{Course}
+use Rattle.mon_msg.specs.Protocol.Leading.{is_alone}
+use Rattle.mon_msg.specs.Protocol.Phases.{is_member, same_phase}
+use Rattle.mon_msg.specs.Protocol.Readings.{readings_of, shared_entries}
+use Rattle.mon_msg.specs.Protocol.State.{State}
+use Rattle.mon_msg.specs.Protocol.Table.{react}
+use Rattle.mon_msg.specs.Protocol.Timers.{end_of, index_of}
+use Rattle.mon_msg.specs.declared.input.Input.TheVariants as input
+use Rattle.mon_msg.specs.declared.input.Input.{Input}
+use Rattle.mon_types.specs.Ranks.{has}
+use Rattle.mon_msg.specs.Protocol.Changes.{Change}
+use Rattle.mon_wire.specs.declared.phase.Phase.TheVariants as phase
+use Rattle.mon_wire.specs.declared.phase.Phase.{Phase}
+use Rattle.mon_wire.specs.declared.phase.Timer.TheVariants as timer
+use Rattle.mon_wire.specs.declared.phase.Timer.{Timer}
+use Rattle.mon_wire.specs.declared.request.Request.{Request}
+use Rattle.mon_wire.specs.declared.request.Session.{Session}
+use Rattle.quorum_model.proofs.Members.{member_of}
+use Rattle.quorum_model.specs.Clients.{messages_of}
+use Rattle.quorum_model.specs.Meets.{arrival, message_at, state_at}
+use Rattle.quorum_model.specs.Monitors.{Monitors}
+use Rattle.quorum_model.specs.World.{Arrives, Client, Deliver, Event, Plain, Ring}
+use Rattle.quorum_stays.proofs.Bounds.{inside, leading, waits}
+use Rattle.quorum_stays.proofs.Onward.{here_left, list_left, one_state, other_left, unpack}
+use Rattle.quorum_stays.proofs.Timers.{same_kind_or}
+use Rattle.quorum_stays.proofs.Outcomes.{Begins, Outcome, client_row, message_row, messages_for_clients, propose_row}
+use Rattle.quorum_stays.proofs.Peering.{PeonIn, replaced_other, replaced_peon}
+use Rattle.quorum_stays.proofs.Quiets.{stays_quiet}
+use Rattle.quorum_stays.proofs.Sending.{not_alone}
+use Rattle.quorum_stays.proofs.Stepping.{Did, brought, did, reacted, reacts}
+use Rattle.quorum_stays.specs.Steady.{AreApart, Begun, Carries, FollowsSince, ForClients, IsItem, Item, Leads, Reign, Round, Steady, leased, said, to_leader, to_peon}
+use Rattle.quorum_timed.specs.Begins.{IsQuick}
+use Rattle.quorum_timed.specs.Calls.{Calls}
+use Rattle.quorum_timed.specs.Timed.{Again, Arriving, Asking, Comes, Firing, MayBe, Owed, Pace, Timed, Went, at_time, without_first}
+use Rattle.quorum_walk.proofs.Walk.{Then}
+use Rattle.std.proofs.Common.{Bool, List, None, Ok, Option, Some, [], ap, arith, drop, false, inl, inr, ltb, refl, subst, sym, take, true, ℕ, ◌+◌, ◌<◌, ◌∙◌, ◌∷◌, ◌≡◌, ◌≤◌, ◌⊎◌}
+use Rattle.std.proofs.lemmas.Bool.{cases_eq, false≢true}
+use Rattle.std.specs.Prelude.{IsSomeAnd, option_map}
+
+-- a candidate is electing
+not_electing : (p : Phase) → same_phase p phase.Electing ≡ false → p ≡ phase.Electing → ⊥
+not_electing p e is = false≢true (sym e ∙ ap (λ (z : Phase). same_phase z phase.Electing) is)
+
+-- what a leader is
+leads_in : (n : ℕ) (q : List Bool) (pace : Pace) (reign : Reign) (r : Round) (o : Option Begun) (s : State) → Leads n q pace reign r o s → ((s.phase ≡ phase.Active) × (s.leader.quorum ≡ q)) ⊎ (s.phase ≡ phase.Updating)
+leads_in n q pace reign r None s F = inl (F.leads, F.quorum)
+leads_in n q pace reign r (Some b) s P = let X = P.proposes in inr X.leads
+
+-- ---- one round after another
+
+-- versions never fall, the time of the last commit changes with the version alone, and a value stays in progress until it
+-- is committed
+pub record Onward (r later : Round) : Type 0 where
+  pub rises : r.version ≤ later.version
+  pub kept : later.version ≡ r.version → later.committed ≡ r.committed
+  pub same : (b : Begun) → r.next ≡ Some b → (later.next ≡ Some b) ⊎ (r.version < later.version)
+
+pub still : (r : Round) → Onward r r
+still r = record { rises = omega arith; kept = λ e. refl; same = λ b is. inl is }
+
+pub onward : (a b c : Round) → Onward a b → Onward b c → Onward a c
+onward a b c x y = record {
+  rises = (let u = x.rises in let v = y.rises in omega arith);
+  kept = λ e. (let u = x.rises in
+      let v = y.rises in
+      let first : b.version ≡ a.version = omega arith in
+      y.kept (e ∙ sym first) ∙ x.kept first);
+  same = λ g is. elim (x.same g is) [
+    | inl k ↦ elim (y.same g k) [ inl z ↦ inl z | inr z ↦ inr (let u = x.rises in omega arith) ]
+    | inr k ↦ inr (let v = y.rises in omega arith)
+  ];
+}
+
+-- ---- what holds in all rounds
+
+module _ (ms : Monitors) (q : List Bool) (pace : Pace) (reign : Reign) (r : Round) (t : Timed) (S : Steady ms q pace reign r t) where
+  -- a member, which is up and takes no part in an election
+  pub record Member (i : ℕ) (here : ltb i ms.count ≡ true) : Type 0 where
+    pub state : State
+    pub up : t.world.state i ≡ Some state
+    pub awake : same_phase state.phase phase.Booting ≡ false
+    pub settled : same_phase state.phase phase.Electing ≡ false
+    pub in_quorum : is_member state.phase ≡ true
+    pub several : same_phase state.phase phase.Active ≡ true → is_alone (member_of ms i here) state.leader.quorum ≡ false
+    pub peon : (i ≡ reign.leader → ⊥) → same_phase state.phase phase.Active ≡ false
+
+  pub member : (i : ℕ) → has q i ≡ true → (here : ltb i ms.count ≡ true) → Member i here
+  member i qi here = by (cases_eq i reign.leader)
+    where
+      by : (i ≡ reign.leader) ⊎ (i ≡ reign.leader → ⊥) → Member i here
+      by (inr ne) =
+          let F = S.peons i qi ne in
+          let l = unpack (FollowsSince reign.leader q (leased r F.heard + pace.clock i)) (t.world.state i) F.follows in
+          let p = l.2.follows in
+          let idle : same_phase l.0.phase phase.Active ≡ false = rw p refl in
+          record { state = l.0; up = l.1; awake = rw p refl; settled = rw p refl; in_quorum = rw p refl; several = λ e. absurd (false≢true (sym idle ∙ e)); peon = λ _. idle }
+      by (inl e) =
+          let l = leading ms q pace reign r t S in
+          let up : t.world.state i ≡ Some l.0 = subst (λ (z : ℕ). t.world.state z ≡ Some l.0) (sym e) l.1 in
+          elim (leads_in ms.count q pace reign r r.next l.0 l.2) [
+            | inl k ↦ (let p = k.0 in record {
+              state = l.0;
+              up = up;
+              awake = rw p refl;
+              settled = rw p refl;
+              in_quorum = rw p refl;
+              several = λ _. (let g = k.1 in rw g (not_alone (member_of ms i here) q S.second S.second_in (λ z. S.second_is (z ∙ e)) (S.members S.second S.second_in)));
+              peon = λ ne. absurd (ne e);
+            })
+            | inr p ↦ (let idle : same_phase l.0.phase phase.Active ≡ false = rw p refl in record {
+              state = l.0;
+              up = up;
+              awake = rw p refl;
+              settled = rw p refl;
+              in_quorum = rw p refl;
+              several = λ z. absurd (false≢true (sym idle ∙ z));
+              peon = λ ne. absurd (ne e);
+            })
+          ]
+
+  pub no_call : (k f i : ℕ) → has q f ≡ true → Calls t.world k f i → ⊥
+  no_call k f i qf C =
+      let C2 = C.still in
+      let m = member f qf (inside ms q pace reign r t S f qf) in
+      let same : m.state ≡ C2.state = one_state (t.world.state f) m.state C2.state m.up C2.up in
+      not_electing m.state.phase m.settled (ap (λ (z : State). z.phase) same ∙ C2.elects)
+
+  -- ---- clients' commands
+
+  -- a member begins a value
+  pub record BeginsAt (i u : ℕ) (next : Timed) : Type 0 where
+    pub here : ltb i ms.count ≡ true
+    pub state : State
+    pub up : t.world.state i ≡ Some state
+    pub course : Course
+    pub begins : Begins (member_of ms i here) (shared_entries (t.world.store i)) (u + pace.clock i) (readings_of (t.world.store i)) state course
+    pub did_it : Did t.world next.world i course.state course.changes (messages_of course.out)
+
+  module _ (u : ℕ) (later : t.time ≤ u) (next : Timed) (p : Plain) (went : Went ms q pace (at_time ms q pace u t) (Arrives p) t.under_way next)
+      (i : ℕ) (qi : has q i ≡ true) (came : Input) (comes : arrival t.world p ≡ Some (record { rank = i; at = u + pace.clock i; input = came }))
+      (plain : (s : State) → state_at i (Some s) came ≡ Some s)
+      (row : (here : ltb i ms.count ≡ true) (m : Member i here) → Then (Outcome (member_of ms i here) (shared_entries (t.world.store i)) (u + pace.clock i) (readings_of (t.world.store i)) m.state)
+      (react (member_of ms i here) (shared_entries (t.world.store i)) (u + pace.clock i) (readings_of (t.world.store i)) m.state came)) where
+    m1 : Member i (inside ms q pace reign r t S i qi)
+    m1 = member i qi (inside ms q pace reign r t S i qi)
+
+    state_is : state_at i (t.world.state i) came ≡ Some m1.state
+    state_is = ap (λ (z : Option State). state_at i z came) m1.up ∙ plain m1.state
+
+    Y : (y : Course) × (reacted ms t.world next.world p i (inside ms q pace reign r t S i qi) (u + pace.clock i) came m1.state comes state_is went.happened ≡ Ok y)
+    Y = reacts ms t.world next.world p i (inside ms q pace reign r t S i qi) (u + pace.clock i) came m1.state comes state_is went.happened
+
+    D : Did t.world next.world i Y.0.state Y.0.changes (messages_of Y.0.out)
+    D = did ms t.world next.world p i (inside ms q pace reign r t S i qi) (u + pace.clock i) came m1.state comes state_is went.happened Y.0 Y.1
+
+    outcome : Outcome (member_of ms i (inside ms q pace reign r t S i qi)) (shared_entries (t.world.store i)) (u + pace.clock i) (readings_of (t.world.store i)) m1.state Y.0
+    outcome = let z = subst (Then (Outcome (member_of ms i (inside ms q pace reign r t S i qi)) (shared_entries (t.world.store i)) (u + pace.clock i) (readings_of (t.world.store i)) m1.state)) Y.1 (row (inside ms q pace reign r t S i qi) m1) in z.holds
+
+    pub turns : Steady ms q pace reign r next ⊎ BeginsAt reign.leader u next
+    turns = by outcome (cases_eq i reign.leader)
+      where
+        by : Outcome (member_of ms i (inside ms q pace reign r t S i qi)) (shared_entries (t.world.store i)) (u + pace.clock i) (readings_of (t.world.store i)) m1.state Y.0 → (i ≡ reign.leader) ⊎ (i ≡ reign.leader → ⊥) → Steady ms q pace reign r next ⊎ BeginsAt reign.leader u next
+        by (inl Q) k =
+            let E : Did t.world next.world i (record (m1.state) { clients = Q.clients; timers = Q.timers }) [] (messages_of Y.0.out) =
+            subst (λ (cs : List Change). Did t.world next.world i (record (m1.state) { clients = Q.clients; timers = Q.timers }) cs (messages_of Y.0.out)) Q.unwritten
+            (subst (λ (z : State). Did t.world next.world i z Y.0.changes (messages_of Y.0.out)) Q.state D) in
+            inl (stays_quiet ms q pace reign r t S next u later (Arrives p) went i m1.state Q.clients Q.timers Q.tidy (messages_of Y.0.out) m1.up E (messages_for_clients Y.0.out Q.about))
+        by (inr B) (inl e) = inr (subst (λ (z : ℕ). BeginsAt z u next) e (record { here = inside ms q pace reign r t S i qi; state = m1.state; up = m1.up; course = Y.0; begins = B; did_it = D }))
+        by (inr B) (inr ne) = absurd (false≢true (sym (m1.peon ne) ∙ B.active))
+
+  -- ---- a message about a client's command is taken
+
+  pub pop_down : (i : ℕ) (qi : has q i ≡ true) (ni : i ≡ reign.leader → ⊥) (others : List Owed) → (F : PeonIn ms q pace reign r t i t.under_way)
+      → Carries ms reign t.world.messages reign.leader i (t.time + pace.delay) (drop F.heard (to_peon reign pace r)) others → Steady ms q pace reign r (record t { under_way = without_first reign.leader i others t.under_way })
+  pop_down i qi ni others F C = replaced_peon ms q pace reign r t S (without_first reign.leader i others t.under_way) i (record {
+    heard = F.heard;
+    taken = F.taken;
+    sent = F.sent;
+    answered = F.answered;
+    follows = F.follows;
+    lease = F.lease;
+    epoch = F.epoch;
+    promise = F.promise;
+    keeps = F.keeps;
+    noted = F.noted;
+    to_come = subst (Carries ms reign t.world.messages reign.leader i (t.time + pace.delay) (drop F.heard (to_peon reign pace r))) (sym (here_left reign.leader i others t.under_way)) C;
+    to_take = subst (Carries ms reign t.world.messages i reign.leader (t.time + pace.delay) (drop F.taken (take (said F.heard) (to_leader reign pace r)))) (sym (other_left reign.leader i others t.under_way i reign.leader (λ a _. ni a))) F.to_take;
+  })
+      (λ j ne nj. (other_left reign.leader i others t.under_way reign.leader j (λ _ b. ne b), other_left reign.leader i others t.under_way j reign.leader (λ a _. nj a)))
+      (λ f j a. other_left reign.leader i others t.under_way f j (λ y z. ni (sym z ∙ a.0 y)))
+
+  pub pop_up : (f : ℕ) (qf : has q f ≡ true) (nf : f ≡ reign.leader → ⊥) (others : List Owed) → (F : PeonIn ms q pace reign r t f t.under_way)
+      → Carries ms reign t.world.messages f reign.leader (t.time + pace.delay) (drop F.taken (take (said F.heard) (to_leader reign pace r))) others → Steady ms q pace reign r (record t { under_way = without_first f reign.leader others t.under_way })
+  pop_up f qf nf others F C = replaced_peon ms q pace reign r t S (without_first f reign.leader others t.under_way) f (record {
+    heard = F.heard;
+    taken = F.taken;
+    sent = F.sent;
+    answered = F.answered;
+    follows = F.follows;
+    lease = F.lease;
+    epoch = F.epoch;
+    promise = F.promise;
+    keeps = F.keeps;
+    noted = F.noted;
+    to_come = subst (Carries ms reign t.world.messages reign.leader f (t.time + pace.delay) (drop F.heard (to_peon reign pace r))) (sym (other_left f reign.leader others t.under_way reign.leader f (λ a _. nf (sym a)))) F.to_come;
+    to_take = subst (Carries ms reign t.world.messages f reign.leader (t.time + pace.delay) (drop F.taken (take (said F.heard) (to_leader reign pace r)))) (sym (here_left f reign.leader others t.under_way)) C;
+  })
+      (λ j ne nj. (other_left f reign.leader others t.under_way reign.leader j (λ _ b. nj b), other_left f reign.leader others t.under_way j reign.leader (λ a _. ne a)))
+      (λ g j a. other_left f reign.leader others t.under_way g j (λ y z. nf (sym y ∙ a.1 z)))
+
+  pub pop_other : (f i : ℕ) → AreApart reign.leader f i → (others : List Owed) → Carries ms reign t.world.messages f i (t.time + pace.delay) [] others
+      → Steady ms q pace reign r (record t { under_way = without_first f i others t.under_way })
+  pop_other f i apart others C = replaced_other ms q pace reign r t S (without_first f i others t.under_way)
+      (λ j nj. (other_left f i others t.under_way reign.leader j (λ a b. nj (b ∙ apart.0 (sym a))), other_left f i others t.under_way j reign.leader (λ a b. nj (a ∙ apart.1 (sym b)))))
+      (λ g j qg qj a. list_left f i others t.under_way (λ g j os. Carries ms reign t.world.messages g j (t.time + pace.delay) [] os) g j C (S.others g j qg qj a))
+
+-- ---- what comes
+
+module _ (ms : Monitors) (q : List Bool) (pace : Pace) (reign : Reign) where
+  abbrev pub Stays : Round → Timed → Type 0
+  Stays r next = (later : Round) × Steady ms q pace reign later next × Onward r later
+
+  -- what depends on whether a value is in progress: the leader begins one, a message of the round comes, and a timer of the
+  -- leader fires
+  pub record Handles (r : Round) (t : Timed) (S : Steady ms q pace reign r t) (u : ℕ) (next : Timed) : Type 0 where
+    pub begins : (left : ℕ → ℕ → List Owed) (T : Steady ms q pace reign r (record t { under_way = left })) (e : Event) → Went ms q pace (at_time ms q pace u (record t { under_way = left })) e left next
+        → BeginsAt ms q pace reign r (record t { under_way = left }) T reign.leader u next → Stays r next
+    pub down : (i : ℕ) (qi : has q i ≡ true) (ni : i ≡ reign.leader → ⊥) (F : PeonIn ms q pace reign r t i t.under_way) (o : Owed) (others : List Owed) (x : Item) (rest : List Item)
+        → drop F.heard (to_peon reign pace r) ≡ x ∷ rest → IsItem ms reign t.world.messages reign.leader i (t.time + pace.delay) x o → Carries ms reign t.world.messages reign.leader i (t.time + pace.delay) rest others
+        → Went ms q pace (at_time ms q pace u t) (Arrives (Deliver o.number (u + pace.clock i))) (without_first reign.leader i others t.under_way) next → Stays r next
+    pub up : (f : ℕ) (qf : has q f ≡ true) (nf : f ≡ reign.leader → ⊥) (F : PeonIn ms q pace reign r t f t.under_way) (o : Owed) (others : List Owed) (x : Item) (rest : List Item)
+        → drop F.taken (take (said F.heard) (to_leader reign pace r)) ≡ x ∷ rest → IsItem ms reign t.world.messages f reign.leader (t.time + pace.delay) x o → Carries ms reign t.world.messages f reign.leader (t.time + pace.delay) rest others
+        → Went ms q pace (at_time ms q pace u t) (Arrives (Deliver o.number (u + pace.clock reign.leader))) (without_first f reign.leader others t.under_way) next → Stays r next
+    pub timer : (s : State) → t.world.state reign.leader ≡ Some s → (kind : Timer) (end : ℕ) → (kind ≡ timer.Propose → ⊥) → end_of kind s.timers ≡ Some end → end ≤ u + pace.clock reign.leader
+        → Went ms q pace (at_time ms q pace u t) (Arrives (Ring reign.leader kind (u + pace.clock reign.leader))) t.under_way next → Stays r next
+
+  module _ (K : IsQuick pace) (r : Round) (t : Timed) (S : Steady ms q pace reign r t) (u : ℕ) (M : MayBe ms q pace t u) (next : Timed) (H : Handles r t S u next) where
+    abbrev tu : Timed
+    tu = at_time ms q pace u t
+
+    resolved : (left : ℕ → ℕ → List Owed) (T : Steady ms q pace reign r (record t { under_way = left })) (e : Event) → Went ms q pace (at_time ms q pace u (record t { under_way = left })) e left next
+        → Steady ms q pace reign r next ⊎ BeginsAt ms q pace reign r (record t { under_way = left }) T reign.leader u next → Stays r next
+    resolved left T e went (inl k) = (r, k, still r)
+    resolved left T e went (inr B) = H.begins left T e went B
+
+    moved : (left : ℕ → ℕ → List Owed) (e : Event) → Went ms q pace (at_time ms q pace u t) e left next → Went ms q pace (at_time ms q pace u (record t { under_way = left })) e left next
+    moved left e went = record { happened = went.happened; time = went.time; sent = went.sent; calls = went.calls }
+
+    -- a message about a client's command
+    for_client : (f i : ℕ) → has q i ≡ true → (o : Owed) (others : List Owed) → (T : Steady ms q pace reign r (record t { under_way = without_first f i others t.under_way })) → ForClients t.world.messages i o
+        → Went ms q pace (at_time ms q pace u t) (Arrives (Deliver o.number (u + pace.clock i))) (without_first f i others t.under_way) next → Stays r next
+    for_client f i qi o others T c went =
+        let left = without_first f i others t.under_way in
+        let went2 = moved (without_first f i others t.under_way) (Arrives (Deliver o.number (u + pace.clock i))) went in
+        resolved (without_first f i others t.under_way) T _ went2
+        (turns ms q pace reign r (record t { under_way = without_first f i others t.under_way }) T u M.later next (Deliver o.number (u + pace.clock i)) went2 i qi (input.Deliver c.envelope.message) comes (λ s. refl)
+        (λ here m. message_row (member_of ms i here) (shared_entries (t.world.store i)) (u + pace.clock i) (readings_of (t.world.store i)) m.state m.several m.awake c.envelope.message c.command))
+      where
+        comes : option_map (brought (u + pace.clock i)) (message_at t.world.messages o.number)
+            ≡ Some (record { rank = i; at = u + pace.clock i; input = input.Deliver c.envelope.message })
+        comes = ap (option_map (brought (u + pace.clock i))) c.there
+            ∙ (λ d. Some (record { rank = c.receiver d; at = u + pace.clock i; input = input.Deliver c.envelope.message }))
+
+    down : (i : ℕ) → has q i ≡ true → (i ≡ reign.leader → ⊥) → (o : Owed) (others : List Owed) → t.under_way reign.leader i ≡ o ∷ others
+        → Went ms q pace (at_time ms q pace u t) (Arrives (Deliver o.number (u + pace.clock i))) (without_first reign.leader i others t.under_way) next → Stays r next
+    down i qi ni o others first went = by (S.peons i qi ni) (subst (Carries ms reign t.world.messages reign.leader i (t.time + pace.delay) (drop (S.peons i qi ni).heard (to_peon reign pace r))) first (S.peons i qi ni).to_come)
+      where
+        by : (F : PeonIn ms q pace reign r t i t.under_way) → Carries ms reign t.world.messages reign.leader i (t.time + pace.delay) (drop F.heard (to_peon reign pace r)) (o ∷ others) → Stays r next
+        by F (le, inl k) = for_client reign.leader i qi o others (pop_down ms q pace reign r t S i qi ni others F k.2) k.0 went
+        by F (le, inr k) = H.down i qi ni F o others k.0 k.1 k.2 k.3 k.4 went
+
+    up : (f : ℕ) → has q f ≡ true → (f ≡ reign.leader → ⊥) → (o : Owed) (others : List Owed) → t.under_way f reign.leader ≡ o ∷ others
+        → Went ms q pace (at_time ms q pace u t) (Arrives (Deliver o.number (u + pace.clock reign.leader))) (without_first f reign.leader others t.under_way) next → Stays r next
+    up f qf nf o others first went = by (S.peons f qf nf) (subst (Carries ms reign t.world.messages f reign.leader (t.time + pace.delay) (drop (S.peons f qf nf).taken (take (said (S.peons f qf nf).heard) (to_leader reign pace r)))) first (S.peons f qf nf).to_take)
+      where
+        by : (F : PeonIn ms q pace reign r t f t.under_way) → Carries ms reign t.world.messages f reign.leader (t.time + pace.delay) (drop F.taken (take (said F.heard) (to_leader reign pace r))) (o ∷ others) → Stays r next
+        by F (le, inl k) = for_client f reign.leader S.leads o others (pop_up ms q pace reign r t S f qf nf others F k.2) k.0 went
+        by F (le, inr k) = H.up f qf nf F o others k.0 k.1 k.2 k.3 k.4 went
+
+    apart : (f i : ℕ) → has q f ≡ true → has q i ≡ true → AreApart reign.leader f i → (o : Owed) (others : List Owed) → t.under_way f i ≡ o ∷ others
+        → Went ms q pace (at_time ms q pace u t) (Arrives (Deliver o.number (u + pace.clock i))) (without_first f i others t.under_way) next → Stays r next
+    apart f i qf qi a o others first went = by (subst (Carries ms reign t.world.messages f i (t.time + pace.delay) []) first (S.others f i qf qi a))
+      where
+        by : Carries ms reign t.world.messages f i (t.time + pace.delay) [] (o ∷ others) → Stays r next
+        by (le, inl k) = for_client f i qi o others (pop_other ms q pace reign r t S f i a others k.2) k.0 went
+        by (le, inr k) = absurd (no_item k.0 k.1 k.2)
+          where
+            no_item : (x : Item) (rest : List Item) → [] ≡ x ∷ rest → ⊥
+            no_item x rest e = absurd cc
+
+    arrives : (f i : ℕ) → has q f ≡ true → has q i ≡ true → (o : Owed) (others : List Owed) → t.under_way f i ≡ o ∷ others
+        → Went ms q pace (at_time ms q pace u t) (Arrives (Deliver o.number (u + pace.clock i))) (without_first f i others t.under_way) next → Stays r next
+    arrives f i qf qi o others first went = by (cases_eq f reign.leader) (cases_eq i reign.leader)
+      where
+        by : (f ≡ reign.leader) ⊎ (f ≡ reign.leader → ⊥) → (i ≡ reign.leader) ⊎ (i ≡ reign.leader → ⊥) → Stays r next
+        by (inl a) (inl b) = apart f i qf qi ((λ _. b), (λ _. a)) o others first went
+        by (inr a) (inr b) = apart f i qf qi ((λ z. absurd (a z)), (λ z. absurd (b z))) o others first went
+        by (inl a) (inr b) = down i qi b o others (subst (λ (z : ℕ). t.under_way z i ≡ o ∷ others) a first)
+            (subst (λ (z : ℕ). Went ms q pace (at_time ms q pace u t) (Arrives (Deliver o.number (u + pace.clock i))) (without_first z i others t.under_way) next) a went)
+        by (inr a) (inl b) = up f qf a o others (subst (λ (z : ℕ). t.under_way f z ≡ o ∷ others) b first)
+            (subst (λ (z : ℕ). Went ms q pace (at_time ms q pace u t) (Arrives (Deliver o.number (u + pace.clock z))) (without_first f z others t.under_way) next) b went)
+
+    -- the timer of commands that wait
+    proposes : (i : ℕ) → has q i ≡ true → Went ms q pace (at_time ms q pace u t) (Arrives (Ring i timer.Propose (u + pace.clock i))) t.under_way next → Stays r next
+    proposes i qi went = resolved t.under_way S _ went
+        (turns ms q pace reign r t S u M.later next (Ring i timer.Propose (u + pace.clock i)) went i qi (input.Timer timer.Propose) refl (λ s. refl)
+        (λ here m. propose_row (member_of ms i here) (shared_entries (t.world.store i)) (u + pace.clock i) (readings_of (t.world.store i)) m.state m.several m.awake))
+
+    fires : (i : ℕ) → has q i ≡ true → (s : State) → t.world.state i ≡ Some s → (kind : Timer) (end : ℕ) → end_of kind s.timers ≡ Some end → end ≤ u + pace.clock i
+        → Went ms q pace (at_time ms q pace u t) (Arrives (Ring i kind (u + pace.clock i))) t.under_way next → Stays r next
+    fires i qi s is kind end set due went = by (same_kind_or kind timer.Propose) (cases_eq i reign.leader)
+      where
+        by : (kind ≡ timer.Propose) ⊎ (index_of kind ≡ index_of timer.Propose → ⊥) → (i ≡ reign.leader) ⊎ (i ≡ reign.leader → ⊥) → Stays r next
+        by (inl same) k = proposes i qi (subst (λ (z : Timer). Went ms q pace (at_time ms q pace u t) (Arrives (Ring i z (u + pace.clock i))) t.under_way next) same went)
+        by (inr ne) (inl e) = H.timer s (subst (λ (z : ℕ). t.world.state z ≡ Some s) e is) kind end (λ z. ne (ap index_of z)) set (subst (λ (z : ℕ). end ≤ u + pace.clock z) e due)
+            (subst (λ (z : ℕ). Went ms q pace (at_time ms q pace u t) (Arrives (Ring z kind (u + pace.clock z))) t.under_way next) e went)
+        by (inr ne) (inr nl) =
+            let F = S.peons i qi nl in
+            let G : FollowsSince reign.leader q (leased r F.heard + pace.clock i) s = subst (λ (o : Option State). IsSomeAnd o (FollowsSince reign.leader q (leased r F.heard + pace.clock i))) is F.follows in
+            elim (G.only kind end set) [
+              | inl z ↦ (let a = G.waits end (subst (λ (y : Timer). end_of y s.timers ≡ Some end) z set) in let b = waits ms q pace reign r t S K u M i qi F in absurd (omega arith))
+              | inr z ↦ absurd (ne (ap index_of z))
+            ]
+
+    asks : (i : ℕ) → has q i ≡ true → (session : Session) (request : Request) → Went ms q pace (at_time ms q pace u t) (Arrives (Client i (u + pace.clock i) session request)) t.under_way next → Stays r next
+    asks i qi session request went = resolved t.under_way S _ went
+        (turns ms q pace reign r t S u M.later next (Client i (u + pace.clock i) session request) went i qi (input.Client session request) refl (λ s. refl)
+        (λ here m. client_row (member_of ms i here) (shared_entries (t.world.store i)) (u + pace.clock i) (readings_of (t.world.store i)) m.state m.several m.awake session request))
+
+    pub handled : (e : Event) → Comes ms q pace tu next e → Stays r next
+    handled e (Arriving f i qf qi o others first is went) = arrives f i qf qi o others first (subst (λ (z : Event). Went ms q pace tu z (without_first f i others t.under_way) next) is went)
+    handled e (Again f i qf qi n calls is went) = absurd (no_call ms q pace reign r t S n f i qf calls)
+    handled e (Firing i qi s is kind end set due event went) = fires i qi s is kind end set due (subst (λ (z : Event). Went ms q pace tu z t.under_way next) event went)
+    handled e (Asking i qi session request is went) = asks i qi session request (subst (λ (z : Event). Went ms q pace tu z t.under_way next) is went)

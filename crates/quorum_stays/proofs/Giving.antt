@@ -1,0 +1,355 @@
+-- A quorum stays led when its leader sends something to each peon: a new lease, a value that it begins, or a version.
+use Rattle.mon_lease.specs.Lease as lease
+use Rattle.mon_msg.specs.Protocol.Changes.{Vote}
+use Rattle.mon_msg.specs.Protocol.Course.{Course}
+use Rattle.mon_msg.specs.Protocol.Leading.{begin_with}
+use Rattle.mon_msg.specs.Protocol.Played.{play}
+use Rattle.mon_msg.specs.Protocol.Readings.{Readings, epoch_of, promise_of, readings_of, shared_entries}
+use Rattle.mon_msg.specs.Protocol.Sending.{members, message_to}
+use Rattle.mon_msg.specs.Protocol.Sets.{is_empty, only}
+use Rattle.mon_msg.specs.Protocol.State.{State}
+use Rattle.mon_msg.specs.Protocol.Table.{at_rest}
+use Rattle.mon_msg.specs.Protocol.Timers.{armed, disarmed, end_of, only_ping}
+use Rattle.mon_msg.specs.declared.clients.Clients.{Clients}
+use Rattle.mon_msg.specs.declared.input.Input.TheVariants as input
+use Rattle.mon_msg.specs.declared.paxos.LeaderStage.TheVariants as stage
+use Rattle.mon_msg.specs.declared.plan.Origin.{Origin}
+use Rattle.mon_msg.specs.declared.view.Me.{Me}
+use Rattle.mon_tx.specs.declared.op.Op.{Op}
+use Rattle.mon_types.specs.Ranks.{has}
+use Rattle.mon_wire.specs.declared.body.Body.TheVariants as body
+use Rattle.mon_wire.specs.declared.body.Body.{Body}
+use Rattle.mon_wire.specs.declared.phase.Phase.TheVariants as phase
+use Rattle.mon_wire.specs.declared.phase.Timer.TheVariants as timer
+use Rattle.quorum_model.proofs.Members.{member_of}
+use Rattle.quorum_model.specs.Clients.{messages_of}
+use Rattle.quorum_model.specs.Monitors.{Monitors}
+use Rattle.quorum_model.specs.World.{Arrives, Envelope, Event, Ring}
+use Rattle.quorum_stays.proofs.Bounds.{by_ack, by_lease, by_renewal, few, inside}
+use Rattle.quorum_stays.proofs.Carrying.{Gives, gives_other}
+use Rattle.quorum_stays.proofs.Onward.{lands, pack, unpack}
+use Rattle.quorum_stays.proofs.Peering.{PeonIn}
+use Rattle.quorum_stays.proofs.Rows.{renew_row}
+use Rattle.quorum_stays.proofs.Sending.{each, each_from, to_member, to_none}
+use Rattle.quorum_stays.proofs.States.{bare_renewing, begun, extends}
+use Rattle.quorum_stays.proofs.Stepping.{Did, did}
+use Rattle.quorum_stays.proofs.Timers.{Tidy, all_extended, disarmed_size, extended_timers, maybe_armed}
+use Rattle.quorum_stays.proofs.Turning.{other_state, other_store, same_carried}
+use Rattle.quorum_stays.specs.Reading.{ClocksGoOn}
+use Rattle.quorum_stays.specs.Steady.{AllIn, AreApart, Begun, Carries, FollowsSince, HasLease, IsOfCommand, Item, Keeps, LeadsSince, LeasedSince, Noted, Proposes, Reign, Round, Steady, item, leased, said, to_leader, to_peon}
+use Rattle.quorum_timed.proofs.Armed.{Timers}
+use Rattle.quorum_timed.specs.Begins.{IsQuick}
+use Rattle.quorum_timed.specs.Timed.{MayBe, Pace, Timed, Went, at_time}
+use Rattle.quorum_walk.proofs.Ranks.{has_only_is}
+use Rattle.std.proofs.Common.{Bool, List, None, Option, Some, [], ap, arith, drop, inl, inr, ltb, map, not, refl, subst, suc, sym, take, true, zero, ℕ, ◌*◌, ◌+◌, ◌++◌, ◌<◌, ◌^◌, ◌∙◌, ◌∷◌, ◌≡◌, ◌≤◌, ◌⊎◌}
+use Rattle.std.proofs.lemmas.Bool.{cases_eq}
+use Rattle.std.specs.Prelude.{IsSomeAnd, is_some}
+
+-- ---- a value in progress more or less
+
+keeps_next : (r : Round) (a b : Option Begun) (h : ℕ) (w : Readings) → Keeps (record r { next = a }) h w → Keeps (record r { next = b }) h w
+keeps_next r a b zero w k = k
+keeps_next r a b (suc zero) w k = k
+keeps_next r a b (suc (suc zero)) w k = k
+keeps_next r a b (suc (suc (suc h))) w k = k
+
+lease_next : (clock : ℕ) (r : Round) (a b : Option Begun) (h : ℕ) (s : State) → HasLease clock (record r { next = a }) h s → HasLease clock (record r { next = b }) h s
+lease_next clock r a b zero s k = k
+lease_next clock r a b (suc zero) s k = k
+lease_next clock r a b (suc (suc zero)) s k = k
+lease_next clock r a b (suc (suc (suc h))) s k = k
+
+leased_next : (r : Round) (a b : Option Begun) (h : ℕ) → leased (record r { next = a }) h ≡ leased (record r { next = b }) h
+leased_next r a b zero = refl
+leased_next r a b (suc zero) = refl
+leased_next r a b (suc (suc h)) = refl
+
+-- ---- the leader and its peons
+
+-- what one body to each member gives
+module _ (ms : Monitors) (q : List Bool) (reign : Reign) (here : ltb reign.leader ms.count ≡ true) (b : Body) where
+  abbrev pub to_all : List Envelope
+  to_all = each (member_of ms reign.leader here) reign.epoch b (members (member_of ms reign.leader here) q)
+
+  pub gives_each : (j : ℕ) → has q j ≡ true → (j ≡ reign.leader → ⊥) → j < ms.count → Gives ms reign reign.leader j (b ∷ []) (each (member_of ms reign.leader here) reign.epoch b (members (member_of ms reign.leader here) q))
+  gives_each j qj nj lt = to_member ms reign (member_of ms reign.leader here) b refl refl q j qj nj lt
+
+  pub gives_no_leader : (f j : ℕ) → (f ≡ reign.leader → ⊥) → Gives ms reign f j [] (each (member_of ms reign.leader here) reign.epoch b (members (member_of ms reign.leader here) q))
+  gives_no_leader f j nf = gives_other ms reign f j _ (each_from (member_of ms reign.leader here) reign.epoch b f (λ e. nf (sym e)) (members (member_of ms reign.leader here) q))
+
+  pub gives_apart : (f j : ℕ) → AreApart reign.leader f j → Gives ms reign f j [] (each (member_of ms reign.leader here) reign.epoch b (members (member_of ms reign.leader here) q))
+  gives_apart f j a = by (cases_eq f reign.leader)
+    where
+      by : (f ≡ reign.leader) ⊎ (f ≡ reign.leader → ⊥) → Gives ms reign f j [] (each (member_of ms reign.leader here) reign.epoch b (members (member_of ms reign.leader here) q))
+      by (inl e) = subst (λ (z : ℕ). Gives ms reign f z [] (each (member_of ms reign.leader here) reign.epoch b (members (member_of ms reign.leader here) q))) (sym (a.0 e))
+          (to_none ms reign (member_of ms reign.leader here) b refl refl q f)
+      by (inr ne) = gives_no_leader f j ne
+
+-- ---- a value is begun
+
+module _ (ms : Monitors) (q : List Bool) (pace : Pace) (reign : Reign) (r : Round) (t : Timed) (S : Steady ms q pace reign (record r { next = None }) t) (u : ℕ) (later : t.time ≤ u)
+    (soon : u ≤ r.latest + 3000 + pace.late) (room : ClocksGoOn q pace u) (next : Timed) (e : Event) (went : Went ms q pace (at_time ms q pace u t) e t.under_way next)
+    (s : State) (up : t.world.state reign.leader ≡ Some s) (here : ltb reign.leader ms.count ≡ true)
+    (clients : Clients) (ts : Timers) (T : Tidy s.timers ts) (x : List Op) (from : Origin) (made : IsOfCommand x) where
+  abbrev now : ℕ
+  now = u + pace.clock reign.leader
+
+  abbrev w : Readings
+  w = readings_of (t.world.store reign.leader)
+
+  abbrev calm : Round
+  calm = record r { next = None }
+
+  abbrev new : Round
+  new = record r { next = Some (record { value = x; at = u }) }
+
+  A : LeadsSince reign q (r.latest + pace.clock reign.leader) s
+  A = subst (λ (o : Option State). IsSomeAnd o (LeadsSince reign q (r.latest + pace.clock reign.leader))) up S.lead
+
+  abbrev active : State
+  active = record s { phase = phase.Active; clients = clients; timers = ts }
+
+  abbrev me : Me
+  me = member_of ms reign.leader here
+
+  abbrev after : State
+  after = record s {
+    phase = phase.Updating;
+    leader = record s.leader { stage = stage.Updating; accepted = only reign.leader; value = Some x; origin = Some from };
+    clients = clients;
+    timers = armed now timer.Accept (disarmed timer.LeaseAck (disarmed timer.Renew (only_ping ts)));
+  }
+
+  abbrev begins : Course
+  begins = record {
+    readings = play (Vote (suc w.last) s.leader.pn x) w;
+    changes = Vote (suc w.last) s.leader.pn x ∷ [];
+    state = after;
+    out = map (message_to me (epoch_of w) (body.Begin s.leader.pn (suc w.last) x)) (members me s.leader.quorum);
+  }
+
+  begin_is : begin_with me now stage.Updating (suc w.last) x (Some from) (at_rest w active) ≡ begins
+  unfolding begin_with
+  begin_is = refl
+
+  active_is : record s { clients = clients; timers = ts } ≡ active
+  active_is = let L = A.leads in (λ i. record s { phase = L i; clients = clients; timers = ts })
+
+  abbrev es : List Envelope
+  es = to_all ms q reign here (body.Begin reign.pn (suc r.version) x)
+
+  module _ (fits : suc w.last ≤ 2 ^ 62) (y : Course) (is : y ≡ begin_with me now stage.Updating (suc w.last) x (Some from) (at_rest w (record s { clients = clients; timers = ts })))
+      (D0 : Did t.world next.world reign.leader y.state y.changes (messages_of y.out)) where
+    y_is : y ≡ begins
+    y_is = is ∙ ap (λ (z : State). begin_with me now stage.Updating (suc w.last) x (Some from) (at_rest w z)) active_is ∙ begin_is
+
+    sent_is : messages_of begins.out ≡ es
+    sent_is = let a = S.epoch in let l = S.last in let p = A.number in let g = A.quorum in (λ i. each me (a i) (body.Begin (p i) (suc (l i)) x) (members me (g i)))
+
+    D : Did t.world next.world reign.leader after (Vote (suc w.last) s.leader.pn x ∷ []) es
+    D = subst (Did t.world next.world reign.leader after (Vote (suc w.last) s.leader.pn x ∷ [])) sent_is
+        (subst (λ (z : Course). Did t.world next.world reign.leader z.state z.changes (messages_of z.out)) y_is D0)
+
+    kept : readings_of (next.world.store reign.leader) ≡ play (Vote (suc w.last) s.leader.pn x) w
+    kept = let c = S.short in let p = A.number in D.kept ((fits, omega arith), tt)
+
+    come_more : (h : ℕ) → h ≤ 2 → drop h (to_peon reign pace (record r { next = None })) ++ item (body.Begin reign.pn (suc r.version) x) (u + pace.delay) ∷ []
+        ≡ drop h (to_peon reign pace (record r { next = Some (record { value = x; at = u }) }))
+    come_more zero le = refl
+    come_more (suc zero) le = refl
+    come_more (suc (suc zero)) le = refl
+    come_more (suc (suc (suc h))) le = absurd (omega arith)
+
+    take_more : (h : ℕ) → h ≤ 2 → take (said h) (to_leader reign pace (record r { next = None })) ≡ take (said h) (to_leader reign pace (record r { next = Some (record { value = x; at = u }) }))
+    take_more zero le = refl
+    take_more (suc zero) le = refl
+    take_more (suc (suc zero)) le = refl
+    take_more (suc (suc (suc h))) le = absurd (omega arith)
+
+    said_few : (h : ℕ) → h ≤ 2 → said h ≤ 1
+    said_few zero le = omega arith
+    said_few (suc h) le = omega arith
+
+    peon : (j : ℕ) → has q j ≡ true → (j ≡ reign.leader → ⊥) → PeonIn ms q pace reign (record r { next = None }) t j t.under_way
+        → PeonIn ms q pace reign (record r { next = Some (record { value = x; at = u }) }) next j next.under_way
+    peon j qj nj F =
+        let two : F.heard ≤ 2 = (let a = F.sent in omega arith) in
+        let less : F.taken ≤ 1 = (let a = F.answered in let b = said_few F.heard two in omega arith) in record {
+          heard = F.heard;
+          taken = F.taken;
+          sent = (let a = two in omega arith);
+          answered = F.answered;
+          follows = subst (λ (z : ℕ). IsSomeAnd (next.world.state j) (FollowsSince reign.leader q (z + pace.clock j))) (leased_next r None (Some (record { value = x; at = u })) F.heard)
+              (other_state ms q pace reign t next u later e t.under_way went reign.leader s after _ es up D (FollowsSince reign.leader q (leased calm F.heard + pace.clock j)) j nj F.follows);
+          lease = (let l = unpack (HasLease (pace.clock j) calm F.heard) (next.world.state j) (other_state ms q pace reign t next u later e t.under_way went reign.leader s after _ es up D (HasLease (pace.clock j) calm F.heard) j nj F.lease) in
+              pack (HasLease (pace.clock j) new F.heard) (next.world.state j) l.0 l.1 (lease_next (pace.clock j) r None (Some (record { value = x; at = u })) F.heard l.0 l.2));
+          epoch = other_store ms q pace reign t next u later e t.under_way went reign.leader s after _ es up D (λ z. epoch_of z ≡ reign.epoch) j nj F.epoch;
+          promise = other_store ms q pace reign t next u later e t.under_way went reign.leader s after _ es up D (λ z. promise_of z ≡ reign.pn) j nj F.promise;
+          keeps = keeps_next r None (Some (record { value = x; at = u })) F.heard _ (other_store ms q pace reign t next u later e t.under_way went reign.leader s after _ es up D (Keeps calm F.heard) j nj F.keeps);
+          noted = pack (Noted j F.taken (Some (record { value = x; at = u }))) (next.world.state reign.leader) after D.up ((λ two. absurd (omega arith)), (λ h. absurd (nj (has_only_is reign.leader j h))));
+          to_come = subst (λ (z : List Item). Carries ms reign next.world.messages reign.leader j (next.time + pace.delay) z (next.under_way reign.leader j)) (come_more F.heard two)
+              (lands ms q pace reign (at_time ms q pace u t) next e t.under_way went reign.leader after _ es D reign.leader j (t.time + pace.delay) (u + pace.delay) (drop F.heard (to_peon reign pace calm)) (body.Begin reign.pn (suc r.version) x ∷ [])
+              (let a = later in omega arith) (omega arith) F.to_come (gives_each ms q reign here _ j qj nj (S.members j qj)));
+          to_take = subst (λ (z : List Item). Carries ms reign next.world.messages j reign.leader (next.time + pace.delay) (drop F.taken z) (next.under_way j reign.leader)) (take_more F.heard two)
+              (same_carried ms q pace reign t next u later e t.under_way went reign.leader s after _ es up D j reign.leader (drop F.taken (take (said F.heard) (to_leader reign pace calm))) F.to_take (gives_no_leader ms q reign here _ j reign.leader nj));
+        }
+
+    pub value_begins : Steady ms q pace reign (record r { next = Some (record { value = x; at = u }) }) next
+    value_begins = record {
+      leads = S.leads;
+      second = S.second;
+      second_in = S.second_in;
+      second_is = S.second_is;
+      members = S.members;
+      short = S.short;
+      since = S.since;
+      reached = (let a = S.reached in let c = went.time in omega arith);
+      ordered = S.ordered;
+      renewed = S.renewed;
+      apart = S.apart;
+      only_renewed = S.only_renewed;
+      epoch = ap epoch_of kept ∙ S.epoch;
+      last = ap (λ (z : Readings). z.last) kept ∙ S.last;
+      fits = S.fits;
+      lead = pack (Proposes ms.count q pace reign new (record { value = x; at = u })) (next.world.state reign.leader) after D.up (record {
+        proposes = begun reign q (r.latest + pace.clock reign.leader) s A ms.count S.second now x from stage.Updating clients ts ms.most (few ms q pace reign calm t S) (S.members S.second S.second_in) S.second_in S.second_is (room reign.leader S.leads) T;
+        made = made;
+        fits = (let a = S.last in let b = fits in omega arith);
+        after = (let a = S.reached in let b = later in omega arith);
+        before = soon;
+      });
+      peons = λ j qj nj. peon j qj nj (S.peons j qj nj);
+      others = λ f j qf qj a. same_carried ms q pace reign t next u later e t.under_way went reign.leader s after _ es up D f j [] (S.others f j qf qj a) (gives_apart ms q reign here _ f j a);
+    }
+
+-- ---- the leases are renewed
+
+module _ (ms : Monitors) (q : List Bool) (pace : Pace) (reign : Reign) (K : IsQuick pace) (r : Round) (t : Timed) (S : Steady ms q pace reign (record r { next = None }) t) (u : ℕ)
+    (M : MayBe ms q pace t u) (room : ClocksGoOn q pace u) (next : Timed) (s : State) (up : t.world.state reign.leader ≡ Some s)
+    (end : ℕ) (set : end_of timer.Renew s.timers ≡ Some end) (due : end ≤ u + pace.clock reign.leader)
+    (went : Went ms q pace (at_time ms q pace u t) (Arrives (Ring reign.leader timer.Renew (u + pace.clock reign.leader))) t.under_way next) where
+  abbrev now2 : ℕ
+  now2 = u + pace.clock reign.leader
+
+  abbrev w2 : Readings
+  w2 = readings_of (t.world.store reign.leader)
+
+  abbrev calm2 : Round
+  calm2 = record r { next = None }
+
+  abbrev new2 : Round
+  new2 = record r { latest = u; before = r.latest; next = None }
+
+  L : LeadsSince reign q (r.latest + pace.clock reign.leader) s
+  L = subst (λ (o : Option State). IsSomeAnd o (LeadsSince reign q (r.latest + pace.clock reign.leader))) up S.lead
+
+  abbrev here2 : ltb reign.leader ms.count ≡ true
+  here2 = inside ms q pace reign calm2 t S reign.leader S.leads
+
+  abbrev me2 : Me
+  me2 = member_of ms reign.leader here2
+
+  late : r.latest + 3000 ≤ u
+  late = let z : Some (r.latest + pace.clock reign.leader + 3000) ≡ Some end = sym L.renews ∙ set in let y : r.latest + pace.clock reign.leader + 3000 ≡ end = cc in omega arith
+
+  in_time : u ≤ r.latest + 3000 + pace.late
+  in_time = by_renewal ms q pace reign calm2 t S K u M refl
+
+  -- all LEASEs and all acknowledgements have arrived
+  arrived : (j : ℕ) → has q j ≡ true → (F : PeonIn ms q pace reign (record r { next = None }) t j t.under_way) → (F.heard ≡ 2) × (F.taken ≡ 1)
+  arrived j qj F =
+      let two : F.heard ≤ 2 = (let a = F.sent in omega arith) in
+      by F.heard F.taken two F.answered (λ le. by_lease ms q pace reign calm2 t S K u M j qj F le) (λ le z. by_ack ms q pace reign calm2 t S K u M j qj F le z)
+    where
+      by : (h g : ℕ) → h ≤ 2 → g ≤ said h → (h ≤ 1 → u ≤ r.latest + pace.delay) → (2 ≤ h → g ≡ 0 → u ≤ r.latest + 2 * pace.delay) → (h ≡ 2) × (g ≡ 1)
+      by zero g le two l a = let z = l (omega arith) in let x = late in let k = K.leases in absurd (omega arith)
+      by (suc zero) g le two l a = let z = l (omega arith) in let x = late in let k = K.leases in absurd (omega arith)
+      by (suc (suc zero)) zero le two l a = let z = a (omega arith) refl in let x = late in let k = K.elections in let m = K.leases in absurd (omega arith)
+      by (suc (suc zero)) (suc zero) le two l a = (refl, refl)
+      by (suc (suc zero)) (suc (suc g)) le two l a = absurd (omega arith)
+      by (suc (suc (suc h))) g le two l a = absurd (omega arith)
+
+  all_acked : AllIn q s.leader.acks
+  all_acked j qj = by (cases_eq j reign.leader)
+    where
+      by : (j ≡ reign.leader) ⊎ (j ≡ reign.leader → ⊥) → has s.leader.acks j ≡ true
+      by (inl e) = subst (λ (z : ℕ). has s.leader.acks z ≡ true) (sym e) L.own
+      by (inr ne) =
+          let F = S.peons j qj ne in
+          let N : Noted j F.taken None s = subst (λ (o : Option State). IsSomeAnd o (Noted j F.taken None)) up F.noted in
+          N (arrived j qj F).1
+
+  abbrev bare : Timers
+  bare = disarmed timer.Renew s.timers
+
+  abbrev after2 : State
+  after2 = record s {
+    leader = record s.leader { lease = lease.extended now2; acks = only reign.leader };
+    timers = maybe_armed (not (is_empty s.clients.queue)) now2 (extended_timers now2 (is_empty (members me2 s.leader.quorum)) (disarmed timer.Renew s.timers));
+  }
+
+  abbrev es2 : List Envelope
+  es2 = to_all ms q reign here2 (body.Lease r.version)
+
+  E : Did t.world next.world reign.leader after2 [] es2
+  E =
+      let a = S.epoch in
+      let l = S.last in
+      let g = L.quorum in
+      let said : messages_of (map (message_to me2 (epoch_of w2) (body.Lease w2.last)) (members me2 s.leader.quorum)) ≡ es2 = (λ i. each me2 (a i) (body.Lease (l i)) (members me2 (g i))) in
+      subst (Did t.world next.world reign.leader after2 []) said
+      (did ms t.world next.world (Ring reign.leader timer.Renew now2) reign.leader here2 now2 (input.Timer timer.Renew) s refl up went.happened _
+      (renew_row ms reign.leader here2 (shared_entries (t.world.store reign.leader)) now2 w2 s L.leads (ap is_some L.renews)))
+
+  renewed_peon : (j : ℕ) → has q j ≡ true → (j ≡ reign.leader → ⊥) → (F : PeonIn ms q pace reign (record r { next = None }) t j t.under_way)
+      → PeonIn ms q pace reign (record r { latest = u; before = r.latest; next = None }) next j next.under_way
+  renewed_peon j qj nj F =
+      let h : F.heard ≡ suc (suc zero) = (arrived j qj F).0 in
+      let g : F.taken ≡ suc zero = (arrived j qj F).1 in record {
+        heard = suc zero;
+        taken = zero;
+        sent = omega arith;
+        answered = omega arith;
+        follows = other_state ms q pace reign t next u M.later _ t.under_way went reign.leader s after2 [] es2 up E (FollowsSince reign.leader q (r.latest + pace.clock j)) j nj
+            (subst (λ (z : ℕ). IsSomeAnd (t.world.state j) (FollowsSince reign.leader q (leased calm2 z + pace.clock j))) h F.follows);
+        lease = (let k : IsSomeAnd (t.world.state j) (LeasedSince (r.latest + pace.clock j)) = subst (λ (z : ℕ). IsSomeAnd (t.world.state j) (HasLease (pace.clock j) calm2 z)) h F.lease in
+            let l = unpack (LeasedSince (r.latest + pace.clock j)) (next.world.state j) (other_state ms q pace reign t next u M.later _ t.under_way went reign.leader s after2 [] es2 up E (LeasedSince (r.latest + pace.clock j)) j nj k) in
+            pack (HasLease (pace.clock j) new2 (suc zero)) (next.world.state j) l.0 l.1 (λ _. l.2));
+        epoch = other_store ms q pace reign t next u M.later _ t.under_way went reign.leader s after2 [] es2 up E (λ z. epoch_of z ≡ reign.epoch) j nj F.epoch;
+        promise = other_store ms q pace reign t next u M.later _ t.under_way went reign.leader s after2 [] es2 up E (λ z. promise_of z ≡ reign.pn) j nj F.promise;
+        keeps = other_store ms q pace reign t next u M.later _ t.under_way went reign.leader s after2 [] es2 up E (Keeps new2 (suc zero)) j nj (subst (λ (z : ℕ). Keeps calm2 z (readings_of (t.world.store j))) h F.keeps);
+        noted = pack (Noted j zero None) (next.world.state reign.leader) after2 E.up (λ z. absurd (omega arith));
+        to_come = lands ms q pace reign (at_time ms q pace u t) next _ t.under_way went reign.leader after2 [] es2 E reign.leader j (t.time + pace.delay) (u + pace.delay) [] (body.Lease r.version ∷ [])
+            (let a = M.later in omega arith) (omega arith)
+            (subst (λ (z : ℕ). Carries ms reign t.world.messages reign.leader j (t.time + pace.delay) (drop z (to_peon reign pace calm2)) (t.under_way reign.leader j)) h F.to_come)
+            (gives_each ms q reign here2 _ j qj nj (S.members j qj));
+        to_take = same_carried ms q pace reign t next u M.later _ t.under_way went reign.leader s after2 [] es2 up E j reign.leader []
+            (subst (λ (z : ℕ). Carries ms reign t.world.messages j reign.leader (t.time + pace.delay) (drop (suc zero) (take (said z) (to_leader reign pace calm2))) (t.under_way j reign.leader)) h
+            (subst (λ (z : ℕ). Carries ms reign t.world.messages j reign.leader (t.time + pace.delay) (drop z (take (said F.heard) (to_leader reign pace calm2))) (t.under_way j reign.leader)) g F.to_take))
+            (gives_no_leader ms q reign here2 _ j reign.leader nj);
+      }
+
+  pub renews : Steady ms q pace reign (record r { latest = u; before = r.latest; next = None }) next
+  renews = record {
+    leads = S.leads;
+    second = S.second;
+    second_in = S.second_in;
+    second_is = S.second_is;
+    members = S.members;
+    short = S.short;
+    since = (let a = S.since in let b = late in omega arith);
+    reached = (let c = went.time in omega arith);
+    ordered = (let b = late in omega arith);
+    renewed = (let a = S.renewed in let b = late in omega arith);
+    apart = (let a = in_time in omega arith);
+    only_renewed = λ _. in_time;
+    epoch = ap epoch_of (E.kept tt) ∙ S.epoch;
+    last = ap (λ (z : Readings). z.last) (E.kept tt) ∙ S.last;
+    fits = S.fits;
+    lead = pack (LeadsSince reign q now2) (next.world.state reign.leader) after2 E.up
+        (extends reign q S.second now2 after2 (few ms q pace reign calm2 t S) S.second_in S.second_is L.leads L.quorum L.number refl refl (room reign.leader S.leads)
+        bare (disarmed_size timer.Renew s.timers L.kinds) (bare_renewing reign q (r.latest + pace.clock reign.leader) s L (L.heard all_acked)) (room reign.leader S.leads)
+        (all_extended now2 (room reign.leader S.leads) bare (disarmed_size timer.Renew s.timers L.kinds) (bare_renewing reign q (r.latest + pace.clock reign.leader) s L (L.heard all_acked)) (not (is_empty s.clients.queue)) (is_empty (members me2 s.leader.quorum))));
+    peons = λ j qj nj. renewed_peon j qj nj (S.peons j qj nj);
+    others = λ f j qf qj a. same_carried ms q pace reign t next u M.later _ t.under_way went reign.leader s after2 [] es2 up E f j [] (S.others f j qf qj a) (gives_apart ms q reign here2 _ f j a);
+  }

@@ -1,0 +1,121 @@
+-- A quorum stays led if what was under way to one peon or from it changes, and nothing else does.
+use Rattle.mon_msg.specs.Protocol.Changes.{Change}
+use Rattle.mon_msg.specs.Protocol.Readings.{epoch_of, readings_of}
+use Rattle.mon_msg.specs.Protocol.State.{State}
+use Rattle.mon_types.specs.Ranks.{has}
+use Rattle.quorum_model.specs.Monitors.{Monitors}
+use Rattle.quorum_model.specs.World.{Envelope, Event}
+use Rattle.quorum_stays.proofs.Carrying.{Gives}
+use Rattle.quorum_stays.proofs.Stepping.{Did}
+use Rattle.quorum_stays.proofs.Turning.{same_carried, untouched}
+use Rattle.quorum_stays.specs.Steady.{AreApart, Carries, Follower, Leads, Noted, Reign, Round, Steady, said, to_leader, to_peon}
+use Rattle.quorum_timed.specs.Timed.{Owed, Pace, Timed, Went, at_time}
+use Rattle.std.proofs.Common.{Bool, List, Some, [], arith, drop, inl, inr, subst, sym, take, true, ℕ, ◌+◌, ◌∙◌, ◌≡◌, ◌≤◌, ◌⊎◌}
+use Rattle.std.proofs.lemmas.Bool.{cases_eq}
+use Rattle.std.specs.Prelude.{IsSomeAnd}
+
+-- a peon in a world
+abbrev pub PeonIn : Monitors → List Bool → Pace → Reign → Round → Timed → ℕ → (ℕ → ℕ → List Owed) → Type 0
+PeonIn ms q pace reign r t i left = Follower ms q pace reign r t.world.messages (t.time + pace.delay) i (t.world.state i) (t.world.state reign.leader)
+    (readings_of (t.world.store i)) (left reign.leader i) (left i reign.leader)
+
+module _ (ms : Monitors) (q : List Bool) (pace : Pace) (reign : Reign) (r : Round) (t : Timed) where
+  -- other lists of what is under way
+  pub with_lists : (i : ℕ) (F : PeonIn ms q pace reign r t i t.under_way) (left : ℕ → ℕ → List Owed) → left reign.leader i ≡ t.under_way reign.leader i → left i reign.leader ≡ t.under_way i reign.leader
+      → PeonIn ms q pace reign r t i left
+  with_lists i F left down up = record {
+    heard = F.heard;
+    taken = F.taken;
+    sent = F.sent;
+    answered = F.answered;
+    follows = F.follows;
+    lease = F.lease;
+    epoch = F.epoch;
+    promise = F.promise;
+    keeps = F.keeps;
+    noted = F.noted;
+    to_come = subst (Carries ms reign t.world.messages reign.leader i (t.time + pace.delay) (drop F.heard (to_peon reign pace r))) (sym down) F.to_come;
+    to_take = subst (Carries ms reign t.world.messages i reign.leader (t.time + pace.delay) (drop F.taken (take (said F.heard) (to_leader reign pace r)))) (sym up) F.to_take;
+  }
+
+  module _ (S : Steady ms q pace reign r t) (left : ℕ → ℕ → List Owed) where
+    rebuilt : ((j : ℕ) → has q j ≡ true → (j ≡ reign.leader → ⊥) → PeonIn ms q pace reign r t j left)
+        → ((f j : ℕ) → has q f ≡ true → has q j ≡ true → AreApart reign.leader f j → Carries ms reign t.world.messages f j (t.time + pace.delay) [] (left f j))
+        → Steady ms q pace reign r (record t { under_way = left })
+    rebuilt peons others = record {
+      leads = S.leads;
+      second = S.second;
+      second_in = S.second_in;
+      second_is = S.second_is;
+      members = S.members;
+      short = S.short;
+      since = S.since;
+      reached = S.reached;
+      ordered = S.ordered;
+      renewed = S.renewed;
+      apart = S.apart;
+      only_renewed = S.only_renewed;
+      epoch = S.epoch;
+      last = S.last;
+      fits = S.fits;
+      lead = S.lead;
+      peons = peons;
+      others = others;
+    }
+
+    -- only what is under way to peon i, or from it
+    pub replaced_peon : (i : ℕ) → PeonIn ms q pace reign r t i left
+        → ((j : ℕ) → (j ≡ i → ⊥) → (j ≡ reign.leader → ⊥) → (left reign.leader j ≡ t.under_way reign.leader j) × (left j reign.leader ≡ t.under_way j reign.leader))
+        → ((f j : ℕ) → AreApart reign.leader f j → left f j ≡ t.under_way f j)
+        → Steady ms q pace reign r (record t { under_way = left })
+    replaced_peon i F same apart = rebuilt (λ j qj nj. elim (cases_eq j i) [
+      | inl e ↦ subst (λ (z : ℕ). PeonIn ms q pace reign r t z left) (sym e) F
+      | inr ne ↦ (let k = same j ne nj in with_lists j (S.peons j qj nj) left k.0 k.1)
+    ]) (λ f j qf qj a. subst (Carries ms reign t.world.messages f j (t.time + pace.delay) []) (sym (apart f j a)) (S.others f j qf qj a))
+
+    -- only what is under way among peons, or from the leader to itself
+    pub replaced_other : ((j : ℕ) → (j ≡ reign.leader → ⊥) → (left reign.leader j ≡ t.under_way reign.leader j) × (left j reign.leader ≡ t.under_way j reign.leader))
+        → ((f j : ℕ) → has q f ≡ true → has q j ≡ true → AreApart reign.leader f j → Carries ms reign t.world.messages f j (t.time + pace.delay) [] (left f j))
+        → Steady ms q pace reign r (record t { under_way = left })
+    replaced_other same others = rebuilt (λ j qj nj. (let k = same j nj in with_lists j (S.peons j qj nj) left k.0 k.1)) others
+
+-- An event at a member `at`, which is peon i or the leader, about that peon.
+module _ (ms : Monitors) (q : List Bool) (pace : Pace) (reign : Reign) (r : Round) (t : Timed) (S : Steady ms q pace reign r t) (next : Timed) (u : ℕ) (later : t.time ≤ u) (e : Event)
+    (left : ℕ → ℕ → List Owed) (went : Went ms q pace (at_time ms q pace u t) e left next) (at : ℕ) (s after : State) (cs : List Change) (es : List Envelope)
+    (up : t.world.state at ≡ Some s) (D : Did t.world next.world at after cs es) where
+  pub one_peon : (i : ℕ) → (i ≡ reign.leader → ⊥) → ((at ≡ i) ⊎ (at ≡ reign.leader)) → PeonIn ms q pace reign r next i next.under_way
+      → ((j : ℕ) → (j ≡ i → ⊥) → (j ≡ reign.leader → ⊥) → (left reign.leader j ≡ t.under_way reign.leader j) × (left j reign.leader ≡ t.under_way j reign.leader))
+      → ((f j : ℕ) → AreApart reign.leader f j → left f j ≡ t.under_way f j)
+      → (epoch_of (readings_of (next.world.store reign.leader)) ≡ reign.epoch) × ((readings_of (next.world.store reign.leader)).last ≡ r.version)
+      → IsSomeAnd (next.world.state reign.leader) (Leads ms.count q pace reign r r.next)
+      → ((j : ℕ) → (j ≡ i → ⊥) → (taken : ℕ) → IsSomeAnd (t.world.state reign.leader) (Noted j taken r.next) → IsSomeAnd (next.world.state reign.leader) (Noted j taken r.next))
+      → ((f j : ℕ) → (f ≡ reign.leader → j ≡ i → ⊥) → (f ≡ i → j ≡ reign.leader → ⊥) → Gives ms reign f j [] es)
+      → Steady ms q pace reign r next
+  unfolding with_lists
+  one_peon i ni which F same apart keeps leads noted gives = record {
+    leads = S.leads;
+    second = S.second;
+    second_in = S.second_in;
+    second_is = S.second_is;
+    members = S.members;
+    short = S.short;
+    since = S.since;
+    reached = (let a = S.reached in let c = went.time in omega arith);
+    ordered = S.ordered;
+    renewed = S.renewed;
+    apart = S.apart;
+    only_renewed = S.only_renewed;
+    epoch = keeps.0;
+    last = keeps.1;
+    fits = S.fits;
+    lead = leads;
+    peons = λ j qj nj. elim (cases_eq j i) [
+      | inl is ↦ subst (λ (z : ℕ). PeonIn ms q pace reign r next z next.under_way) (sym is) F
+      | inr ne ↦ (let k = same j ne nj in let G = S.peons j qj nj in
+          untouched ms q pace reign t next u later e left went at s after cs es up D r j (λ z. elim which [ inl a ↦ ne (z ∙ a) | inr a ↦ nj (z ∙ a) ])
+          (with_lists ms q pace reign r t j G left k.0 k.1) (noted j ne G.taken G.noted) (gives reign.leader j (λ _ b. ne b) (λ _ b. nj b)) (gives j reign.leader (λ a _. nj a) (λ a _. ne a)))
+    ];
+    others = λ f j qf qj a. same_carried ms q pace reign t next u later e left went at s after cs es up D f j []
+        (subst (Carries ms reign t.world.messages f j (t.time + pace.delay) []) (sym (apart f j a)) (S.others f j qf qj a))
+        (gives f j (λ x y. ni (sym y ∙ a.0 x)) (λ x y. ni (sym x ∙ a.1 y)));
+  }
