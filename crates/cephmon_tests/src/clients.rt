@@ -1,53 +1,44 @@
-//! A client that follows a map.
+//! Clients that follow a map.
 
-use crate::rig::*;
-use cephmon_run::Status;
-use mon_link::{Got, MemoryLink, MemorySink, MemorySource};
-use std::alloc::Global;
-use std::test::Fail;
+/// A client ends as its link does, or after its iterations. It asks one monitor after the other.
+pub const CLIENT_ENDS: &str = "\
+> run follow kv 127.0.0.1:6789,127.0.0.1:6790,127.0.0.1:6791 5
+monitor 0 011800030000000000000000010000000000000005010000000000000000
+waits 1000
+status 0, \"\"
+> failing-receives 1
+> run follow kv 127.0.0.1:6789,127.0.0.1:6790,127.0.0.1:6791 5
+monitor 0 011800030000000000000000010000000000000005010000000000000000
+waits 1000
+status 7, \"link fault\"
+> idle
+> run follow kv 127.0.0.1:6789,127.0.0.1:6790,127.0.0.1:6791 1
+monitor 0 011800030000000000000000010000000000000005010000000000000000
+monitor 1 011800030000000000000000020000000000000005010000000000000000
+waits 1000
+status 11, \"turns used\"
+";
 
-/// Runs a client for one iteration, over a link that returns these and whose calls with these numbers fail. Returns its
-/// status, the number of its requests, and the number of bytes that it wrote.
-fn followed(
-    alloc: Global,
-    got: Vec<Got>,
-    failing: Vec<u64>,
-) -> Result<(Status, usize, usize), Fail> {
-    let words = words_of(alloc, "follow kv 127.0.0.1:6789 1")?;
-    let ended = run_over(
-        alloc,
-        &words,
-        MemorySource::new(Vec::new(alloc), Vec::new(alloc)),
-        MemorySink::new(alloc, Vec::new(alloc)),
-        empty_disks(alloc),
-        MemoryLink::new(alloc, got, failing, Vec::new(alloc)),
-    );
-    let result_of = (
-        ended.status,
-        ended.link.sent().len(),
-        ended.sink.written().len(),
-    );
-    drop(ended);
-    Ok(result_of)
-}
-
-#[test]
-fn a_client_ends_as_its_link_does(rt: HostRuntime) -> Result<(), Fail> {
-    let alloc = rt.alloc();
-    let none = Vec::new(alloc);
-    assert_eq!(rt;
-        followed(alloc, Vec::new(alloc), none)?,
-        (Status::Done, 1, 0)
-    );
-    let idle = vec![in alloc; Got::Idle]?;
-    assert_eq!(rt;
-        followed(alloc, idle, Vec::new(alloc))?,
-        (Status::TurnsUsed, 2, 0)
-    );
-    let failing = vec![in alloc; 1]?;
-    assert_eq!(rt;
-        followed(alloc, Vec::new(alloc), failing)?,
-        (Status::LinkFault, 1, 0)
-    );
-    Ok(())
-}
+/// Of these replies a client takes the version 1 and the version 26, and asks for what follows. It ignores a reply of
+/// another monitor than its sender, a version that it has, changes after a version that it does not have, a reply to a
+/// change, and a faulty change.
+pub const FOLLOWED: &str = "\
+> monitor 1 011900030000000000000000010000000000000003010000000000000000000100080000000101610100000078
+> monitor 0 011900030000000000000000010000000000000003010000000000000000000100080000000101610100000078
+> monitor 0 011900030000000000000000010000000000000003010000000000000000000100080000000101610100000078
+> monitor 0 011900030000000000000000010000000000000003010200000000000000000100080000000101610100000078
+> idle
+> monitor 0 0119000300000000000000000100000000000000020128000000000000001a000000000000000b0000000100000001610100000078
+> monitor 0 01190003000000000000000001000000000000000201280000000000000001000000000000000b0000000100000001610100000078
+> monitor 0 0119000300000000000000000100000000000000010100000000000000
+> monitor 0 011900030000000000000000010000000000000003011a000000000000000001000100000009
+> idle
+> run follow kv 127.0.0.1:6789,127.0.0.1:6790,127.0.0.1:6791 20
+monitor 0 011800030000000000000000010000000000000005010000000000000000
+monitor 1 011800030000000000000000020000000000000005010100000000000000
+monitor 2 011800030000000000000000030000000000000005011a00000000000000
+waits 1000 1000 1000 1000 1000 1000 1000 1000 1000 1000 1000
+kv version=1 {\"a\":\"x\"}
+kv version=26 {\"a\":\"x\"}
+status 0, \"\"
+";

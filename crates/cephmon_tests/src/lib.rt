@@ -6,12 +6,18 @@
 #[cfg(test)]
 mod clients;
 #[cfg(test)]
-mod nodes;
+mod imports;
 #[cfg(test)]
-mod replays;
+mod leaders;
+#[cfg(test)]
+mod nodes;
 #[cfg(test)]
 mod rig;
 #[cfg(test)]
+mod running;
+#[cfg(test)]
+mod schedules;
+#[cfg(test)]
 mod statuses;
 #[cfg(test)]
-mod stopped;
+mod stores;

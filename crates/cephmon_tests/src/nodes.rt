@@ -1,89 +1,251 @@
-//! A node that is asked over a link in memory, and the next one on its disks.
+//! Monitors that serve.
 
-use crate::rig::*;
-use cephmon_run::Status;
-use mon_bytes::Bytes;
-use mon_disk::{MemoryDisk, NodeDisks};
-use mon_link::{Got, MemoryLink, MemorySink, MemorySource, Peer};
-use std::alloc::Global;
-use std::test::Fail;
+/// What was answered is shown by the next node on the same disks.
+pub const SHOWN: &str = "\
+> client 3 01180001000000000000000007000000000000000101610100000078
+> run node 0 1 classic 127.0.0.1:6789 a b 9
+client 3 0119000102000000000000000700000000000000010100000000000000
+waits 1000 1000
+status 0, \"\"
+> client 3 01180001000000000000000008000000000000000401
+> run node 0 1 classic 127.0.0.1:6789 a b 9
+client 3 01190001040000000000000008000000000000000201010000000000000001000000000000000b0000000100000001610100000078
+waits 1000 1000
+status 0, \"\"
+";
 
-/// The arguments of a node that is the only monitor, for at most nine iterations.
-const ALONE: &str = "node 0 1 classic 127.0.0.1:6789 a b 9";
+/// A command is answered after it is kept. The calls 12 to 15 of disk A are those with which its transaction is kept.
+pub const KEPT: &str = "\
+> empty-disks
+> failing-a 12 1
+> clock 5
+> client 3 01180001000000000000000007000000000000000101610100000078
+> run node 0 1 classic 127.0.0.1:6789 a b 9
+waits 1000
+status 6, \"disk fault\"
+> power-cut
+> run dump-keys 0 1 a b
+monitor / boot_count
+monitor / election_epoch
+paxos / accepted_pn
+paxos / last_pn
+status 0, \"\"
+> empty-disks
+> failing-a 14 0
+> clock 5
+> client 3 01180001000000000000000007000000000000000101610100000078
+> run node 0 1 classic 127.0.0.1:6789 a b 9
+waits 1000
+status 6, \"disk fault\"
+> power-cut
+> run dump-keys 0 1 a b
+monitor / boot_count
+monitor / election_epoch
+paxos / accepted_pn
+paxos / last_pn
+status 0, \"\"
+> empty-disks
+> failing-a 14 1
+> clock 5
+> client 3 01180001000000000000000007000000000000000101610100000078
+> run node 0 1 classic 127.0.0.1:6789 a b 9
+waits 1000
+status 6, \"disk fault\"
+> power-cut
+> run dump-keys 0 1 a b
+kv / 1
+kv / first_committed
+kv / last_committed
+monitor / boot_count
+monitor / election_epoch
+paxos / 1
+paxos / accepted_pn
+paxos / first_committed
+paxos / last_committed
+paxos / last_pn
+status 0, \"\"
+> empty-disks
+> failing-a 15 0
+> clock 5
+> client 3 01180001000000000000000007000000000000000101610100000078
+> run node 0 1 classic 127.0.0.1:6789 a b 9
+waits 1000
+status 6, \"disk fault\"
+> power-cut
+> run dump-keys 0 1 a b
+monitor / boot_count
+monitor / election_epoch
+paxos / accepted_pn
+paxos / last_pn
+status 0, \"\"
+> empty-disks
+> failing-a 15 1
+> clock 5
+> client 3 01180001000000000000000007000000000000000101610100000078
+> run node 0 1 classic 127.0.0.1:6789 a b 9
+waits 1000
+status 6, \"disk fault\"
+> power-cut
+> run dump-keys 0 1 a b
+kv / 1
+kv / first_committed
+kv / last_committed
+monitor / boot_count
+monitor / election_epoch
+paxos / 1
+paxos / accepted_pn
+paxos / first_committed
+paxos / last_committed
+paxos / last_pn
+status 0, \"\"
+> empty-disks
+> failing-a 16 0
+> clock 5
+> client 3 01180001000000000000000007000000000000000101610100000078
+> run node 0 1 classic 127.0.0.1:6789 a b 9
+client 3 0119000102000000000000000700000000000000010100000000000000
+waits 1000 1000
+status 0, \"\"
+> power-cut
+> run dump-keys 0 1 a b
+kv / 1
+kv / first_committed
+kv / last_committed
+monitor / boot_count
+monitor / election_epoch
+paxos / 1
+paxos / accepted_pn
+paxos / first_committed
+paxos / last_committed
+paxos / last_pn
+status 0, \"\"
+";
 
-/// A client's request to set `a` to `x`.
-pub const SET: &[u8] = b"\x01\x18\0\x01\0\0\0\0\0\0\0\0\x07\0\0\0\0\0\0\0\x01\x01a\x01\0\0\0x";
+/// A checkpoint that is due is made before anything is sent. The calls 2 to 7 of disk B are those of the checkpoint.
+/// The header of disk A is of the first form, so a checkpoint is due.
+pub const NODE_CHECKPOINT: &str = "\
+> empty-disks
+> stored-a 01434550484d4f4e310003000000000000010000000000000000
+> failing-b 7 0
+> idle
+> run node 0 3 classic 127.0.0.1:6789,127.0.0.1:6790,127.0.0.1:6791 a b 1
+status 6, \"disk fault\"
+> empty-disks
+> stored-a 01434550484d4f4e310003000000000000010000000000000000
+> failing-b 8 0
+> idle
+> run node 0 3 classic 127.0.0.1:6789,127.0.0.1:6790,127.0.0.1:6791 a b 1
+monitor 1 010100030100000000000000
+monitor 2 010100030100000000000000
+waits 1000
+status 11, \"turns used\"
+";
 
-/// The reply: the command is done, as version 1.
-const DONE: &[u8] = b"\x01\x19\0\x01\x02\0\0\0\0\0\0\0\x07\0\0\0\0\0\0\0\x01\x01\0\0\0\0\0\0\0";
+/// A message is heard only if it is whole and of the monitor or client that it names. Of these a PROBE and a request
+/// are answered, and nothing is kept.
+pub const HEARD: &str = "\
+> monitor 1 010101030100000000000000
+> monitor 2 010101030100000000000000
+> client 3 010101030100000000000000
+> monitor 1 010101020100000000000000
+> monitor 0 010100030100000000000000
+> client 3 01180003000000000000000009000000000000000401
+> monitor 0 0118000300000000000000000a000000000000000401
+> client 3 01180001000000000000000008000000000000000401
+> monitor 1 011901030100000000000000080000000000000007
+> client 3 011901030100000000000000080000000000000007
+> client 3 -
+> client 3 01
+> client 3 02
+> client 3 01*60001
+> run node 0 3 classic 127.0.0.1:6789,127.0.0.1:6790,127.0.0.1:6791 a b 14
+monitor 1 010100030100000000000000
+monitor 2 010100030100000000000000
+monitor 1 010200030100000000000000000000000000000000000000000000000000
+client 3 011900030100000000000000090000000000000007
+waits 1000 1000 1000 1000 1000 1000 1000 1000 1000 1000 1000 1000 1000 1000
+status 11, \"turns used\"
+> run dump-keys 0 3 a b
+monitor / boot_count
+monitor / election_epoch
+status 0, \"\"
+";
 
-/// A client's request for the map of the key-value service.
-const SHOW: &[u8] = b"\x01\x18\0\x01\0\0\0\0\0\0\0\0\x08\0\0\0\0\0\0\0\x04\x01";
+/// A node ends as its link does. Messages that could not be sent are lost.
+pub const NODE_ENDS: &str = "\
+> failing-sends 1 2
+> run node 0 3 classic 127.0.0.1:6789,127.0.0.1:6790,127.0.0.1:6791 a b 9
+monitor 1 010100030100000000000000
+monitor 2 010100030100000000000000
+waits 1000
+status 0, \"\"
+> empty-disks
+> idle
+> failing-sends 1 2
+> run node 0 3 classic 127.0.0.1:6789,127.0.0.1:6790,127.0.0.1:6791 a b 1
+monitor 1 010100030100000000000000
+monitor 2 010100030100000000000000
+waits 1000
+status 11, \"turns used\"
+> empty-disks
+> failing-sends 1 2
+> failing-receives 1
+> run node 0 3 classic 127.0.0.1:6789,127.0.0.1:6790,127.0.0.1:6791 a b 9
+monitor 1 010100030100000000000000
+monitor 2 010100030100000000000000
+waits 1000
+status 7, \"link fault\"
+> empty-disks
+> idle
+> failing-sends 1 2
+> failing-receives 2
+> run node 0 3 classic 127.0.0.1:6789,127.0.0.1:6790,127.0.0.1:6791 a b 9
+monitor 1 010100030100000000000000
+monitor 2 010100030100000000000000
+waits 1000 1000
+status 7, \"link fault\"
+";
 
-/// The reply after a second start: the map of version 1, in which `a` is `x`.
-const SHOWN: &[u8] =
-    b"\x01\x19\0\x01\x04\0\0\0\0\0\0\0\x08\0\0\0\0\0\0\0\x02\x01\x01\0\0\0\0\0\0\0\x01\0\0\0\0\0\0\0\x0b\0\0\0\x01\0\0\0\x01a\x01\0\0\0x";
+/// A disk that fails, a disk that holds no store, and the store of another monitor.
+pub const NODE_REFUSED: &str = "\
+> failing-a 1 0
+> run node 0 1 classic 127.0.0.1:6789 a b 9
+status 6, \"disk fault\"
+> empty-disks
+> stored-a 00*27
+> run node 0 1 classic 127.0.0.1:6789 a b 9
+status 8, \"not a store: disk a at 0\"
+> empty-disks
+> run node 1 3 classic 127.0.0.1:6789,127.0.0.1:6790,127.0.0.1:6791 a b 9
+monitor 0 010101030100000000000000
+monitor 2 010101030100000000000000
+waits 1000
+status 0, \"\"
+> run node 2 3 classic 127.0.0.1:6789,127.0.0.1:6790,127.0.0.1:6791 a b 9
+status 9, \"store of 1 of 3, asked for 2 of 3\"
+";
 
-/// These datagrams, as a client sends them.
-pub fn asked(alloc: Global, datagrams: &[&[u8]]) -> Result<Vec<Got>, Fail> {
-    let mut got = Vec::new(alloc);
-    for bytes in datagrams {
-        let bytes = Bytes::new(bytes.to_vec(alloc)?);
-        let from = Peer::Client(3);
-        got.push(Got::Datagram { from, bytes })?;
-    }
-    Ok(got)
-}
+/// No proposal number is left.
+pub const SPENT: &str = "\
+> bytes 434550484558503100018001000000057061786f73076c6173745f706e080000000000000000000040
+> run store-import 0 1 a b
+status 0, \"\"
+> run node 0 1 classic 127.0.0.1:6789 a b 9
+status 10, \"spent: Pn\"
+";
 
-/// Serves over a link that gives these, and then is closed.
-pub fn serve(
-    alloc: Global,
-    words: &[String],
-    disks: NodeDisks<MemoryDisk>,
-    got: Vec<Got>,
-) -> RunResult {
-    run_over(
-        alloc,
-        words,
-        MemorySource::new(Vec::new(alloc), Vec::new(alloc)),
-        MemorySink::new(alloc, Vec::new(alloc)),
-        disks,
-        MemoryLink::new(alloc, got, Vec::new(alloc), Vec::new(alloc)),
-    )
-}
-
-/// The status of a node that ended, whether all that it sent is this answer to the client, and how often it asked its
-/// link.
-fn result_of(ended: &RunResult, answer: &[u8]) -> (Status, bool, usize) {
-    let is_answer = match ended.link.sent() {
-        [one] => one.to == Peer::Client(3) && one.bytes.as_slice() == answer,
-        _ => false,
-    };
-    (ended.status, is_answer, ended.link.waits().len())
-}
-
-pub fn disks_of(ended: RunResult) -> NodeDisks<MemoryDisk> {
-    let RunResult {
-        sink,
-        disks,
-        link,
-        ..
-    } = ended;
-    drop(sink);
-    drop(link);
-    disks
-}
-
-#[test]
-fn what_was_answered_is_shown_by_the_next_node(rt: HostRuntime) -> Result<(), Fail> {
-    let alloc = rt.alloc();
-    let words = words_of(alloc, ALONE)?;
-    let set = asked(alloc, &[SET])?;
-    let show = asked(alloc, &[SHOW])?;
-    let first = serve(alloc, &words, empty_disks(alloc), set);
-    assert_eq!(rt; result_of(&first, DONE), (Status::Done, true, 2));
-    let second = serve(alloc, &words, disks_of(first), show);
-    assert_eq!(rt; result_of(&second, SHOWN), (Status::Done, true, 2));
-    drop(second);
-    Ok(())
-}
+/// A wait ends with the timer that is due next. A monitor of three probes at 0, and again at 2000.
+pub const WAITS: &str = "\
+> clock 0 1 1700 1999 2000 2001
+> idle
+> idle
+> idle
+> idle
+> run node 1 3 classic 127.0.0.1:6789,127.0.0.1:6790,127.0.0.1:6791 a b 5
+monitor 0 010101030100000000000000
+monitor 2 010101030100000000000000
+monitor 0 010101030100000000000000
+monitor 2 010101030100000000000000
+waits 1000 300 1 1000
+status 11, \"turns used\"
+";

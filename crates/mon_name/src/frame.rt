@@ -34,8 +34,7 @@ pub fn framed(alloc: Global, tag: u64, datagram: &[u8]) -> Result<Bytes, OutOfMe
     Ok(Bytes::new(out.into_bytes()))
 }
 
-/// A datagram in the frame of a tag, in which the number of a life replaces the sender's boot if it is a piece of a long
-/// message.
+/// A datagram in the frame of a tag. In a piece of a long message, the number of a life replaces the sender's boot.
 pub(crate) fn framed_for(
     alloc: Global,
     tag: u64,

@@ -40,8 +40,8 @@ fn came(alloc: Global, tag: u64, rank: Rank, bytes: &[u8]) -> Result<Option<Got>
     }))
 }
 
-/// What was given, without its frame. `None` if it is a foreign datagram: one from a monitor's address that isn't in the
-/// frame of this tag.
+/// What was given, without its frame. `None` if it is a foreign datagram: one from a monitor's address that isn't in
+/// the frame of this tag.
 fn opened(alloc: Global, tag: u64, got: Got) -> Result<Option<Got>, OutOfMemory>
     ensures { Opens tag got result }
 {

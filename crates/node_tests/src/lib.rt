@@ -1,13 +1,7 @@
-//! Tests of a monitor that serves: over links, clocks and disks in memory.
+//! Tests of the maps that a monitor keeps, and of what a trim erases.
 #![tactic(auto)]
 
 #[cfg(test)]
-mod alone;
-#[cfg(test)]
 mod maps;
-#[cfg(test)]
-mod rig;
-#[cfg(test)]
-mod stepping_down;
 #[cfg(test)]
 mod trims;

@@ -6,16 +6,10 @@ mod digits;
 #[cfg(test)]
 mod frag;
 #[cfg(test)]
-mod links;
-#[cfg(test)]
 mod made;
-#[cfg(test)]
-mod naming;
 #[cfg(test)]
 mod rules;
 #[cfg(test)]
 mod schedule;
-#[cfg(test)]
-mod sources;
 #[cfg(test)]
 mod wire;

@@ -68,9 +68,7 @@ fn total(of: u8) -> Result<u64, Fail> {
 
 #[test]
 fn a_total_is_what_the_others_give(rt: HostRuntime) -> Result<(), Fail> {
-    assert_eq!(rt; total(0)?, 1_000_000);
-    assert_eq!(rt; total(1)?, 2_000_000);
-    assert_eq!(rt; total(2)?, 2_000_000);
+    assert!(rt; [total(0)?, total(1)?, total(2)?] == [1_000_000, 2_000_000, 2_000_000]);
     Ok(())
 }
 

@@ -194,9 +194,12 @@ fn the_place_of_a_cut_is_that_of_its_field(rt: HostRuntime) -> Result<(), Fail> 
     let alloc = rt.alloc();
     // the last byte of an ACCEPT's version is left out
     let accept = example(8)?.get(..54).ok_or("a front")?;
-    assert!(rt; fault_of(alloc, "")? == Some((MsgKind::Cut, 0)));
-    assert!(rt; fault_of(alloc, "01")? == Some((MsgKind::Cut, 1)));
-    assert!(rt; fault_of(alloc, accept)? == Some((MsgKind::Cut, 20)));
+    for (digits, at) in [("", 0usize), ("01", 1), (accept, 20)] {
+        assert!(rt;
+            fault_of(alloc, digits)? == Some((MsgKind::Cut, at)),
+            "{digits}"
+        );
+    }
     Ok(())
 }
 

@@ -45,13 +45,12 @@ impl Net for Bare {
 }
 
 #[test]
-fn a_link_without_a_network_fails(rt: HostRuntime) -> Result<(), Fail> {
-    let alloc = rt.alloc();
-    let mut link = UdpLink::client(&Bare, Vec::new(alloc));
-    assert!(rt; shown(link.next(1)) == Err(Stop::Failed));
-    assert!(rt; link.send(Peer::Client(0), b"a") == Err(Stop::Failed));
+fn a_link_without_a_network_fails(rt: HostRuntime) {
+    let mut link = UdpLink::client(&Bare, Vec::new(rt.alloc()));
+    let got = shown(link.next(1));
+    let sent = link.send(Peer::Client(0), b"a");
     drop(link);
-    Ok(())
+    assert!(rt; got == Err(Stop::Failed) && sent == Err(Stop::Failed));
 }
 
 /// An address of this machine that nobody hears at.
@@ -62,21 +61,31 @@ fn free_address(rt: &HostRuntime) -> Result<Address, Fail> {
     Ok(Address { host, port })
 }
 
-#[test]
-fn a_client_is_answered(rt: HostRuntime) -> Result<(), Fail> {
-    let alloc = rt.alloc();
-    let addresses = [free_address(&rt)?];
-    let (of_link, of_client) = (addresses.to_vec(alloc)?, addresses.to_vec(alloc)?);
-    let mut link = UdpLink::named(&rt, Rank::known(0), of_link);
-    assert!(rt; shown(link.next(1)) == Ok(None));
+/// Whether a monitor gets nothing, then what a client asks, and the client its answer.
+fn is_answered(rt: &HostRuntime) -> Result<bool, Fail> {
+    let addresses = [free_address(rt)?];
+    let (of_link, of_client) = (addresses.to_vec(rt.alloc())?, addresses.to_vec(rt.alloc())?);
     let monitor = Peer::Monitor(Rank::known(0));
-    let mut client = UdpLink::client(&rt, of_client);
-    assert!(rt; client.send(monitor, b"ask") == Ok(()));
-    assert!(rt; shown(link.next(5_000)) == Ok(Some((Peer::Client(0), b'a', 3))));
-    assert!(rt; link.send(Peer::Client(0), b"here") == Ok(()));
-    assert!(rt; shown(client.next(5_000)) == Ok(Some((monitor, b'h', 4))));
+    let mut link = UdpLink::named(rt, Rank::known(0), of_link);
+    let mut client = UdpLink::client(rt, of_client);
+    let nothing = shown(link.next(1));
+    let asked = client.send(monitor, b"ask");
+    let request = shown(link.next(5_000));
+    let answered = link.send(Peer::Client(0), b"here");
+    let answer = shown(client.next(5_000));
     drop(client);
     drop(link);
+    let passed = asked.is_ok() && answered.is_ok() && nothing == Ok(None);
+    Ok(
+        passed
+            && request == Ok(Some((Peer::Client(0), b'a', 3)))
+            && answer == Ok(Some((monitor, b'h', 4))),
+    )
+}
+
+#[test]
+fn a_client_is_answered(rt: HostRuntime) -> Result<(), Fail> {
+    assert!(rt; is_answered(&rt)?);
     Ok(())
 }
 
@@ -93,17 +102,22 @@ fn is_probe_of(got: Result<Got, Stop>, rank: Rank) -> bool {
     is_probe && from == Peer::Monitor(rank)
 }
 
-#[test]
-fn a_monitor_is_known_by_its_address(rt: HostRuntime) -> Result<(), Fail> {
-    let alloc = rt.alloc();
-    let addresses = [free_address(&rt)?, free_address(&rt)?];
-    let (of_first, of_second) = (addresses.to_vec(alloc)?, addresses.to_vec(alloc)?);
-    let mut first = UdpLink::named(&rt, Rank::known(0), of_first);
-    assert!(rt; shown(first.next(1)) == Ok(None));
-    let mut second = UdpLink::named(&rt, Rank::known(1), of_second);
-    assert!(rt; second.send(Peer::Monitor(Rank::known(0)), PROBE) == Ok(()));
-    assert!(rt; is_probe_of(first.next(5_000), Rank::known(1)));
+/// Whether a monitor gets nothing, and then the PROBE of another one as from its address.
+fn is_known(rt: &HostRuntime) -> Result<bool, Fail> {
+    let addresses = [free_address(rt)?, free_address(rt)?];
+    let (of_first, of_second) = (addresses.to_vec(rt.alloc())?, addresses.to_vec(rt.alloc())?);
+    let mut first = UdpLink::named(rt, Rank::known(0), of_first);
+    let mut second = UdpLink::named(rt, Rank::known(1), of_second);
+    let nothing = shown(first.next(1));
+    let sent = second.send(Peer::Monitor(Rank::known(0)), PROBE);
+    let came = is_probe_of(first.next(5_000), Rank::known(1));
     drop(second);
     drop(first);
+    Ok(nothing == Ok(None) && sent.is_ok() && came)
+}
+
+#[test]
+fn a_monitor_is_known_by_its_address(rt: HostRuntime) -> Result<(), Fail> {
+    assert!(rt; is_known(&rt)?);
     Ok(())
 }
