@@ -261,22 +261,20 @@ def two_values(q: Monitors):
     """Two monitors have different uncommitted values of one version, and a leader hears of both."""
     begin(q, 8)
     q.sets(1, 'a')
-    q.client('b')
-    q.client('a')
     q.pause('bc')
-    q.set_only('of_a', 'a')       # only mon.a has it
+    q.set_only('of_a', 'a')       # only mon.a has it: what was sent to the others is gone when they are killed
     q.wait(1)
-    q.kill('a')
-    q.resume('bc')
+    q.kill('abc')
+    q.start('bc')
     q.until_quorum(2)
-    q.pause('c')
-    q.set_only('of_b', 'b')       # only mon.b has it, under a greater number
+    q.leave('a')
+    q.client('b')
     q.wait(3)
-    q.kill('b')
-    q.resume('c')
-    q.start('a')
-    q.wait(1)
-    q.start('b')
+    q.pause('c')
+    q.set_only('of_the_second', 'b')       # only mon.b has it, under a greater number
+    q.wait(2)
+    q.kill('bc')
+    q.start('abc')
     q.until_quorum()
     q.wait(6)
 

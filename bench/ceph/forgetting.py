@@ -9,17 +9,19 @@ import re
 import time
 from typing import Callable, NamedTuple
 
-from monitors import Late, Monitors, now
+from monitors import Client, Late, Monitors, now
 from watching import Line, Logs, numbers, value
 
 # With Ceph's defaults the first trim is that of version 752, and leaves 252 as the first version. c needs it, and has its promise's chance, with 251 versions.
 LAST, UNTIL = 251, 760
 LEVELS = 'debug_mon = 10\ndebug_paxos = 10\ndebug_ms = 1\nlog_coarse_timestamps = false\nlog_max_recent = 1\n'
-# The health then doesn't change with the quorum, so the first version of an epoch is the client's. And a client waits for a monitor that is paused.
-STEADY = 'mon_down_mkfs_grace = 100000\nmon_client_ping_timeout = 600\n'
-PATIENT = 'mon_client_ping_timeout = 600\n'
-# Seconds: how long an election without all votes takes, when a peon is paused before its end, and how long its leader waits at least for that.
-ELECTION, BEFORE, LEAST = 5, 0.45, 0.9
+# A client waits for a monitor that is paused. librados reconnects if an answer to its ping comes while it looks for one, so it never pings.
+PATIENT = 'mon_client_ping_interval = 1000\n'
+# The health then doesn't change with the quorum, so the first version of an epoch is the client's.
+STEADY = 'mon_down_mkfs_grace = 100000\n' + PATIENT
+# Seconds: how long an election without all votes takes, when a peon is paused before its end, how long its leader waits at least for that, and how long a
+# client's request may take afterwards. The peon calls an election itself a second after the end.
+ELECTION, BEFORE, LEAST, PATIENCE = 5, 0.45, 0.9, 0.7
 RANKS = {'a': 0, 'b': 1, 'c': 2}
 KEY = 'acked'
 HANDLED = 'handle_command mon_command({"prefix": "config-key get"'
@@ -77,15 +79,15 @@ class Turns:
         self.q.pause(self.peon)
         self.q.resume(self.leader)
 
-    def collect(self, since: int, during: Callable[[], object] = lambda: None) -> int:
-        """The leader wins, and hears the peon's LAST. Returns the place after its victory. `during` is called within the election."""
+    def collect(self, since: int, then: Callable[[int], object] = lambda place: None) -> int:
+        """The leader wins, and hears the peon's LAST. Returns the place after its victory. `then` is called with it when COLLECT was sent, and the peon is paused."""
         end = self.end_of_election(since)
-        during()
         time.sleep(max(0.0, end - BEFORE - time.time()))
         self.q.pause(self.peon)
         place, heard = self.logs.place(self.leader) - 2000, self.logs.place(self.peon)
         won = self.logs.until(self.leader, 'win_election', since=place, seconds=8).end
         self.logs.until(self.leader, '--> ', 'paxos(collect', since=won)
+        then(won)
         time.sleep(0.03)
         self.answer('handle_collect', 'paxos(last', heard)
         try:
@@ -137,9 +139,12 @@ class Forgetting:
         q.start('abc')
         q.until_quorum()
         q.wait(6)
-        for short, seconds in ((12, 4.0), (3, 3.0), (0, 0.06)):     # About a second after a change the cluster's log makes a version too.
+        for short, seconds in ((12, 4.0), (3, 3.0)):     # About a second after a change the cluster's log makes a version too.
             self.advance(self.last - short)
             q.wait(seconds)
+        since = self.logs.place('c')
+        self.advance(self.last)
+        self.logs.until('c', f'..{self.last}) ', since=since, seconds=5)
         q.kill('c')
         q.wait(0.5)
         q.kill('ab')
@@ -256,14 +261,26 @@ class Forgetting:
         self.q.wait(0.3)
         self.q.resume('a')
         begun = self.logs.until('c', 'sync_start', since=place).end
-        copied = self.logs.until('c', 'init last_pn', f'last_committed: {version - 1}', since=begun).text
-        return int(re.search(r'accepted_pn: (\d+)', copied)[1])
+        copied = self.logs.until('c', 'init last_pn', f'last_committed: {version - 1}', since=begun)
+        self.vote(copied.end)
+        return int(re.search(r'accepted_pn: (\d+)', copied.text)[1])
+
+    def vote(self, copied: int):
+        """c votes for a. If both stand in one epoch already, it would vote in a's next election, and a would be outside of the quorum for so long that it ends the
+        sessions of its clients. So c starts again, and stands in a later epoch."""
+        sent = self.logs.until('c', '--> ', 'election(', since=copied)
+        try:
+            self.logs.until('c', '--> ', 'election(', ' ack ', since=copied, seconds=0.3)
+        except Late:
+            self.q.note(f'mon.c sent {sent.text[33:160]}, and no vote')
+            self.q.kill('c')
+            self.q.start('c')
 
     def outvote(self, version: int) -> int:
         """a leads with c, commits the client's change, and answers. Returns the status that the client gets."""
         asked: list = []
         turns = Turns(self.q, self.logs, 'a', 'c')
-        won = turns.collect(self.since, lambda: asked.extend(self.q.set_only(KEY, 'a')))
+        won = turns.collect(self.since, lambda place: asked.extend(self.ask_in_time(place)))
         found = turns.begin(won)
         if found != version:
             raise Elsewhere(f'mon.a stored version {found}, and mon.b {version}')
@@ -280,6 +297,12 @@ class Forgetting:
         self.q.kill('ac')
         self.q.leave('a')
         return status
+
+    def ask_in_time(self, won: int) -> tuple[Client, int]:
+        """Asks a for the change while it waits for c's LAST, so that it is in the first version."""
+        asked = self.q.set_only(KEY, 'a')
+        self.logs.until('a', '<== client', f'key={KEY}}}', since=won, seconds=PATIENCE)
+        return asked
 
     def recover(self, version: int) -> int:
         """b and c lead on. Returns the status of a read of the key."""

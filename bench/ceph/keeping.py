@@ -4,6 +4,8 @@ from __future__ import annotations
 import gzip
 import os
 import shutil
+import signal
+import sys
 
 from ceph_log.cutting import cut
 from ceph_log.lines import rows_of
@@ -18,6 +20,11 @@ def lacks(programs: str, within: str, needed: tuple[str, ...] = ('ceph-mon', 'mo
         return ''
     missing = [name for name in needed if shutil.which(name) is None]
     return f'there is no {", ".join(missing)}: install ceph-mon, ceph-common, ceph-base and python3-rados' if missing else ''
+
+
+def end_on_sigterm():
+    """Makes SIGTERM end this process by an exception, so that what it started is ended too."""
+    signal.signal(signal.SIGTERM, lambda number, _: sys.exit(128 + number))
 
 
 def keep(q: Monitors, out: str, is_cut: bool, since: str = ''):

@@ -46,6 +46,6 @@ def chart(q: Quorum, traced: Traced, idle: set[int] | None) -> Chart:
     for rank in range(q.count):
         picture = picture.replace(f'>monitor {rank}<', f'>{escape(q.who(rank))}<')
     picture = picture.replace('<svg ', '<svg class="chart" ', 1)
-    picture = picture.replace('<rect width="100%" height="100%" fill="white"/>',
+    picture = picture.replace('<rect class="paper" width="100%" height="100%"/>',
                               f'<rect class="paper" width="100%" height="100%"/><rect id="here" x="0" y="-99" width="100%" height="{draw.ROW}"/>', 1)
     return Chart(picture, [drawn.x(rank) for rank in range(monitors)], {number: drawn.y(at) for at, number in enumerate(shown, 1)}, len(events) - len(shown))

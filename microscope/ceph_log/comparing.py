@@ -86,7 +86,10 @@ class Comparison:
     def begin(self, event: Event, shadow: Shadow, now: int):
         """Looks whether the log has shown the whole state of a monitor that ran already when the log began."""
         if is_complete(event):
-            shadow.set_to(state_of(self.q, event), now)
+            known = state_of(self.q, event)
+            if known.pending and known.pending[0] == known.last + 1:
+                shadow.put_pending(known.pending[0], known.pending[1] or 1)  # under a number that the log may not show
+            shadow.set_to(known, now)
             if event.is_message('LEASE'):
                 shadow.take_lease(now)
         self.skipped['before the state is known'] += 1
@@ -104,11 +107,13 @@ class Comparison:
             self.compare(event, event, shadow, now)
         elif any(message.kind in TABLED for message in event.sends) or event.before.phase() != event.after.phase():
             self.skip(event, shadow, now, 'no cause in the log')
-        else:
+        elif event.rank not in self.deferred:
             shadow.set_to(event.after, now)
 
     def skip(self, event: Event, shadow: Shadow, now: int, why: str):
         self.skipped[why] += 1
+        if event.kind == 'deliver' and event.rank in self.deferred:
+            return  # the commit that it waits for is under way in another thread, and may show already
         if shadow.is_known or event.kind == 'reconfigured' and event.after.epoch:
             shadow.set_to(event.after, now)
 
@@ -232,11 +237,21 @@ class Comparison:
         near = events[max(0, begun - 3):at + 6]
         verdict.crosses_commit = any(other.kind == 'commit' for other in near) and any(other.has('start_election', 'stands') for other in near)
         following = next((other for other in events[at + 1:] if other.kind != 'other' or other.facts), None)
-        is_cut = following is None or following.kind == 'start'
+        is_cut = following is None or following.kind in ('start', 'stop') or end.after.state == 'shutdown'
+        verdict.is_copied = self.is_copied(event)
         ends_quorum = self.ends_quorum(event, end)
         verdict.known = names_of(event, verdict, shadow.is_connected(), ends_quorum, is_cut)
         if ends_quorum:
             self.strategy.give(shadow)
+
+    def is_copied(self, event: Event) -> bool:
+        """Whether a monitor has copied a whole store before an event, and accepted no value since."""
+        for earlier in reversed(self.q.monitors[event.rank].events[:self.place[id(event)]]):
+            if earlier.has('accepts', 'begins'):
+                return False
+            if any(fact.args[1] == 'full' for fact in earlier.all('sync_start')):
+                return True
+        return False
 
     def ends_quorum(self, event: Event, end: Event) -> bool:
         """Whether the version that an ACCEPT or a COMMIT commits changes the monmap, so that the quorum ends."""

@@ -9,6 +9,9 @@ from .events import Event, ranks_of
 from .lines import SECOND
 from .quorum import Quorum
 
+# Delays are bad if their median is above SLOW seconds, if they were above WORST seconds at least three times, or above STALL seconds once.
+SLOW, WORST, STALL = 0.25, 1.0, 4.0
+
 
 class Delay(NamedTuple):
     """One delay in microseconds, and the event at its end."""
@@ -17,11 +20,12 @@ class Delay(NamedTuple):
 
 
 class Delays:
-    """`accepts`: from the BEGIN to the ACCEPT at the leader, per member. `own`: how long a monitor syncs what it accepts, between a BEGIN and its ACCEPT or, of a
+    """`accepts`: from the BEGIN to the ACCEPT at the leader, per member. `there`: how long its BEGINs took to arrive. `own`: how long a monitor syncs what it accepts, between a BEGIN and its ACCEPT or, of a
     leader, between the proposal and its BEGIN. `commits`: from the last ACCEPT to what the leader's store has."""
 
     def __init__(self, q: Quorum):
         self.accepts: dict[int, list[Delay]] = defaultdict(list)
+        self.there: dict[int, list[Delay]] = defaultdict(list)
         self.own: dict[int, list[Delay]] = defaultdict(list)
         self.commits: dict[int, list[Delay]] = defaultdict(list)
         begun: dict[int, dict[int, int]] = {}
@@ -35,6 +39,8 @@ class Delays:
             else:
                 self.accept(event, begun.get(event.rank, {}))
             if event.is_message('BEGIN'):
+                if event.sent is not None:
+                    self.there[event.rank].append(Delay(event.moment - event.sent.moment, event))
                 answer = next((message for message in event.sends if message.kind == 'ACCEPT'), None)
                 if answer is not None:
                     self.own[event.rank].append(Delay(answer.at - event.at, event))
@@ -65,3 +71,16 @@ def worst(delays: list[Delay]) -> Delay:
 
 def said(delays: list[Delay]) -> str:
     return f'{len(delays)} times, median {1000 * median(delays):.0f} ms, worst {worst(delays).value / 1000:.0f} ms'
+
+
+def is_bad(delays: list[Delay]) -> bool:
+    values = [delay.value / SECOND for delay in delays]
+    return any(value > STALL for value in values) or len(values) >= 3 and (median(delays) > SLOW or sum(value > WORST for value in values) >= 3)
+
+
+def stood_still(q: Quorum, rank: int, delay: Delay) -> bool:
+    """Whether the log of a monitor, which gets a ping each second, has nothing in the midst of a delay of several seconds."""
+    end, monitor = delay.event.moment, q.monitors.get(rank)
+    if monitor is None or not q.levels().get('ms') or delay.value < STALL * SECOND:
+        return False
+    return not any(end - delay.value + SECOND < event.moment < end - SECOND for event in monitor.events)

@@ -5,7 +5,7 @@ from collections import Counter, defaultdict
 from typing import Iterator, NamedTuple
 
 from .conditions import CONDITIONS, Condition
-from .delays import Delay, Delays, median, said, worst
+from .delays import Delays, is_bad, median, said, stood_still, worst
 from .directions import silent_directions
 from .events import Event
 from .levels import DEFAULTS, level_of
@@ -15,8 +15,6 @@ from .timeline import Call, Reign, Timeline
 
 # Elections that follow one another: this many leaders within this time. What else repeats does so OFTEN.
 STORM, OFTEN, WITHIN = 5, 3, 120 * SECOND
-# A delay is bad if its median is above SLOW seconds, or if it was above WORST seconds at least three times.
-SLOW, WORST = 0.25, 1.0
 # A leader that acts this long after another one won is stale.
 STALE = SECOND // 2
 LONE, LEADERLESS, SILENCE = 20 * SECOND, 30 * SECOND, 4 * SECOND
@@ -183,7 +181,8 @@ class Diagnosis:
             return f'The leader {who} had stopped [{stopped.where}].'
         if started is not None and reign.end < event.moment - SECOND and not any(reign.end < other.moment for other in near):
             return f'The leader {who} was killed or stopped without a word, and started again [{started.where}].'
-        if not near:
+        before = next((other for other in reversed(leader.events) if other.moment < event.moment), None)
+        if not near or before is not None and self.q.levels().get('ms') and event.moment - before.moment > SILENCE:     # It gets a ping each second.
             after = next((other for other in leader.events if other.moment >= event.moment), None)
             return f'The leader {who} wrote nothing: it stood still' + (f' until its next line [{after.where}].' if after else ', or its log ends.')
         if near[-1].after.phase() in ('collecting', 'previous', 'updating'):
@@ -195,22 +194,20 @@ class Diagnosis:
 
     def slow_accepts(self) -> Iterator[Finding]:
         for rank, delays in sorted(self.delays.accepts.items()):
-            if not self.is_bad(delays):
+            if not is_bad(delays):
                 continue
-            own = self.delays.own.get(rank, [])
-            cause = 'its messages arrive late' if not own or median(own) < median(delays) / 3 else f'it takes as long itself ({said(own)})'
+            own, there = self.delays.own.get(rank, []), self.delays.there.get(rank, [])
+            cause = ('it wrote nothing in the worst case: it stood still' if stood_still(self.q, rank, worst(delays)) else
+                     f'it takes as long itself ({said(own)})' if own and median(own) >= median(delays) / 3 else
+                     "the leader's messages to it arrive late" if there and median(there) > median(delays) / 2 else 'its messages arrive late')
             yield found('slow accepts', f'{self.q.who(rank)} accepts late: {said(delays)}; {cause}.', [worst(delays).event])
 
     def slow_stores(self) -> Iterator[Finding]:
         for rank in sorted({*self.delays.own, *self.delays.commits}):
             for what, delays in (('between a BEGIN and its ACCEPT', self.delays.own.get(rank, [])), ('to commit', self.delays.commits.get(rank, []))):
-                if self.is_bad(delays):
+                if is_bad(delays):
                     yield found('slow store', f'{self.q.who(rank)} takes long {what}: {said(delays)}.', [worst(delays).event])
                     break
-
-    @staticmethod
-    def is_bad(delays: list[Delay]) -> bool:
-        return len(delays) >= 3 and (median(delays) > SLOW or sum(delay.value > WORST * SECOND for delay in delays) >= 3)
 
     def clocks(self) -> Iterator[Finding]:
         skewed = {rank: ahead for rank, ahead in self.q.ahead.items() if abs(ahead) > SKEW}

@@ -124,6 +124,8 @@ class Judge:
         if event.kind == 'start' and rank in self.promised:
             kept = max(own if own % 100 == rank else 0, stored)
             self.test('promises', kept >= promised, f'{self.who(rank)} promised {promised}, and keeps {kept} after its restart', event)
+            if promised % 100 == rank:
+                self.promised[rank] = stored  # A leader's own number isn't stored as a promise: it sends nothing under it after a start.
         elif event.kind != 'start' and event.has('sync_finish') and not event.has('takes_recent') and stored < promised:
             self.test('promises', False, f'{self.who(rank)} promised {promised}, and its store has {stored} after the full copy', event)
             self.promised[rank] = stored

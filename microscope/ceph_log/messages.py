@@ -86,7 +86,12 @@ def of_probe(text: str) -> tuple[str, dict] | None:
 
 def of_sync(text: str) -> tuple[str, dict] | None:
     found = SYNC.match(text)
-    return found and (KINDS[found[1]], {'cookie': found[2], 'last': number(found[3]), 'bytes': number(found[4])})
+    if found is None:
+        return None
+    kind = KINDS[found[1]]
+    # A last version of 0 isn't printed.
+    last = number(found[3]) or (0 if kind == 'GET_COOKIE_RECENT' else None)
+    return kind, {'cookie': found[2], 'last': last, 'bytes': number(found[4])}
 
 
 def of_ping(text: str) -> tuple[str, dict] | None:

@@ -31,7 +31,8 @@ class Monitor:
         self.known = Known()
         self.current: dict[str, Event] = {}
         self.latest: Event | None = None
-        self.has_messages = False
+        self.has_messages = self.is_committing = False
+        self.waiting: set[int] = set()  # events whose messages came while a commit was under way: it is handled before them
         for index, line in enumerate(lines, 1):
             self.take(line, index)
         self.close()
@@ -80,6 +81,7 @@ class Monitor:
             self.events.append(event)
         assert event is not None
         event.facts.append(fact)
+        self.is_committing = fact.name == 'commit_start' or self.is_committing and event.kind != 'commit'
         if fact.name == 'begins':
             self.sizes[int(fact.args[0])] = int(fact.args[1])
         elif fact.name == 'rank' and int(fact.args[1]) >= 0:
@@ -168,12 +170,17 @@ class Monitor:
         found = CAME.match(line.text)
         if found is not None:
             self.has_messages = True
+            before = self.current.get(line.thread)
+            if before is not None and id(before) in self.waiting and not before.order:
+                before.order = index  # no line shows how it was handled
             event = self.came(found, line, index)
             if event is None:
                 self.current.pop(line.thread, None)
             else:
                 self.events.append(event)
                 self.current[line.thread] = event
+                if self.is_committing:
+                    self.waiting.add(id(event))
             return
         found = WENT.match(line.text)
         if found is not None:

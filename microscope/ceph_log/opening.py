@@ -2,6 +2,7 @@
 from __future__ import annotations
 
 from .events import Event, Fact, Known
+from .lines import SECOND
 from .messages import KINDS, Message, message_of
 
 TIMERS = {'probe_timeout': 'probe', 'election_timeout': 'election', 'collect_timeout': 'collect', 'accept_timeout': 'accept', 'lease_timeout': 'lease',
@@ -33,6 +34,8 @@ def opening(fact: Fact, event: Event | None, known: Known, rank: int | None, has
         return Opened(kind='reconfigured')
     if name == 'extends' and (event is None or not event.has('all_answered', 'commit_finish', 'commit_proposal')):
         return Opened(kind='timer', timer='renew')
+    if name == 'init_epoch' and event is not None and event.facts and fact.at - event.facts[-1].at > SECOND:
+        return Opened(kind='calls')  # at the default levels no other line shows that an election's time is over
     if name in BY_THEMSELVES:
         kind, facts = BY_THEMSELVES[name]
         return Opened(kind=kind) if event is None or not event.has(*facts) else None

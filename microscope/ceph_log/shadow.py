@@ -150,5 +150,10 @@ class Shadow:
         value = proved.some(proved.value_of(self.last + 1)) if phase in ('previous', 'updating') else NONE
         lease = proved.some(now + LEASE) if phase in ('active', 'updating') else NONE
         return proved.changed(old, quorum=quorum, pn=known.made or self.number(PAXOS, b'last_pn'), stage=proved.con(phase.capitalize()),
-                              answered=own if phase == 'collecting' else quorum, lasts=(self.last,) * proved.MOST, found=NONE, accepted=own, value=value,
-                              origin=NONE, lease=lease, acks=own)
+                              answered=own if phase == 'collecting' else quorum, lasts=(self.last,) * proved.MOST,
+                              found=self.pending() if phase == 'collecting' else NONE, accepted=own, value=value, origin=NONE, lease=lease, acks=own)
+
+    def pending(self) -> Value:
+        """The pending value in its store, as a leader that begins to collect finds it."""
+        version = self.number(PAXOS, b'pending_v')
+        return proved.some(proved.record(version=version, pn=self.number(PAXOS, b'pending_pn'), value=proved.value_of(version))) if version == self.last + 1 else NONE

@@ -17,7 +17,8 @@ Sends = dict  # (kind, receiver) -> the fields of each such message
 
 
 class Verdict:
-    """What the table says of a step, and what ceph-mon did. `classes` are short names of what differs, and `known` the known differences that explain it."""
+    """What the table says of a step, and what ceph-mon did. `classes` are short names of what differs, and `known` the known differences that explain it.
+    `is_copied` says whether the monitor has copied a store and accepted nothing since."""
 
     def __init__(self, row: str):
         self.row, self.diffs, self.classes = row, [], []
@@ -25,7 +26,7 @@ class Verdict:
         self.why: list[str] = []
         self.known: list[str] = []
         self.is_idle = False
-        self.crosses_commit = False
+        self.crosses_commit = self.is_copied = False
 
     @property
     def is_same(self) -> bool:
