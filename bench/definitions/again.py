@@ -62,7 +62,7 @@ class Link:
         return [(octets(kept.out.bytes), kept.note) for kept in shelf]
 
 
-# ---- the cases of the tests, in crates/resend_tests/src
+# ---- the cases of the tests, in crates/link_tests/src
 
 BYTE = re.compile(r'const (\w+): u8 = (\d+);')
 CASE = re.compile(r'const (\w+): &\[Step\] = &\[\n(.*?)^\];', re.M | re.S)
@@ -72,7 +72,7 @@ STEP = re.compile(r'\((\w+), (Sends|SendsToAnother|Hears|Rests), (\w+), (\w+), (
 def cases():
     """The cases of the tests: for each its name and its steps. A step has a time, what is done, a message's kind, epoch and number, how many datagrams are sent
     then, and whether a datagram that arrives is handed up."""
-    texts = [open(os.path.join(loaded.ROOT, 'resend_tests', 'src', name)).read() for name in ('again.rt', 'again_calls.rt', 'again_copies.rt', 'again_rows.rt')]
+    texts = [open(os.path.join(loaded.ROOT, 'link_tests', 'src', name)).read() for name in ('again.rt', 'again_calls.rt', 'again_copies.rt', 'again_rows.rt')]
     bytes_of = {name: int(byte) for text in texts for name, byte in BYTE.findall(text)}
 
     def number(word):

@@ -3,7 +3,8 @@
 usage: recover.py FIRST_SEED COUNT EVENTS [EVERY [PROGRAM]]
 
 COUNT runs of fuzz.py are played. At the end of each, and before that after every EVERY events, a majority whose monitors are near the whole log goes on
-alone, and a command is asked. It must get its reply within 2n² + 14n + 5 events for n monitors, none of which delivers a message that was sent before. If
+alone, and a command is asked. It must get its reply within 2n² + 14n + 5 events for n monitors, none of which delivers a message that was sent before.
+Half of the ways come at time 0, and half at times that don't go back and at which each timer that fires is due. If
 PROGRAM is given, its trace of all of these events must be the same. A run that ends early, and a majority without a member that may lead, are counted
 separately. The script prints the counts, and for each number of monitors the length of the longest way. The status is 0 if every other majority got its
 reply, and 1 otherwise.
@@ -25,6 +26,7 @@ from texts import TIMER
 
 RECORDS, READINGS = 'mon_msg.specs.Protocol.Records', 'mon_msg.specs.Protocol.Readings'
 PLANS, PLAN = 'quorum_elects.specs.Plans', 'quorum_recovers.specs.Plan'
+TIMES = 'mon_msg.specs.Protocol.Timers'
 SESSION, COMMAND = record(client=4_000_000_000, id=9_000_000), Made('Set', b'recovered', b'x')
 TIMERS = {name: word for word, name in TIMER.items()}
 
@@ -44,15 +46,30 @@ def line_of(event: Made) -> str:
 
 
 class Way:
-    """The way back of a majority: the events that follow the plan of the definitions, each of which delivers the newest message."""
+    """The way back of a majority: the events that follow the plan of the definitions, each of which delivers the newest message. They come at time 0; or, if
+    the way is punctual, after all timers that are set, and each timer that fires is due."""
 
-    def __init__(self, play: Play, majority: list[int]):
+    def __init__(self, play: Play, majority: list[int], punctual: bool = False):
         self.play, self.sent, self.lines = play, len(play.world.messages), []
+        self.punctual = punctual
+        self.now = max((end for rank in range(play.n) for end in self.ends(rank)), default=0) if punctual else 0
         members = tuple(rank in majority for rank in range(15))
         self.steps = fn(PLAN, 'way_back')(play.monitors, members, SESSION, COMMAND)
 
+    def ends(self, rank: int) -> list[int]:
+        """The times for which a monitor's timers are set."""
+        state = self.play.state(rank)
+        return [end.args[0] for end in state.timers if end.args] if state else []
+
+    def time_of(self, planned) -> int:
+        """When the planned event comes: now, or once its timer is due."""
+        if self.punctual and planned.name == 'Rings':
+            rank, timer = planned.args
+            self.now = max(self.now, fn(TIMES, 'end_of')(timer, self.play.state(rank).timers).args[0])
+        return self.now
+
     def take(self, planned):
-        event = fn(PLANS, 'event_of')(self.sent, self.play.world, planned)
+        event = fn(PLANS, 'event_of')(self.sent, self.time_of(planned), self.play.world, planned)
         if event.name == 'None':
             raise ValueError(f'there is no message for {planned!r}')
         self.lines.append(line_of(event.args[0]))
@@ -99,7 +116,7 @@ def outcome(seed: int, schedule: str, play: Play, program: str | None, longest: 
     majority = sorted(rng.sample(near, rng.randint(least, len(near))))
     if not set(majority) & set(allowed_in(play)):
         return 'none may lead'
-    way, most = Way(play, majority), most_events(play.n)
+    way, most = Way(play, majority, punctual=rng.randrange(2) == 1), most_events(play.n)
     try:
         way.go()
     except ValueError as why:

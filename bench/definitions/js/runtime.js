@@ -241,8 +241,9 @@ const $codes = text => text;
 const $decimal = number => String(number);
 const $bytes_eq = (a, b) => $octets(a) === $octets(b);
 const $digits_value = (base, digits) => (base === 10 ? $number($octets(digits)) : parseInt($octets(digits), base));
-const $encoded = text => unescape(encodeURIComponent(text));
-const $decoded = octets => decodeURIComponent(escape(octets));
+const $isPlain = text => /^[\x00-\x7f]*$/.test(text);
+const $encoded = text => ($isPlain(text) ? text : unescape(encodeURIComponent(text)));
+const $decoded = octets => ($isPlain(octets) ? octets : decodeURIComponent(escape(octets)));
 
 // ---- maps
 
