@@ -13,15 +13,13 @@ import sys
 import time
 from typing import Iterator
 
-import quorum_file
-from client import Client, NotServed
+import built
+from cephmon import Client, NotServed, quorum_file
+from cephmon.wire import MOST_MONITORS
 from network import Network
 from quorum import free_ports, is_free
-from wire import MOST_MONITORS
 
 HERE = os.path.dirname(os.path.realpath(__file__))
-# The proved program: in an installation it is beside this module.
-PROGRAMS = os.path.join(HERE, 'cephmon'), os.path.join(os.path.dirname(HERE), 'out', 'cephmon')
 PREVIEW = os.path.join(os.path.dirname(HERE), 'preview')
 FAILED, FAULTY = 1, 2
 # Seconds within which a quorum must serve after its start, a write must be made without a monitor, and a process must begin or end. A free machine
@@ -56,13 +54,13 @@ def program_of(named: str | None, is_preview: bool) -> str:
         named = done.stdout.decode().strip()
         if done.returncode or not named:
             raise Fault('--preview: ./preview built no program')
-    found = os.path.abspath(named) if named else next(filter(os.path.exists, PROGRAMS), None)
-    if found is None:
+    found = os.path.abspath(named or built.place())
+    if not named and not os.path.exists(found):
         raise Fault('there is no program: `./cephmon replay < examples/first.schedule` proves and builds it, in 20 to 60 minutes; '
                     '`up --preview` takes one without proofs, in two to five')
     if not (os.path.isfile(found) and os.access(found, os.X_OK)):
         raise Fault(f"the program '{found}' can't be executed")
-    if os.path.realpath(found) not in map(os.path.realpath, PROGRAMS):
+    if os.path.realpath(found) != os.path.realpath(built.place()):
         print(f'lab: NOT PROVED: {found} is not the program that ./cephmon proves and builds', file=sys.stderr)
     return found
 

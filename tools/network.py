@@ -12,7 +12,7 @@ import time
 from typing import Callable
 
 from quorum import free_ports
-from wire import MOST_MONITORS
+from cephmon.wire import MOST_MONITORS
 
 # The settings of a *way* from one monitor to another: whether it is cut; the chances that a datagram is lost, doubled or late; the seconds that each
 # datagram takes, the most random seconds in addition, and the seconds that a late one takes in addition.

@@ -9,7 +9,7 @@ import subprocess
 import sys
 import time
 
-from client import Client, NotServed
+from cephmon import Client, NotServed
 
 TOP = os.path.join(os.path.dirname(os.path.abspath(__file__)), '..')
 MOST_TURNS = str(2**62)

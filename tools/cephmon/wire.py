@@ -9,13 +9,15 @@ import hashlib
 import secrets
 import socket
 import struct
-from typing import NamedTuple
+from typing import Any, Callable, NamedTuple
 
 MOST_DATAGRAM, PIECE, PIECE_HEADER = 60_000, 59_000, 28
 MOST_MESSAGE = 1_048_576
 MOST_NUMBER = 2**62
 REQUEST, REPLY = 24, 25
 SET, REMOVE, LOG, SHOW, SINCE = range(1, 6)
+# The requests that change a map.
+CHANGES = SET, REMOVE, LOG
 SERVICES = {'kv': 1, 'log': 2}
 # The most incomplete messages that are kept.
 MOST_PARTIAL = 16
@@ -52,7 +54,7 @@ class Reader:
             raise Malformed(f'a number above 2^62 before {self.at}')
         return found
 
-    def choice(self, choices):
+    def choice(self, choices: Any) -> Any:
         """The next byte, decoded by a table of choices."""
         code = self.unsigned(1)
         if code not in choices:
@@ -74,7 +76,7 @@ class Reader:
         except UnicodeDecodeError:
             raise Malformed(f'no {how} before {self.at}') from None
 
-    def end(self):
+    def end(self) -> None:
         if self.at < len(self.octets):
             raise Malformed(f'more after {self.at}')
 
@@ -187,12 +189,12 @@ def greeting(addresses: list[tuple[str, int]]) -> bytes:
 def rule_of(reader: Reader) -> str:
     kind = reader.choice(RULES_BY_CODE)
     if kind == 'classic':
-        return kind
+        return str(kind)
     never = reader.unsigned(2)
     if never >> MOST_MONITORS:
         raise Malformed(f'a rank above {MOST_MONITORS - 1} before {reader.at}')
     ranks = ','.join(str(rank) for rank in range(MOST_MONITORS) if never >> rank & 1)
-    return f'{kind}={ranks}' if ranks else kind
+    return f'{kind}={ranks}' if ranks else str(kind)
 
 
 def is_hello(datagram: bytes) -> bool:
@@ -220,10 +222,10 @@ def hello_of(datagram: bytes) -> Hello:
 class Assembly:
     """Joins the pieces of messages. They may arrive in any order, and some may never arrive."""
 
-    def __init__(self):
-        self.partial = {}
+    def __init__(self) -> None:
+        self.partial: dict[Any, dict[int, bytes]] = {}
 
-    def take(self, peer, datagram: bytes) -> bytes | None:
+    def take(self, peer: Any, datagram: bytes) -> bytes | None:
         """The message that this datagram completes, if it completes one."""
         if datagram[:1] != b'\2':
             return datagram
@@ -244,25 +246,23 @@ class Assembly:
         return None
 
 
-def log_entry(reader: Reader) -> list:
+def log_entry(reader: Reader) -> list[Any]:
     """An entry of the cluster log: the rank of the monitor that was asked, and the text."""
     return [reader.unsigned(1), reader.text()]
 
 
-def map_of(service: str, octets: bytes) -> dict | list:
+def map_of(service: str, octets: bytes) -> dict[str, str] | list[Any]:
     """A map from its bytes: of `kv` a dictionary, of `log` the list of its entries, the oldest first."""
     reader = Reader(octets)
     entries = range(reader.unsigned(4))
-    if service == 'kv':
-        found = {reader.key(): reader.text() for _ in entries}
-    else:
-        found = [log_entry(reader) for _ in entries]
+    found: dict[str, str] | list[Any] = {reader.key(): reader.text() for _ in entries} if service == 'kv' else [log_entry(reader) for _ in entries]
     reader.end()
     return found
 
 
-def change_of(service: str, octets: bytes) -> dict | list:
+def change_of(service: str, octets: bytes) -> dict[str, str] | list[Any]:
     reader = Reader(octets)
+    found: dict[str, str] | list[Any]
     if service == 'log':
         found = log_entry(reader)
     elif reader.choice({1: True, 2: False}):
@@ -273,28 +273,28 @@ def change_of(service: str, octets: bytes) -> dict | list:
     return found
 
 
-def shown(reader: Reader) -> dict:
+def shown(reader: Reader) -> dict[str, Any]:
     service = reader.choice({code: name for name, code in SERVICES.items()})
     return {'service': service, 'paxos': reader.number(), 'version': reader.number(), 'map': map_of(service, reader.counted())}
 
 
-def since(reader: Reader) -> dict:
+def since(reader: Reader) -> dict[str, Any]:
     service = reader.choice({code: name for name, code in SERVICES.items()})
     start, more = reader.number(), reader.choice([False, True])
     changes = [change_of(service, reader.counted()) for _ in range(reader.unsigned(2))]
     return {'service': service, 'from': start, 'to': start + len(changes), 'more': more, 'changes': changes}
 
 
-def numbers(*names):
+def numbers(*names: str) -> Callable[[Reader], dict[str, Any]]:
     """A function that reads as many numbers as there are names, into a dictionary."""
     return lambda reader: {name: reader.number() for name in names}
 
 
-def not_readable(reader: Reader) -> dict:
+def not_readable(reader: Reader) -> dict[str, Any]:
     return {'has': reader.number(), 'lease': reader.choice([False, True])}
 
 
-REPLIES = {
+REPLIES: dict[int, tuple[str, Callable[[Reader], dict[str, Any]]]] = {
     1: ('Done', numbers('version')),
     2: ('Shown', shown),
     3: ('Since', since),
@@ -305,17 +305,19 @@ REPLIES = {
     8: ('NotReadable', not_readable),
     9: ('Busy', numbers('waiting')),
 }
+
+
 class Reply(NamedTuple):
     """A REPLY: the ID of the request that it answers, the name of its kind, its fields, and the rank and epoch of the monitor."""
     number: int
     kind: str
-    fields: dict
+    fields: dict[str, Any]
     rank: int
     epoch: int
 
     def version(self) -> int | None:
         """The version of the log of all changes that a map is of or a change has, and None for other replies."""
-        return self.fields.get({'Shown': 'paxos', 'Done': 'version'}.get(self.kind))
+        return self.fields.get({'Shown': 'paxos', 'Done': 'version'}.get(self.kind, ''))
 
 
 def reply_of(message: bytes, monitors: int) -> Reply:

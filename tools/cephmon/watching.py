@@ -5,9 +5,9 @@ Nothing here sends or receives.
 from __future__ import annotations
 
 import json
-from typing import NamedTuple
+from typing import Any, NamedTuple, Sequence
 
-from wire import Malformed
+from cephmon.wire import Malformed
 
 # The first byte of a status request and of its answer, and the bytes before the text of an answer.
 WATCH, HEADER = 5, 9
@@ -29,7 +29,7 @@ def status_request(number: int) -> bytes:
 class Watched(NamedTuple):
     """An answer to a status request: its number, and `of` with its members."""
     number: int
-    of: dict
+    of: dict[str, Any]
 
     def ranks(self) -> list[int]:
         """The ranks of the quorum that the monitor names. It is empty if the monitor knows none."""
@@ -39,15 +39,15 @@ class Watched(NamedTuple):
         return self.of['phase'] in ('collecting', 'active', 'peon')
 
 
-def is_count(value) -> bool:
+def is_count(value: Any) -> bool:
     return isinstance(value, int) and not isinstance(value, bool) and value >= 0
 
 
-def are_counts(values, many: int) -> bool:
+def are_counts(values: Any, many: int) -> bool:
     return isinstance(values, list) and len(values) == many and all(map(is_count, values))
 
 
-def is_answer(of) -> bool:
+def is_answer(of: Any) -> bool:
     """Whether all members of an answer are there and have their types."""
     if not isinstance(of, dict) or not all(is_count(of.get(name)) for name in COUNTS) or of.get('phase') not in PHASES:
         return False
@@ -80,18 +80,18 @@ class Metric(NamedTuple):
     name: str
     kind: str
     text: str
-    samples: list[tuple[dict, str, float]]
+    samples: Sequence[tuple[dict[str, str], str, float]]
 
 
-def one(name: str, kind: str, text: str, value) -> Metric:
+def one(name: str, kind: str, text: str, value: float) -> Metric:
     return Metric(name, kind, text, [({}, '', value)])
 
 
-def of_disks(name: str, kind: str, text: str, disks: list[dict], member: str, scale: float = 1) -> Metric:
+def of_disks(name: str, kind: str, text: str, disks: list[dict[str, Any]], member: str, scale: float = 1) -> Metric:
     return Metric(name, kind, text, [({'disk': side}, '', disk[member] * scale) for side, disk in zip('ab', disks)])
 
 
-def histogram(disks: list[dict]) -> Metric:
+def histogram(disks: list[dict[str, Any]]) -> Metric:
     samples = []
     for side, disk in zip('ab', disks):
         below = 0
@@ -102,7 +102,7 @@ def histogram(disks: list[dict]) -> Metric:
     return Metric('sync_seconds', 'histogram', 'How long the syncs of a disk took.', samples)
 
 
-def metrics(of: dict) -> list[Metric]:
+def metrics(of: dict[str, Any]) -> list[Metric]:
     """The metrics of a monitor. Their names lack the prefix that all share."""
     disks, here = of['disks'], range(of['monitors'])
     peers = [rank for rank in here if rank != of['rank']]
