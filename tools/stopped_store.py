@@ -11,7 +11,7 @@ import re
 import subprocess
 from typing import NamedTuple
 
-from wire import MOST_MONITORS, Malformed, Reader, change_of, map_of
+from cephmon.wire import MOST_MONITORS, Malformed, Reader, change_of, map_of
 
 MARK = b'CEPHEXP1'
 # A checkpoint begins with this byte.
