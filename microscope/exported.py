@@ -28,7 +28,8 @@ CALLS = {
     'pending': (f'{PROTOCOL}Records', 'pending'), 'readMap': (f'{PROTOCOL}Services', 'read_map'),
 }
 # The scripts of the page, in order: those of the definitions, and its own.
-PARTS, OWN = ['runtime', 'natives', 'texts', 'plays', 'judging'], ['schedules', 'steps', 'words', 'cards', 'exercises', 'scenarios', 'game', 'terms', 'tour', 'play']
+PARTS = ['runtime', 'natives', 'texts', 'plays', 'judging']
+OWN = ['schedules', 'steps', 'words', 'cards', 'exercises', 'scenarios', 'game', 'terms', 'tour', 'arena', 'play']
 
 
 class Beginning(NamedTuple):

@@ -9,7 +9,7 @@ TOP = os.path.dirname(os.path.dirname(os.path.abspath(__file__)))
 sys.path[:0] = [os.path.join(TOP, 'bench', 'definitions'), os.path.join(TOP, 'tools')]
 import loaded  # noqa: E402
 import plays  # noqa: E402
-import quorum_file  # noqa: E402, F401
+from cephmon import quorum_file  # noqa: E402, F401
 from antt import Long, Made, Record, fields_of  # noqa: E402
 from plays import Play  # noqa: E402
 from schedules import TIMERS, faults_of  # noqa: E402

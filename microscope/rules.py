@@ -2,6 +2,7 @@
 definition."""
 from __future__ import annotations
 
+import glob
 import os
 from typing import NamedTuple
 
@@ -65,23 +66,34 @@ def named(name: str) -> Rule:
 
 
 def of_patch(path: str) -> Rule:
-    """The changed rule of a file with lines `file: crates/..antt`, `old: TEXT` and `new: TEXT`, as those of bench/edits. \\n is a line's end."""
-    changes, module, old = {}, None, None
+    """The changed rule of a file with lines `file: crates/..antt`, `old: TEXT` and `new: TEXT`, as those of bench/edits. \\n is a line's end. A line
+    `constant: NAME NUMBER` takes another number for a constant of the code, also when the true rule is tried."""
+    changes, constants, module, old = {}, {}, None, None
     with open(path, encoding='utf-8') as file:
         for line in file.read().splitlines():
             word, _, text = line.partition(':')
-            text = text.strip(' ') if word == 'file' else text.lstrip(' ').replace('\\n', '\n')
+            text = text.strip(' ') if word in ('file', 'constant') else text.lstrip(' ').replace('\\n', '\n')
             if word == 'file':
                 module = os.path.normpath(text).removeprefix('crates/').removesuffix('.antt').replace('/', '.')
+            elif word == 'constant':
+                constants.update([constant_of(path, text)])
             elif word == 'old':
                 old = text
             elif word == 'new' and module and old:
                 changes.setdefault(module, []).append((old, text))
             elif line and not line.startswith('#'):
-                raise Refused(f"{path}: '{line[:40]}' is none of file:, old: and new:, in this order")
+                raise Refused(f"{path}: '{line[:40]}' is none of constant:, file:, old: and new:, in this order")
     if not changes:
         raise Refused(f'{path} changes nothing')
-    return Rule(os.path.basename(path), 'as the file says', 'the definitions as they are', '', changes, opening='any')
+    return Rule(os.path.basename(path), 'as the file says', 'the definitions as they are', '', changes, constants, opening='any')
+
+
+def constant_of(path: str, text: str) -> tuple[str, int]:
+    """The name and the number of a constant of the code."""
+    name, _, number = text.partition(' ')
+    if not number.isdecimal() or not any(f'pub const {name}: ' in line for file in glob.glob(os.path.join(TOP, 'crates', '*', 'src', '*.rt')) for line in open(file)):
+        raise Refused(f"{path}: '{text}' isn't the name of a constant of the code and a number")
+    return name, int(number)
 
 
 def add_arguments(parser):

@@ -79,9 +79,10 @@ function show(at) {
   history.replaceState(null, '', `#${at + 1}`);
 }
 
-// Without zoom the chart, with its notes cut short, is as wide as its place, but letters stay large enough to read. One step of zoom is a factor of 1.2.
+// Without zoom the chart, with its notes cut short, is as wide as its place. If its smallest letters, of 10 pixels, would shrink, it is wider, and its place scrolls.
+// One step of zoom is a factor of 1.2.
 function size() {
-  const fit = Math.min(1.35, Math.max(0.62, (picture.clientWidth - 2) / Math.min(wide, COLUMNS[COLUMNS.length - 1] + NOTES))), scale = fit * 1.2 ** zoom;
+  const fit = Math.min(1.35, Math.max(1, (picture.clientWidth - 2) / Math.min(wide, COLUMNS[COLUMNS.length - 1] + NOTES))), scale = fit * 1.2 ** zoom;
   svg.style.width = `${wide * scale}px`;
   names.forEach((name, rank) => { name.style.left = `${COLUMNS[rank] * scale}px`; });
 }
@@ -122,6 +123,8 @@ svg.addEventListener('click', press => {
   STEPS.forEach((step, at) => { if (Math.abs(step.y - y) < Math.abs(STEPS[nearest].y - y)) nearest = at; });
   show(nearest);
 });
+document.querySelector('#before').onclick = () => go(-1);
+document.querySelector('#after').onclick = () => go(1);
 document.querySelector('#smaller').onclick = () => zoomed(-1);
 document.querySelector('#fit').onclick = () => zoomed(0);
 document.querySelector('#larger').onclick = () => zoomed(1);

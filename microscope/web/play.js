@@ -92,8 +92,6 @@ async function toggle() {
 
 // ---- what is shown
 
-// A message that is due for longer than this, in milliseconds, is counted and not drawn: it may never arrive.
-const OVERDUE = 1000;
 const isUnderWay = it => !it.got.length && !it.dropped;
 const kindOf = it => !it.up ? 'down' : it.leads ? 'leads' : it.phase === 'peon' ? 'peon' : 'votes';
 
@@ -122,75 +120,6 @@ function light([name, title, says, broken]) {
   const made = element('span', broken ? 'light broken' : 'light', broken ? `${title}: ${broken}` : title);
   made.title = `${name} of Safe: ${says}`;
   return made;
-}
-
-const spot = rank => {
-  const count = state.monitors.length, {width, height} = arenaSize(), angle = 2 * Math.PI * rank / count - Math.PI / 2;
-  return count === 1 ? {x: width / 2, y: height / 2} : {x: width / 2 + (width / 2 - 75) * Math.cos(angle), y: height / 2 + (height / 2 - 32) * Math.sin(angle)};
-};
-
-function arenaSize() {
-  const box = at('stage').getBoundingClientRect();
-  return {width: Math.max(240, Math.min(900, box.width)), height: box.height || 250};
-}
-
-function drawArena() {
-  const {width, height} = arenaSize(), arena = at('arena'), nodes = [], lanes = [];
-  const isCrowd = state.monitors.length > 7, wide = isCrowd ? 74 : 116, high = isCrowd ? 24 : 44;
-  arena.setAttribute('viewBox', `0 0 ${width} ${height}`);
-  arena.classList.toggle('crowd', isCrowd);
-  state.monitors.forEach((it, rank) => {
-    const {x, y} = spot(rank);
-    for (let other = 0; other < rank; other++) lanes.push(drawn('line', {class: 'lane', x1: x, y1: y, x2: spot(other).x, y2: spot(other).y}));
-    nodes.push(drawn('g', {}, drawn('rect', {class: `node ${kindOf(it)}`, x: x - wide / 2, y: y - high / 2, width: wide, height: high, rx: 9}),
-      drawn('text', {x, y: isCrowd ? y + 4 : y - 4}, `${rank}: ${termOf(it.phase)}`), drawn('title', {}, meaningOf(it.phase)),
-      ...(isCrowd ? [] : [drawn('text', {class: 'small', x, y: y + 13}, `${termOf('epoch')} ${it.epoch}, ${isFieldsWords ? 'commit' : 'last'} ${it.last}`)])));
-  });
-  arena.replaceChildren(...lanes, ...nodes, ...marksOf(isCrowd));
-}
-
-// The marks of messages under way. Of each lane the first few have a label. The others, and those that are long overdue, are counted. The first ones lie above
-// the others.
-function marksOf(isCrowd) {
-  const lanes = new Map(), most = isCrowd ? 1 : state.monitors.length > 3 ? 1 : 2;
-  for (const it of state.wire.filter(isUnderWay)) lanes.set(`${it.from} ${it.to}`, [...(lanes.get(`${it.from} ${it.to}`) || []), it]);
-  const labels = [], counts = [];
-  for (const found of lanes.values()) {
-    const fresh = found.filter(it => it.due + OVERDUE >= state.now), labelled = fresh.slice(0, most), folded = found.length - labelled.length;
-    const isLate = fresh.length < found.length;
-    labels.push(...labelled.map((it, nth) => mark(it, nth, isCrowd)));
-    if (folded) counts.push(foldedMark(found[found.length - 1], folded, isLate));
-  }
-  return [...counts, ...labels.reverse()];
-}
-
-// Where a mark lies: at a part of the way from one monitor to another, beside the line.
-function placeOf(it, part) {
-  const from = spot(it.from), to = spot(it.to), length = Math.hypot(to.x - from.x, to.y - from.y) || 1;
-  return {x: from.x + (to.x - from.x) * part - (to.y - from.y) / length * 11, y: from.y + (to.y - from.y) * part + (to.x - from.x) / length * 11};
-}
-
-function mark(it, nth, isCrowd) {
-  const took = it.due - it.time, done = took > 0 ? Math.min(1, Math.max(0, (state.now - it.time) / took)) : 1;
-  const {x, y} = placeOf(it, Math.min(.7, Math.max(.34, .36 + .36 * done - .15 * (nth % 4)))), text = isCrowd ? termOf(it.kind) : `${termOf(it.kind)} →${it.to}`;
-  const made = pill(x, y, text, `message ${it.number}: ${it.kind} ${it.fields}. ${meaningOf(it.kind)}`);
-  made.dataset.number = it.number;
-  made.addEventListener('click', press => menu(it, press));
-  made.addEventListener('keydown', press => { if (press.key === 'Enter') menu(it, press); });
-  return made;
-}
-
-function foldedMark(it, count, isLate) {
-  const {x, y} = placeOf(it, .24), made = pill(x, y, `+${count}`, `${count} more from ${it.from} to ${it.to}${isLate ? ', of which some are long overdue' : ''}: see Messages`);
-  made.classList.add('folded');
-  made.addEventListener('click', () => at('wire').scrollIntoView({block: 'nearest'}));
-  return made;
-}
-
-function pill(x, y, text, title) {
-  const wide = 6.9 * text.length + 14;
-  return drawn('g', {class: 'dot', style: `transform: translate(${x}px, ${y}px)`, tabindex: 0, role: 'button'},
-    drawn('rect', {x: -wide / 2, y: -9, width: wide, height: 18, rx: 9}), drawn('text', {y: 4}, text), drawn('title', {}, title));
 }
 
 function actsOf(it) {
@@ -412,6 +341,7 @@ at('redo').onclick = () => act('redo');
 at('next').onclick = () => act('next');
 at('run').onclick = toggle;
 at('startall').onclick = startAll;
+at('more').onclick = () => at('new').scrollIntoView({block: 'center'});
 at('new').onclick = () => { leaveTour(); ask('new', {header: `monitors ${at('monitors').value} ${at('elections').value}`}); };
 at('load').onclick = () => at('file').click();
 at('file').onchange = async () => { const file = at('file').files[0]; if (file) await ask('load', {text: await file.text()}); at('file').value = ''; };
