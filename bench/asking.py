@@ -9,7 +9,7 @@ import sys
 import time
 
 sys.path.insert(0, os.path.join(os.path.dirname(os.path.abspath(__file__)), '..', 'tools'))
-from wire import SET, SHOW, key_field, new_number, reply_of, request_message, text_field  # noqa: E402
+from cephmon.wire import SET, SHOW, key_field, new_number, reply_of, request_message, text_field  # noqa: E402
 
 KEYS, MONITORS = 20, 3
 # Frames of HTTP/2 by type, and the flags that matter here.

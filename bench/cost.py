@@ -40,7 +40,7 @@ def group(text: str, begin: int) -> int:
 
 def code_alone(text: str) -> str:
     """Code without comments, texts and clauses."""
-    text = re.sub(r'"(?:\\.|[^"\\])*"', '""', re.sub(r'//.*', '', text))
+    text = re.sub(r'"(?:\\[\s\S]|[^"\\])*"', '""', re.sub(r'//.*', '', text))
     kept, begin = [], 0
     for match in CLAUSE.finditer(text):
         if match.start() >= begin:

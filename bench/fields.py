@@ -1,6 +1,6 @@
 """Reads fields and transactions from bytes, as docs/FORMATS.md specifies them: for the checks, the benches and the executed definitions.
 
-tools/wire.py has another reader, for what operators use. The two share no code: the checks judge the tools, too, so a fault of one reader must not be a
+tools/cephmon/wire.py has another reader, for what operators use. The two share no code: the checks judge the tools, too, so a fault of one reader must not be a
 fault of the other.
 """
 from __future__ import annotations

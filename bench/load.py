@@ -7,7 +7,7 @@ import collections
 import threading
 import time
 
-from client import NotServed, Refused
+from cephmon import NotServed, Refused
 
 # A change that was answered: its version, its key, the number that the key was set to or after which it was removed, whether it was removed, whether it was
 # sent only once (`sure`), and when the request began and ended.
@@ -33,7 +33,7 @@ class Setter(threading.Thread):
                 number += 1
                 self.change(client, number % load.keys, number)
                 if load.asked is not None:
-                    client.asked = load.asked
+                    client.asker.asked = load.asked
 
     def change(self, client, slot: int, number: int):
         key, removed, began = self.key(slot), self.load.removes and self.is_there[slot], time.monotonic()
@@ -101,13 +101,13 @@ class FreshReader(threading.Thread):
 
     def read(self, client, ranks: int):
         began = time.monotonic()
-        client.monitor = self.load.asked
-        client.asked = client.asked if self.load.asked is None else self.load.asked
+        client.settings.monitor = self.load.asked
+        client.asker.asked = client.asker.asked if self.load.asked is None else self.load.asked
         version = client.fresh()
         self.marks.append((began, time.monotonic(), version))
-        client.monitor = None
+        client.settings.monitor = None
         for _ in range(self.times):
-            client.asked = len(self.maps) % ranks if self.first is None else self.first
+            client.asker.asked = len(self.maps) % ranks if self.first is None else self.first
             found = client.show('kv')
             self.maps.append((began, time.monotonic(), found['paxos'], found['map']))
 

@@ -9,7 +9,7 @@ import threading
 import time
 
 from apart import Network
-from wire import FRAME, FRAME_HEADER, MOST_DATAGRAM, REQUEST, framed, request_message, text_field, unframed
+from cephmon.wire import FRAME, FRAME_HEADER, MOST_DATAGRAM, REQUEST, framed, request_message, text_field, unframed
 
 # The number of real datagrams per way that are kept to be garbled.
 SHOWN = 200
