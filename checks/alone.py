@@ -3,7 +3,7 @@ import contextlib
 import subprocess
 
 import checking  # noqa: F401, adds the folders of the next two
-from client import Client, NotServed
+from cephmon import Client, NotServed
 from quorum import MOST_TURNS, free_ports
 
 

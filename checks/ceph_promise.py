@@ -1,12 +1,14 @@
-"""Checks of the forgotten promise: the judge names it in logs of real monitors, and the same schedule is unsafe in the model under that rule, and safe under the true one."""
+"""Checks of the forgotten promise: the judge names it in logs of real monitors, and the same schedule is unsafe in the model under that rule, and safe under the true one.
+Also of the other forms that Ceph has: each of them fits the definitions."""
 from __future__ import annotations
 
+import glob
 import os
 import re
 import subprocess
 
 from ceph_texts import paths, scenarios
-from checking import TOP, equal, read
+from checking import TOP, Failed, equal, read
 
 SCENARIO = 'microscope', 'scenarios', 'forgotten_promise.scenario'
 # The keys of the two values of version 764, as a map shows them: the one that was acknowledged, and the other one.
@@ -31,9 +33,26 @@ def is_played(is_kept: bool, *words: str):
     equal(re.findall(rb'^  reply 0 2\.1 (.*)$', done.stdout, re.MULTILINE), [b'done 764'])
 
 
+def form_fits(path: str):
+    """A form of Ceph changes texts that stand once in the definitions, and docs/CEPH.md has its row."""
+    import rules
+    from antt import Fault
+    form = rules.of_patch(path)
+    try:
+        rules.take(form)
+    except Fault as why:
+        raise Failed(why.what) from None
+    finally:
+        rules.take(None)
+    name = os.path.basename(path)[:-len('.edit')]
+    equal(f'\n| `{name}` | ' in read('docs', 'CEPH.md').decode(), True, f'docs/CEPH.md has no row of {name}')
+
+
 def checks_of_the_promise(check):
+    for path in sorted(glob.glob(os.path.join(TOP, 'bench', 'ceph', 'forms', '*.edit'))):
+        check(f'the form {os.path.basename(path)} fits the definitions', form_fits, path)
     for scenario in scenarios():
-        if scenario.endswith('forgotten_promise'):
+        if scenario.endswith('_promise'):
             check(f'the judge names the forgotten promise in {scenario}', judge_names_it, scenario)
     check('under the rule forgotten_promise the same schedule loses the key in the model', is_played, False, '--rule', 'forgotten_promise', '--long-log')
     check('under the true rule the same schedule keeps the key', is_played, True)

@@ -18,11 +18,11 @@ MUTATIONS = {
     'a promise falls at a restart': ('pacific_leader_killed', 'a', r'init last_pn: 300 accepted_pn: \d+', 'init last_pn: 0 accepted_pn: 0', 'Promises'),
     'a version is skipped': ('pacific_first', 'c', r'store_state \[6\.\.6\]', 'store_state [7..7]', 'Growth'),
 }
-# A rule of microscope/break, and the scenario that differs from the table under it. Real logs can't show the other three. first_reported: a log has the size of a
-# value, not its contents, so two values of one version compare alike. pending_lease: a LEASE that was sent before a BEGIN comes before it, since Ceph's connections
-# keep their order. forgotten_promise: Ceph does what the changed rule says, which the judge reports (Promises fails in pacific_full_sync).
+# A rule of microscope/break, and the scenario that differs from the table under it. Real logs can't show the other two. pending_lease: a LEASE that was sent before
+# a BEGIN comes before it, since Ceph's connections keep their order. forgotten_promise: Ceph does what the changed rule says, which the judge reports (Promises
+# fails in pacific_full_sync).
 RULES = {'majority': 'pacific_five', 'rival': 'pacific_uncommitted', 'any_votes': 'pacific_few_behind', 'kept_lease': 'pacific_pending_read',
-         'early_answer': 'pacific_first'}
+         'early_answer': 'pacific_first', 'first_reported': 'pacific_two_values'}
 
 
 # Scenarios in which nothing is wrong.

@@ -11,7 +11,7 @@ import sys
 import time
 
 import checking  # noqa: F401, adds the folder of the next one
-from wire import framed, number_field, tag_of
+from cephmon.wire import framed, number_field, tag_of
 
 ALL_FRAMES, PROPOSE = 3, 3
 
