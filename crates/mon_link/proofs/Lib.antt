@@ -1,3 +1,5 @@
 pub mod Fronts
+pub mod Histories
+pub mod Layers
 pub mod Places
 pub mod Wholes

@@ -1,5 +1,7 @@
 pub mod Clients
 pub mod Clocks
+pub mod Histories
+pub mod Layers
 pub mod Links
 pub mod Memory
 pub mod MemoryLinks

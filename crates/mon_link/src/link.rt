@@ -1,3 +1,6 @@
+ghost use Rattle.std.specs.Prelude.{List};
+ghost use Rattle.mon_link.specs.Histories.{Happened, GoesOn};
+ghost use Rattle.mon_link.specs.Histories.Happened.{Received, WasSent};
 ghost use Rattle.mon_link.specs.Links.{LinkState, CallsNext, CallsSend};
 
 use mon_bytes::Bytes;
@@ -33,12 +36,17 @@ pub trait Link {
     /// how many sends failed so far.
     ghost state: { Self → LinkState };
 
+    /// The lists of calls, oldest first, that can have led to the link as it is.
+    ghost history: { Self → List Happened → Type 0 };
+
     /// Returns what comes next, after at most `wait` milliseconds. A fault is counted if and only if the result is
     /// `Failed`.
     fn next(&mut self, wait: u64) -> Result<Got, Stop>
-        ensures { CallsNext wait result (state self.old) (state self.new) };
+        ensures calls { CallsNext wait result (state self.old) (state self.new) }
+        ensures goes_on { GoesOn (history self.old) (Received wait result) (history self.new) };
 
     /// Sends a datagram. One that couldn't be sent is counted as a loss, and as no fault.
     fn send(&mut self, to: Peer, bytes: &[u8]) -> Result<(), Stop>
-        ensures { CallsSend to bytes.now result (state self.old) (state self.new) };
+        ensures calls { CallsSend to bytes.now result (state self.old) (state self.new) }
+        ensures goes_on { GoesOn (history self.old) (WasSent to bytes.now result) (history self.new) };
 }

@@ -1,4 +1,6 @@
-ghost use Rattle.std.specs.Prelude.{◌≡◌, [], Some};
+ghost use Rattle.std.specs.Prelude.{◌≡◌, []};
+ghost use Rattle.mon_link.specs.Links.{CallsNext, CallsSend};
+ghost use Rattle.mon_link.specs.MemoryLinks.{LedTo, state_of};
 
 use crate::link::{Got, Link, Outgoing, Peer};
 use crate::outside::raised;
@@ -84,9 +86,13 @@ impl MemoryLink {
 }
 
 impl Link for MemoryLink {
-    ghost state = { λ l. record { observed = Some l.observed; faults = l.faults; losses = l.losses } };
+    ghost state = { state_of };
 
-    fn next(&mut self, wait: u64) -> Result<Got, Stop> {
+    ghost history = { LedTo };
+
+    fn next(&mut self, wait: u64) -> Result<Got, Stop>
+        ensures calls { CallsNext wait result (state_of self.old) (state_of self.new) }
+    {
         let fails = self.failing_next.contains(&raised(self.waits.len() as u64));
         if self.waits.push(wait).is_err() {
             return Err(Stop::OutOfMemory);
@@ -101,7 +107,9 @@ impl Link for MemoryLink {
         }
     }
 
-    fn send(&mut self, to: Peer, bytes: &[u8]) -> Result<(), Stop> {
+    fn send(&mut self, to: Peer, bytes: &[u8]) -> Result<(), Stop>
+        ensures calls { CallsSend to bytes.now result (state_of self.old) (state_of self.new) }
+    {
         let fails = self.failing_send.contains(&raised(self.sent.len() as u64));
         let Ok(bytes) = Vec::from_slice(self.alloc, bytes) else {
             return Err(Stop::OutOfMemory);

@@ -2,7 +2,8 @@
 
 ghost use Rattle.std.specs.Prelude.{◌≡◌, IsTrue, None, Some, ◌≤◌, IfOk, option_map, vec_len};
 ghost use Rattle.mon_link.specs.Clients.{Recognizes, KnowsSender, is_datagram};
-ghost use Rattle.mon_link.specs.Links.{CallsNext, unseen};
+ghost use Rattle.mon_link.specs.Histories.{Leads};
+ghost use Rattle.mon_link.specs.Links.{CallsNext, CallsSend, unseen};
 
 use crate::clients::Clients;
 use crate::link::{Got, Link, Peer};
@@ -324,6 +325,9 @@ fn is_passing(said: &Error) -> bool {
 impl<R: Net + Copy> Link for UdpLink<R> {
     ghost state = { λ l. unseen l.faults l.losses };
 
+    /// Of what came and went nothing is known but how much of it failed.
+    ghost history = { λ l h. Leads h (unseen 0 0) (unseen l.faults l.losses) };
+
     fn next(&mut self, wait: u64) -> Result<Got, Stop>
         ensures calls { CallsNext wait result (unseen self.old.faults self.old.losses) (unseen self.new.faults self.new.losses) }
         ensures sender { IfOk result (λ got. KnowsSender got self.old.clients self.new.clients) }
@@ -359,7 +363,10 @@ impl<R: Net + Copy> Link for UdpLink<R> {
         }
     }
 
-    fn send(&mut self, to: Peer, bytes: &[u8]) -> Result<(), Stop> {
+    fn send(&mut self, to: Peer, bytes: &[u8]) -> Result<(), Stop>
+        ensures calls { CallsSend to bytes.now result (unseen self.old.faults self.old.losses)
+            (unseen self.new.faults self.new.losses) }
+    {
         match self.put(to, bytes) {
             Ok(count) if count == bytes.len() => Ok(()),
             _ => {
