@@ -1,3 +1,4 @@
+pub mod Asked
 pub mod Frames
 pub mod Lives
 pub mod Numbers

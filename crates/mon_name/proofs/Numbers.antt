@@ -30,7 +30,7 @@ all : (f g h : ℕ → List ℕ) (r : List ℕ → List ℕ) → ((k : ℕ) → 
 all f g h r each [] = refl
 all f g h r each (k ∷ ks) = ap (λ (x : List ℕ). x ∷ map r (map f ks)) (each k) ∙ ap (λ (xs : List (List ℕ)). g k ∷ xs) (all f g h r each ks)
 
-plain : (life : ℕ) (message : List ℕ) → is_piece message ≡ false → renumbered life message ≡ message
+pub plain : (life : ℕ) (message : List ℕ) → is_piece message ≡ false → renumbered life message ≡ message
 plain life message e = ap (λ (b : Bool). cond b (take 4 message ++ u64_bytes life ++ drop 12 message) message) e
 
 pub renumbered_pieces : (message : List ℕ) (boot life seq : ℕ) → is_piece message ≡ false → map (renumbered life) (pieces_of message boot seq) ≡ pieces_of message life seq

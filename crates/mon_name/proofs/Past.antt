@@ -50,7 +50,7 @@ goes_past most tag wait last old between new t rest = by t.gave t.asks t.opens
     by (Ok got) asks foreign = asks_again most tag wait (Ok got) last old between new foreign asks rest
     by (Err e) asks foreign = absurd cc
 
-foreign_idle : (tag : ℕ) (got : Got) → is_foreign tag (Ok got) ≡ true → off_got tag got ≡ Idle
+pub foreign_idle : (tag : ℕ) (got : Got) → is_foreign tag (Ok got) ≡ true → off_got tag got ≡ Idle
 foreign_idle tag (Datagram (Monitor j) bytes) e = by (unframed tag bytes) e
   where
     by : (o : Option (List ℕ)) → not (is_some o) ≡ true → if_framed (Monitor j) o ≡ Idle

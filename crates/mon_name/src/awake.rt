@@ -1,6 +1,9 @@
 ghost use Rattle.std.specs.Prelude.{◌≡◌, true, false, None, Ok};
+ghost use Rattle.mon_link.specs.Histories.Happened.{Received, WasSent};
+ghost use Rattle.mon_link.specs.Layers.{Above, Grows};
 ghost use Rattle.mon_link.specs.declared.link.Got.TheVariants.{Closed};
 ghost use Rattle.mon_name.specs.Awake.{NextAwake, SendAwake};
+ghost use Rattle.mon_name.specs.Histories.{AwakeDoes, NotStood};
 
 use crate::gaps::Gaps;
 use mon_link::{Clock, Got, Link, Peer};
@@ -41,12 +44,16 @@ impl<L: Link + Drop, C: Clock + Drop> Link for Awake<L, C> {
       losses = (L.state r.inner).losses;
     } };
 
+    ghost history = { λ r. Above AwakeDoes NotStood (L.history r.inner) r.gaps };
+
     /// Reads the clock, asks the link below once for what comes, and reads the clock again. After a gap the result is
     /// `Closed`, and the link below isn't asked. If a gap is seen after it was asked, what came is dropped, but an
     /// error is returned.
     fn next(&mut self, wait: u64) -> Result<Got, Stop>
         ensures next { NextAwake wait result self.old.gaps self.new.gaps
             (L.state self.old.inner) (L.state self.new.inner) }
+        ensures does { Grows (L.history self.old.inner)
+            (λ calls. AwakeDoes self.old.gaps (Received wait result) calls self.new.gaps) (L.history self.new.inner) }
         ensures stays { self.old.gaps.stood ≡ true
             → (self.new.gaps.stood ≡ true) × (self.new.inner ≡ self.old.inner) × (result ≡ Ok Closed) }
     {
@@ -63,6 +70,8 @@ impl<L: Link + Drop, C: Clock + Drop> Link for Awake<L, C> {
     fn send(&mut self, to: Peer, bytes: &[u8]) -> Result<(), Stop>
         ensures send { SendAwake to bytes.now result self.old.gaps self.new.gaps
             (L.state self.old.inner) (L.state self.new.inner) }
+        ensures does { Grows (L.history self.old.inner)
+            (λ calls. AwakeDoes self.old.gaps (WasSent to bytes.now result) calls self.new.gaps) (L.history self.new.inner) }
         ensures stays { self.old.gaps.stood ≡ true
             → (self.new.gaps.stood ≡ true) × (self.new.inner ≡ self.old.inner) }
     {

@@ -1,7 +1,10 @@
 ghost use Rattle.std.specs.Prelude.{◌≡◌};
+ghost use Rattle.mon_link.specs.Histories.Happened.{Received, WasSent};
+ghost use Rattle.mon_link.specs.Layers.{Above, Grows};
 ghost use Rattle.mon_link.specs.Links.{CallsSend};
 ghost use Rattle.mon_link.specs.declared.link.Got.TheVariants.{Datagram};
 ghost use Rattle.mon_link.specs.declared.link.Peer.TheVariants.{Client, Monitor};
+ghost use Rattle.mon_name.specs.Histories.{AnyNames, IsAskedOnce, IsAskedPast, IsAskedToSend, NamedDoes, names};
 ghost use Rattle.mon_name.specs.Numbers.{renumbered};
 ghost use Rattle.mon_name.specs.Naming.{Opens, Takes, Unframes, wired};
 
@@ -76,6 +79,7 @@ impl<L: Link + Drop> Named<L> {
     /// Asks the link below once. Returns what it gave without its frame; `None` if that is a foreign datagram.
     fn takes(&mut self, wait: u64) -> Result<Option<Got>, Stop>
         ensures takes { Takes self.old.tag wait result (L.state self.old.inner) (L.state self.new.inner) }
+        ensures grows { Grows (L.history self.old.inner) (IsAskedOnce self.old.tag wait result) (L.history self.new.inner) }
         ensures tag { self.new.tag ≡ self.old.tag }
         ensures life { self.new.life ≡ self.old.life }
     {
@@ -89,6 +93,7 @@ impl<L: Link + Drop> Named<L> {
     /// Asks the link below for this long, and again without waiting after each foreign datagram.
     fn asks_past(&mut self, wait: u64) -> Result<Got, Stop>
         ensures asks { Unframes self.old.tag wait result (L.state self.old.inner) (L.state self.new.inner) }
+        ensures grows { Grows (L.history self.old.inner) (IsAskedPast self.old.tag wait result) (L.history self.new.inner) }
         ensures tag { self.new.tag ≡ self.old.tag }
         ensures life { self.new.life ≡ self.old.life }
     {
@@ -109,6 +114,8 @@ impl<L: Link + Drop> Named<L> {
     fn sends_to(&mut self, client: u32, bytes: &[u8]) -> Result<(), Stop>
         ensures sends { CallsSend (Client client) (renumbered self.old.life bytes.now) result
             (L.state self.old.inner) (L.state self.new.inner) }
+        ensures grows { Grows (L.history self.old.inner)
+            (IsAskedToSend (Client client) (renumbered self.old.life bytes.now) result) (L.history self.new.inner) }
         ensures tag { self.new.tag ≡ self.old.tag }
         ensures life { self.new.life ≡ self.old.life }
     {
@@ -131,11 +138,16 @@ impl<L: Link + Drop> Link for Named<L> {
       losses = (L.state r.inner).losses;
     } };
 
+    ghost history = { λ r. Above NamedDoes AnyNames (L.history r.inner) (names r.tag r.life) };
+
     /// Asks the link below for what comes, for as long. After a foreign datagram it is asked again at once, without
     /// waiting, at most 64 times. Foreign ones are dropped, and its last answer is handed on. If that is a foreign
     /// datagram too, the answer is Idle.
     fn next(&mut self, wait: u64) -> Result<Got, Stop>
         ensures asks { Unframes self.old.tag wait result (L.state self.old.inner) (L.state self.new.inner) }
+        ensures does { Grows (L.history self.old.inner)
+            (λ calls. NamedDoes (names self.old.tag self.old.life) (Received wait result) calls (names self.new.tag self.new.life))
+            (L.history self.new.inner) }
         ensures tag { self.new.tag ≡ self.old.tag }
         ensures life { self.new.life ≡ self.old.life }
     {
@@ -146,6 +158,9 @@ impl<L: Link + Drop> Link for Named<L> {
     fn send(&mut self, to: Peer, bytes: &[u8]) -> Result<(), Stop>
         ensures sends { CallsSend to (wired self.old.tag self.old.life to bytes.now) result
             (L.state self.old.inner) (L.state self.new.inner) }
+        ensures does { Grows (L.history self.old.inner)
+            (λ calls. NamedDoes (names self.old.tag self.old.life) (WasSent to bytes.now result) calls (names self.new.tag self.new.life))
+            (L.history self.new.inner) }
         ensures tag { self.new.tag ≡ self.old.tag }
         ensures life { self.new.life ≡ self.old.life }
     {

@@ -1,4 +1,6 @@
 use Rattle.std.proofs.Common.{rules}
+use Rattle.mon_link.proofs.Layers.{above_on}
+use Rattle.mon_name.specs.Histories.{AnyNames, NamedDoes}
 use Rattle.mon_name.proofs.Past.{unframes_faults, unframes_losses}
 use Rattle.mon_name.proofs.named.NamedLink.TheImpl.Goals as goal
 
@@ -6,4 +8,7 @@ pub next-tells : goal.next-tells
 next-tells g c =
     let faults = unframes_faults _ _ _ _ _ c.ensures.asks in
     let losses = unframes_losses _ _ _ _ _ c.ensures.asks in
-    search (rules, faults, losses)
+    record { calls = search (rules, faults, losses); goes_on = above_on NamedDoes AnyNames _ _ _ _ _ c.ensures.does }
+
+pub send-tells : goal.send-tells
+send-tells g c = record { calls = search (rules, c.ensures.sends); goes_on = above_on NamedDoes AnyNames _ _ _ _ _ c.ensures.does }
