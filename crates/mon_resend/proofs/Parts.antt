@@ -24,7 +24,7 @@ pub one_right : {A : Type 0} (xs ys : List A) (x : A) → IsOneOf ys x → IsOne
 one_right [] ys x h = h
 one_right (z ∷ xs) ys x h = inr (one_right xs ys x h)
 
-either : {A : Type 0} (xs ys : List A) (x : A) → IsOneOf (xs ++ ys) x → IsOneOf xs x ⊎ IsOneOf ys x
+pub either : {A : Type 0} (xs ys : List A) (x : A) → IsOneOf (xs ++ ys) x → IsOneOf xs x ⊎ IsOneOf ys x
 either [] ys x h = inr h
 either (z ∷ xs) ys x h = elim h [ inl e ↦ inl (inl e) | inr r ↦ (elim (either xs ys x r) [ inl a ↦ inl (inr a) | inr b ↦ inr b ]) ]
 

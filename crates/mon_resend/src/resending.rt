@@ -2,10 +2,14 @@
 
 ghost use Rattle.std.specs.Prelude.{◌≡◌, ◌<◌, ◌++◌, ◌∷◌, ◌⊎◌, [], Ok, slice_get, option_map};
 ghost use Rattle.mon_resend.specs.Copied.{AreOf, AsksOnce, datagram};
+ghost use Rattle.mon_resend.specs.Histories.{NothingKept, ResendingDoes};
 ghost use Rattle.mon_resend.specs.Sending.{Receives, Sends, SendsEach, isnt_handed_up, may_go, outs, run_after, with_got};
 ghost use Rattle.mon_resend.specs.Shelves.{due_copies, due_copy_at};
 ghost use Rattle.mon_resend.specs.World.{all_due_copies, all_passed, box_of, fresh, is_sent_now, sent};
 ghost use Rattle.mon_link.specs.Clocks.{after};
+ghost use Rattle.mon_link.specs.Histories.{GoesOn};
+ghost use Rattle.mon_link.specs.Histories.Happened.{Received, WasSent};
+ghost use Rattle.mon_link.specs.Layers.{Above, Grows, Sent};
 ghost use Rattle.mon_link.specs.Links.{CallsSend, count_after};
 ghost use Rattle.mon_link.specs.declared.link.Peer.TheVariants.{Monitor};
 
@@ -50,6 +54,7 @@ impl<L: Link + Drop, C: Clock + Drop> Resending<L, C> {
     fn repeat_one(&mut self, place: usize, at: usize, again: bool, now: u64)
         requires { place < 15 }
         ensures sends { SendsEach (due_copy_at again now (slice_get (box_of place self.old.copies).shelf at)) (L.state self.old.inner) (L.state self.new.inner) }
+        ensures grows { Grows (L.history self.old.inner) (Sent (due_copy_at again now (slice_get (box_of place self.old.copies).shelf at))) (L.history self.new.inner) }
         ensures others { (self.new.copies ≡ self.old.copies) × (self.new.losses ≡ self.old.losses) × (self.new.run ≡ self.old.run) }
     {
         let Some(kept) = self.copies.kept(place).get(at) else {
@@ -65,6 +70,7 @@ impl<L: Link + Drop, C: Clock + Drop> Resending<L, C> {
     fn repeat_at(&mut self, place: usize, again: bool, now: u64)
         requires { place < 15 }
         ensures sends { SendsEach (due_copies again now (box_of place self.old.copies).shelf) (L.state self.old.inner) (L.state self.new.inner) }
+        ensures grows { Grows (L.history self.old.inner) (Sent (due_copies again now (box_of place self.old.copies).shelf)) (L.history self.new.inner) }
         ensures others { (self.new.copies ≡ self.old.copies) × (self.new.losses ≡ self.old.losses) × (self.new.run ≡ self.old.run) }
     {
         for at in 0..self.copies.kept(place).len() {
@@ -75,6 +81,7 @@ impl<L: Link + Drop, C: Clock + Drop> Resending<L, C> {
     /// Sends the due copies, monitor by monitor, and updates their notes.
     fn repeat(&mut self, again: bool, now: u64)
         ensures sends { SendsEach (all_due_copies again now self.old.copies) (L.state self.old.inner) (L.state self.new.inner) }
+        ensures grows { Grows (L.history self.old.inner) (Sent (all_due_copies again now self.old.copies)) (L.history self.new.inner) }
         ensures kept { self.new.copies ≡ all_passed again now self.old.copies }
         ensures others { (self.new.losses ≡ self.old.losses) × (self.new.run ≡ self.old.run) }
     {
@@ -86,6 +93,7 @@ impl<L: Link + Drop, C: Clock + Drop> Resending<L, C> {
 
     fn passes(&mut self, to: Peer, bytes: &[u8]) -> Result<(), Stop>
         ensures sends { CallsSend to bytes.now result (L.state self.old.inner) (L.state self.new.inner) }
+        ensures goes_on { GoesOn (L.history self.old.inner) (WasSent to bytes.now result) (L.history self.new.inner) }
         ensures kept { self.new.copies ≡ self.old.copies }
         ensures losses { self.new.losses ≡ count_after result self.old.losses }
     {
@@ -142,12 +150,16 @@ impl<L: Link + Drop, C: Clock + Drop> Link for Resending<L, C> {
 
     ghost state = { λ r. record { observed = None; faults = (L.state r.inner).faults; losses = r.losses } };
 
+    ghost history = { λ r. Above ResendingDoes NothingKept (L.history r.inner) r.copies };
+
     /// Asks the link below once, and waits at most until a copy is due. Then sends the due copies. Returns `Idle` for a
     /// datagram that isn't handed up, and an error of the link below at once.
     fn next(&mut self, wait: u64) -> Result<Got, Stop>
         ensures exactly { Receives wait (C.left self.old.clock) self.old.run self.old.copies (L.state self.old.inner) result self.new.run self.new.copies (L.state self.new.inner) }
         ensures asks { AsksOnce wait (outs self.old.copies) result (L.state self.old.inner) (L.state self.new.inner) }
         ensures kept { AreOf (outs self.old.copies) (outs self.new.copies) }
+        ensures does { Grows (L.history self.old.inner)
+            (λ calls. ResendingDoes self.old.copies (Received wait result) calls self.new.copies) (L.history self.new.inner) }
         ensures losses { self.new.losses ≡ self.old.losses }
     {
         let before = self.clock.now().get();
@@ -170,6 +182,8 @@ impl<L: Link + Drop, C: Clock + Drop> Link for Resending<L, C> {
         ensures sends { (CallsSend to bytes.now result (L.state self.old.inner) (L.state self.new.inner))
             ⊎ ((result ≡ Ok tt) × (self.new.inner ≡ self.old.inner)) }
         ensures kept { AreOf (outs self.old.copies ++ datagram to bytes.now ∷ []) (outs self.new.copies) }
+        ensures does { Grows (L.history self.old.inner)
+            (λ calls. ResendingDoes self.old.copies (WasSent to bytes.now result) calls self.new.copies) (L.history self.new.inner) }
         ensures losses { self.new.losses ≡ count_after result self.old.losses }
     {
         match to {
