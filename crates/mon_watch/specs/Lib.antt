@@ -1,4 +1,5 @@
 pub mod Answering
+pub mod Histories
 pub mod Kinds
 pub mod Rations
 pub mod Reports

@@ -1,9 +1,12 @@
 //! A link that watches its monitor.
 
 ghost use Rattle.std.specs.Prelude.{◌≡◌, ◌⊎◌, Some, Err, IfErr, IfOk, IsSome};
+ghost use Rattle.mon_link.specs.Histories.Happened.{Received, WasSent};
+ghost use Rattle.mon_link.specs.Layers.{Above, Grows};
 ghost use Rattle.mon_link.specs.Links.{CallsSend, count_after};
 ghost use Rattle.mon_types.specs.declared.names.Stop.TheVariants.{OutOfMemory as no_memory};
 ghost use Rattle.mon_watch.specs.Answering.{AsksOnce, SendsAnswer, SendsTo, admitted, after_send, answer, asked_by, asker, noted, passed, untils_after};
+ghost use Rattle.mon_watch.specs.Histories.{AnswerIsSent, NothingNoted, SentTo, WatchedDoes, watching};
 ghost use Rattle.mon_watch.specs.Requests.{request_of};
 ghost use Rattle.mon_watch.specs.Traffic.{no_notes, notes_got, notes_sent};
 
@@ -140,6 +143,7 @@ impl<L: Link + Drop, C: Clock + Drop, S: LineReceiver + Drop> Watched<L, C, S> {
     /// Sends this to a client. What couldn't be sent is lost.
     fn sends_to(&mut self, client: u32, bytes: &[u8]) -> Result<(), Stop>
         ensures sends { SendsTo client bytes.now result (L.state self.old.inner) (L.state self.new.inner) }
+        ensures grows { Grows (L.history self.old.inner) (SentTo client bytes.now result) (L.history self.new.inner) }
         ensures kept { (self.new.notes ≡ self.old.notes) × (self.new.watch.member ≡ self.old.watch.member) × (self.new.losses ≡ self.old.losses) }
         ensures answered { self.new.watch.answered ≡ self.old.watch.answered }
         ensures memory { IfErr result (λ e. e ≡ no_memory) }
@@ -152,6 +156,8 @@ impl<L: Link + Drop, C: Clock + Drop, S: LineReceiver + Drop> Watched<L, C, S> {
     fn answers(&mut self, asker: Asker) -> Result<(), Stop>
         ensures sends { SendsAnswer (Some asker) self.old.watch.member self.old.notes result (L.state self.old.inner) (L.state self.new.inner)
             ⊎ ((result ≡ Err no_memory) × (L.state self.new.inner ≡ L.state self.old.inner)) }
+        ensures grows { Grows (L.history self.old.inner)
+            (AnswerIsSent (Some asker) (watching self.old.watch.member self.old.notes) result) (L.history self.new.inner) }
         ensures kept { (self.new.notes ≡ self.old.notes) × (self.new.watch.member ≡ self.old.watch.member) × (self.new.losses ≡ self.old.losses) }
         ensures answered { self.new.watch.answered ≡ self.old.watch.answered }
         ensures memory { IfErr result (λ e. e ≡ no_memory) }
@@ -174,6 +180,8 @@ impl<L: Link + Drop, C: Clock + Drop, S: LineReceiver + Drop> Watched<L, C, S> {
     fn answers_if(&mut self, asker: Option<Asker>) -> Result<(), Stop>
         ensures sends { SendsAnswer asker self.old.watch.member self.old.notes result (L.state self.old.inner) (L.state self.new.inner)
             ⊎ (IsSome asker × (result ≡ Err no_memory) × (L.state self.new.inner ≡ L.state self.old.inner)) }
+        ensures grows { Grows (L.history self.old.inner)
+            (AnswerIsSent asker (watching self.old.watch.member self.old.notes) result) (L.history self.new.inner) }
         ensures kept { (self.new.notes ≡ self.old.notes) × (self.new.watch.member ≡ self.old.watch.member) × (self.new.losses ≡ self.old.losses) }
         ensures answered { self.new.watch.answered ≡ self.old.watch.answered }
         ensures memory { IfErr result (λ e. e ≡ no_memory) }
@@ -191,12 +199,17 @@ impl<L: Link + Drop, C: Clock + Drop, S: LineReceiver + Drop> Link for Watched<L
 
     ghost state = { λ r. record { observed = None; faults = (L.state r.inner).faults; losses = r.losses } };
 
+    ghost history = { λ r. Above WatchedDoes NothingNoted (L.history r.inner) (watching r.watch.member r.notes) };
+
     /// Asks the link below once, with the same wait. Then it writes lines and answers a client that asked and doesn't
     /// wait. If memory runs out for the answer, that is the error, and what was received is dropped.
     fn next(&mut self, wait: u64) -> Result<Got, Stop>
         ensures asks { AsksOnce self.old.watch.member (C.left self.old.clock) wait result
             (noted self.old.notes self.old.watch.answered) (noted self.new.notes self.new.watch.answered)
             (L.state self.old.inner) (L.state self.new.inner) }
+        ensures does { Grows (L.history self.old.inner)
+            (λ calls. WatchedDoes (watching self.old.watch.member self.old.notes) (Received wait result) calls
+            (watching self.new.watch.member self.new.notes)) (L.history self.new.inner) }
         ensures member { self.new.watch.member ≡ self.old.watch.member }
         ensures losses { self.new.losses ≡ self.old.losses }
     {
@@ -220,6 +233,9 @@ impl<L: Link + Drop, C: Clock + Drop, S: LineReceiver + Drop> Link for Watched<L
     fn send(&mut self, to: Peer, bytes: &[u8]) -> Result<(), Stop>
         ensures sends { CallsSend to bytes.now result (L.state self.old.inner) (L.state self.new.inner) }
         ensures notes { self.new.notes ≡ notes_sent self.old.watch.member.rank to bytes.now self.old.notes }
+        ensures does { Grows (L.history self.old.inner)
+            (λ calls. WatchedDoes (watching self.old.watch.member self.old.notes) (WasSent to bytes.now result) calls
+            (watching self.new.watch.member self.new.notes)) (L.history self.new.inner) }
         ensures member { self.new.watch.member ≡ self.old.watch.member }
         ensures answered { self.new.watch.answered ≡ self.old.watch.answered }
         ensures losses { self.new.losses ≡ count_after result self.old.losses }
