@@ -1,4 +1,6 @@
 pub mod Fields
+pub mod Following
+pub mod Greeted
 pub mod InTurn
 pub mod Lengths
 pub mod Whole

@@ -79,12 +79,15 @@ rounds due untils left = record { due = due; untils = untils; left = left }
 abbrev pub is_due : ℕ → Rounds → Bool
 is_due now r = nat_le r.due now
 
--- The hellos that are sent after the link below gave something at this time: an answer to a client that sent one and
--- doesn't wait, and one to each other monitor if a round is due.
+-- an answer to a client, if there is one to answer, and a hello to each other monitor, if a round is due
+abbrev pub hellos_to : Own → Option ℕ → (due : Bool) → List Outgoing
+hellos_to own client due =
+    answer own.answer client ++ (if due then round own.member.rank own.member.monitors own.datagram else [])
+
+-- The hellos that are sent after the link below gave something at this time: to a client that sent one and doesn't wait,
+-- and to the other monitors, if a round is due.
 abbrev pub hellos : Own → Rounds → (now : ℕ) → Got → List Outgoing
-hellos own r now got =
-    answer own.answer (admitted now r.untils (asker got))
-    ++ (if is_due now r then round own.member.rank own.member.monitors own.datagram else [])
+hellos own r now got = hellos_to own (admitted now r.untils (asker got)) (is_due now r)
 
 -- A datagram that failed is followed by the next one. Once memory ran out nothing more is sent, and that is the result.
 abbrev pub Follows : (answered : Result (Unit {0}) Stop) → (Result (Unit {0}) Stop → LinkState → LinkState → Type 0)

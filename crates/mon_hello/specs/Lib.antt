@@ -1,4 +1,5 @@
 pub mod Formats
 pub mod Greets
+pub mod Histories
 pub mod Laws
 pub mod Names

@@ -1,8 +1,11 @@
 //! A link whose monitors greet one another.
 
 ghost use Rattle.std.specs.Prelude.{◌≡◌};
+ghost use Rattle.mon_link.specs.Histories.Happened.{Received, WasSent};
+ghost use Rattle.mon_link.specs.Layers.{Above, Grows};
 ghost use Rattle.mon_link.specs.Links.{CallsSend, count_after};
 ghost use Rattle.mon_hello.specs.Greets.{AsksOnce, passed, rounds};
+ghost use Rattle.mon_hello.specs.Histories.{AnyOwn, GreetingDoes};
 
 use crate::heard::Heard;
 use crate::hello::is_hello;
@@ -73,6 +76,8 @@ impl<L: Link + Drop, C: Clock + Drop, S: Say + Drop> Link for Greeting<L, C, S> 
 
     ghost state = { λ r. record { observed = None; faults = (L.state r.inner).faults; losses = r.losses } };
 
+    ghost history = { λ r. Above GreetingDoes AnyOwn (L.history r.inner) r.own };
+
     /// Asks the link below once, with the same wait. Then it answers a client that sent a hello and doesn't wait, and
     /// greets each other monitor if a round is due. A hello whose send fails is left out. If memory runs out, that is the error, what was
     /// received is dropped, and a due round stays due.
@@ -81,6 +86,8 @@ impl<L: Link + Drop, C: Clock + Drop, S: Say + Drop> Link for Greeting<L, C, S> 
             (rounds self.old.due self.old.heard.answered (C.left self.old.clock))
             (rounds self.new.due self.new.heard.answered (C.left self.new.clock))
             (L.state self.old.inner) (L.state self.new.inner) }
+        ensures does { Grows (L.history self.old.inner)
+            (λ calls. GreetingDoes self.old.own (Received wait result) calls self.new.own) (L.history self.new.inner) }
         ensures own { self.new.own ≡ self.old.own }
         ensures losses { self.new.losses ≡ self.old.losses }
     {
@@ -102,6 +109,8 @@ impl<L: Link + Drop, C: Clock + Drop, S: Say + Drop> Link for Greeting<L, C, S> 
     /// Sends a datagram as it is.
     fn send(&mut self, to: Peer, bytes: &[u8]) -> Result<(), Stop>
         ensures sends { CallsSend to bytes.now result (L.state self.old.inner) (L.state self.new.inner) }
+        ensures does { Grows (L.history self.old.inner)
+            (λ calls. GreetingDoes self.old.own (WasSent to bytes.now result) calls self.new.own) (L.history self.new.inner) }
         ensures own { self.new.own ≡ self.old.own }
         ensures clock { self.new.clock ≡ self.old.clock }
         ensures due { self.new.due ≡ self.old.due }
