@@ -1,0 +1,6 @@
+//! What the links of a monitor do together.
+#![tactic(auto)]
+
+mod law;
+
+pub use law::law_stack;
