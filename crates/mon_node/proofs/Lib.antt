@@ -1,6 +1,8 @@
 pub mod Requests
 pub mod Letters
+pub mod Sends
 pub mod Sending
+pub mod Talking
 pub mod Renewing
 pub mod Standing
 pub mod Taking

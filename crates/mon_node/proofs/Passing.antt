@@ -85,6 +85,10 @@ module _ (me : Me) (s : Serving) (it : TimedInput) where
       keeping_within x (inr (inl e)) = inr (inl (e ∙ sym recorded_is))
       keeping_within x (inr (inr e)) = inr (inr (e ∙ sym kept_is))
 
+      -- the store is left with its transaction
+      pub left_kept : (new : Disks) (after : StoreView) → after ≡ kept r.transaction s.node.store → Leave new (λ x. x ≡ after) → Leave new (λ x. x ≡ store_view_kept me at_input)
+      left_kept new after is left = leave_as new (λ x. x ≡ after) (λ x. x ≡ store_view_kept me at_input) (λ x h. h ∙ is ∙ sym kept_is) left
+
       module _ (old new : Disks) (pass : Pass InKeeping old new) where
         iteration_pass : Pass InIteration old new
         iteration_pass = pass_as old new InKeeping InIteration keeping_within pass

@@ -100,11 +100,15 @@ module _ (me : Me) (s : Serving) (it : TimedInput) where
       abbrev numbered : Store → List Outgoing
       numbered x = datagrams (boot_in x) s.node.next (with_number s.node.next (letters me x r.sends))
 
-      -- and not all that it sends goes out
-      sent_front : (link : Option Observed) → SendsPrefix (numbered m) s.outside.link link → SendsPrefix these s.outside.link link
-      sent_front link front =
+      -- this is what it sends
+      pub in_these : (P : List Outgoing → Type 0) → P (numbered m) → P these
+      in_these P h =
           let sent : these ≡ numbered_by me s.node r = ap (of_input [] if_kept) reacts ∙ ap (λ (b : Bool). cond b [] (numbered_by me s.node r)) (le-ltb most_size (size_of (map_after s.node r)) fits) in
-          subst (λ (ds : List Outgoing). SendsPrefix ds s.outside.link link) (ap numbered is ∙ sym sent) front
+          subst P (ap numbered is ∙ sym sent) h
+
+      -- and not all of it goes out
+      sent_front : (link : Option Observed) → SendsPrefix (numbered m) s.outside.link link → SendsPrefix these s.outside.link link
+      sent_front link front = in_these (λ (ds : List Outgoing). SendsPrefix ds s.outside.link link) front
 
       pub not_sent : (e : NodeEnd) (link : Option Observed) → IsSpent (numbers m) e → SendsPrefix (numbered m) s.outside.link link → EndsAt me at_input e s.outside.clock link
       not_sent end.OutOfMemory link why front = record { cause = tt; clock_is = refl; link_is = sent_front link front }

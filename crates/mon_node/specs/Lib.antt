@@ -4,6 +4,8 @@ pub mod Keeping
 pub mod Lasting
 pub mod Nodes
 pub mod Posting
+pub mod Sends
 pub mod Servers
 pub mod Serving
 pub mod Iterations
+pub mod Talking

@@ -4,7 +4,8 @@ use Rattle.mon_bounds.specs.Fitting.{answer_in}
 use Rattle.mon_frag.specs.Pieces.{pieces_of}
 use Rattle.mon_frag.specs.declared.cutting.TheConstants.{DATAGRAM}
 use Rattle.mon_kv.specs.Readers.{epoch}
-use Rattle.mon_link.specs.Links.{Observed, LinkState}
+use Rattle.mon_link.specs.Histories.{Happened}
+use Rattle.mon_link.specs.Links.{Observed}
 use Rattle.mon_link.specs.declared.link.Outgoing.{Outgoing}
 use Rattle.mon_link.specs.declared.link.Peer.TheVariants.{Monitor, Client}
 use Rattle.mon_link.specs.declared.link.Peer.{Peer}
@@ -17,6 +18,7 @@ use Rattle.mon_tx.specs.declared.key.Area.TheVariants as area
 use Rattle.mon_tx.specs.declared.key.Key.TheVariants as key
 use Rattle.mon_types.specs.declared.names.Which.TheVariants as which
 use Rattle.mon_wire.specs.Message.Whole.{text}
+use Rattle.mon_node.specs.Sends.{LinkNow, Went, WentFirst}
 use Rattle.mon_node.specs.declared.end.NodeEnd.TheVariants as end
 use Rattle.mon_node.specs.declared.end.NodeEnd.{NodeEnd}
 
@@ -76,10 +78,15 @@ abbrev pub SendsBy : {T E : Type 0} → List Outgoing → Result T E → Option 
 SendsBy ds (Ok x) old new = SendsAll ds old new
 SendsBy ds (Err e) old new = SendsPrefix ds old new
 
+abbrev pub WentBy : {T E : Type 0} → List Outgoing → Result T E → (before after : List Happened → Type 0) → Type 0
+WentBy ds (Ok x) before after = Went ds before after
+WentBy ds (Err e) before after = WentFirst ds before after
+
 -- All of these datagrams were sent, or a prefix of them if the node ended. No fault is counted.
-pub record Posts {T E : Type 0} (ds : List Outgoing) (result : Result T E) (old new : LinkState) : Type 0 where
-  pub observed : SendsBy ds result old.observed new.observed
-  pub faults : new.faults ≡ old.faults
+pub record Posts {T E : Type 0} (ds : List Outgoing) (result : Result T E) (old new : LinkNow) : Type 0 where
+  pub observed : SendsBy ds result old.state.observed new.state.observed
+  pub went : WentBy ds result old.history new.history
+  pub faults : new.state.faults ≡ old.state.faults
 
 -- why not all of them were: the number of the next one passes the greatest, or memory ran out
 abbrev pub IsSpent : (next : ℕ) → NodeEnd → Type 0

@@ -1,11 +1,14 @@
 //! What an iteration hears: a timer that is due, or what the link returns.
 
-ghost use Rattle.std.specs.Prelude.{◌≡◌, ℕ, Result, IfOk, IfSome, OnOk};
+ghost use Rattle.std.specs.Prelude.{◌≡◌, ℕ, [], ◌∷◌, Result, IfOk, IfSome, OnOk};
 ghost use Rattle.mon_bounds.specs.Fitting.{IsValidInput};
 ghost use Rattle.mon_frag.specs.Keeping.{taken};
 ghost use Rattle.mon_frag.specs.Whole.{answer_in, kept_in};
 ghost use Rattle.mon_node.specs.Hearing.{due_by, wait_until, input_in, Given, AreAnswers, IsGiven, Hears, answer_arrived, link_asked, heard, faults_by};
 ghost use Rattle.mon_node.specs.Nodes.{outside_of};
+ghost use Rattle.mon_node.specs.Talking.{asked};
+ghost use Rattle.mon_link.specs.Histories.{GoOn};
+ghost use Rattle.mon_link.specs.Histories.Happened.{Received};
 ghost use Rattle.mon_link.specs.declared.link.Got.{Got as gots};
 ghost use Rattle.mon_types.specs.declared.names.Stop.{Stop as stops};
 
@@ -90,7 +93,8 @@ fn ask<L: Link, C: Clock>(
     ensures heard { let old = outside_of assembly.old (C.left clock.old) (L.state link.old).observed in
         (answer : Result gots stops) × (later : ℕ) × AreAnswers old answer later
         × Hears (answer_arrived monitors later answer (link_asked wait answer old)) result
-        (outside_of assembly.new (C.left clock.new) (L.state link.new).observed) }
+        (outside_of assembly.new (C.left clock.new) (L.state link.new).observed)
+        × GoOn (L.history link.old) (Received wait answer ∷ []) (L.history link.new) }
     ensures comes { IfOk result (λ came. IfSome came (λ it. IsValidInput it.input)) }
     ensures faults { (L.state link.new).faults ≡ faults_by result (L.state link.old).faults }
 {
@@ -122,7 +126,8 @@ pub(crate) fn hear<L: Link, C: Clock>(
     ensures heard { let old = outside_of assembly.old (C.left clock.old) (L.state link.old).observed in
         (g : Given) × IsGiven next.now g old
         × Hears (heard monitors next.now g old) result
-        (outside_of assembly.new (C.left clock.new) (L.state link.new).observed) }
+        (outside_of assembly.new (C.left clock.new) (L.state link.new).observed)
+        × GoOn (L.history link.old) (asked next.now g) (L.history link.new) }
     ensures comes { IfOk result (λ came. IfSome came (λ it. IsValidInput it.input)) }
     ensures faults { (L.state link.new).faults ≡ faults_by result (L.state link.old).faults }
 {

@@ -1,14 +1,16 @@
 //! Sends what a core's reaction asks for, as datagrams.
 
-ghost use Rattle.std.specs.Prelude.{◌≡◌, ◌≤◌, ◌<◌, ◌+◌, ◌^◌, [], ◌∷◌, length, map, IfOk, IfErr, OnOk};
+ghost use Rattle.std.specs.Prelude.{◌≡◌, ◌≤◌, ◌<◌, ◌+◌, ◌^◌, List, [], ◌∷◌, length, map, IfOk, IfErr, OnOk};
 ghost use Rattle.std.specs.List.{AllByRecursion};
 ghost use Rattle.mon_bounds.specs.Fitting.{MaySend};
 ghost use Rattle.mon_bytes.specs.declared.limits.TheConstants.{MOST_MESSAGE};
 ghost use Rattle.mon_core.specs.Reacts.{SendsNamed};
+ghost use Rattle.mon_link.specs.Histories.{Happened};
 ghost use Rattle.mon_types.specs.declared.names.Which.TheVariants as number;
 ghost use Rattle.mon_wire.specs.Message.Whole.{HasText, text};
 ghost use Rattle.mon_wire.specs.declared.body.Body.TheVariants as body;
 ghost use Rattle.mon_node.specs.Posting.{Posts, to_peer, letter, letters, next_after_message, next_after, with_number, datagrams_of, datagrams, boot_in, IsSpent};
+ghost use Rattle.mon_node.specs.Sends.{link_now};
 
 use crate::end::NodeEnd;
 use mon_bounds::law_message_fits;
@@ -23,16 +25,19 @@ use std::alloc::Global;
 
 /// Sends a datagram. One that can't be sent is lost.
 fn send_one<L: Link>(link: &mut L, to: &Peer, datagram: &[u8]) -> Result<(), OutOfMemory>
-    ensures { Posts (to_peer to.now datagram.now ∷ []) result (L.state link.old) (L.state link.new) }
+    ensures { Posts (to_peer to.now datagram.now ∷ []) result
+        (link_now L.state L.history link.old) (link_now L.state L.history link.new) }
 {
     match link.send(*to, datagram) {
-        Ok(()) | Err(Stop::Failed) => Ok(()),
+        Ok(()) => Ok(()),
+        Err(Stop::Failed) => Ok(()),
         Err(Stop::OutOfMemory) => Err(OutOfMemory),
     }
 }
 
 fn send_each<L: Link>(link: &mut L, to: &Peer, datagrams: &[Bytes]) -> Result<(), OutOfMemory>
-    ensures { Posts (map (to_peer to.now) datagrams.now) result (L.state link.old) (L.state link.new) }
+    ensures { Posts (map (to_peer to.now) datagrams.now) result
+        (link_now L.state L.history link.old) (link_now L.state L.history link.new) }
 {
     for datagram in datagrams {
         send_one(link, to, datagram.as_slice())?;
@@ -70,12 +75,14 @@ fn send_letter<L: Link>(
 ) -> Result<(), NodeEnd>
     requires short { length letter.now.bytes ≤ MOST_MESSAGE }
     requires next { next.old ≤ 2 ^ 62 + 1 }
-    ensures posts { Posts (datagrams_of boot next.old letter.now) result (L.state link.old) (L.state link.new) }
+    ensures posts { Posts (datagrams_of boot next.old letter.now) result
+        (link_now L.state L.history link.old) (link_now L.state L.history link.new) }
     ensures behind { OnOk result (next.new ≡ next_after_message next.old (length letter.now.bytes)) }
     ensures most { OnOk result (next.new ≤ 2 ^ 62 + 1) }
     ensures spent { IfErr result (IsSpent (next_after_message next.old (length letter.now.bytes))) }
     ensures unsent { 2 ^ 62 + 1 < next_after_message next.old (length letter.now.bytes)
-        → L.state link.new ≡ L.state link.old }
+        → (L.state link.new ≡ L.state link.old)
+        × ((h : List Happened) → L.history link.old h → L.history link.new h) }
 {
     let bytes = letter.bytes.as_slice();
     let number = numbered(next, bytes.len())?;
@@ -154,7 +161,7 @@ pub(crate) fn send_all<L: Link>(
     requires named { AllByRecursion SendsNamed out }
     requires next { next.old ≤ 2 ^ 62 + 1 }
     ensures posts { Posts (datagrams (boot_in kv.now) next.old (with_number next.old (letters me.now kv.now out)))
-        result (L.state link.old) (L.state link.new) }
+        result (link_now L.state L.history link.old) (link_now L.state L.history link.new) }
     ensures behind { OnOk result (next.new ≡ next_after next.old (letters me.now kv.now out)) }
     ensures most { OnOk result (next.new ≤ 2 ^ 62 + 1) }
     ensures spent { IfErr result (IsSpent (next_after next.old (letters me.now kv.now out))) }

@@ -1,6 +1,6 @@
 //! A node in use.
 
-ghost use Rattle.std.specs.Prelude.{◌≡◌, false, Some, Ok, Option, OnOk, IfErr};
+ghost use Rattle.std.specs.Prelude.{◌≡◌, false, [], Some, Ok, Option, OnOk, IfErr};
 ghost use Rattle.mon_bounds.specs.Fitting.{IsValidInput};
 ghost use Rattle.mon_link.specs.Clocks.{Readings};
 ghost use Rattle.mon_link.specs.Links.{Observed};
@@ -12,6 +12,7 @@ ghost use Rattle.mon_node.specs.Lasting.{BothVisible, PassIteration};
 ghost use Rattle.mon_node.specs.Nodes.{unstarted, store_view_of, disks_of};
 ghost use Rattle.mon_node.specs.Serving.{EndsIteration, IsOfInput};
 ghost use Rattle.mon_node.specs.Iterations.{iteration};
+ghost use Rattle.mon_node.specs.Talking.{TalkIteration, asked};
 
 use crate::end::{NodeEnd, Served};
 use crate::hearing::hear;
@@ -95,6 +96,10 @@ impl<D: Disk> Server<D> {
             → PassIteration self.old.me
             (record { came = Ok (Some (at_time now input.now)); serving = serving_of self.old clock (L.state link.old).observed })
             result (L.state link.new).observed (disks_of D.state self.old.store) (disks_of D.state self.new.store) }
+        ensures talks { (clock : Option Readings) → TalkIteration self.old.me
+            (record { came = Ok (Some (at_time now input.now)); serving = serving_of self.old clock (L.state link.old).observed })
+            [] result (L.history link.old) (L.history link.new)
+            (disks_of D.state self.old.store) (disks_of D.state self.new.store) }
     {
         let reaction = self.core.react(self.alloc, self.store.kv(), input, now)?;
         keep(&mut self.store, &reaction.tx)?;
@@ -126,7 +131,9 @@ impl<D: Disk> Server<D> {
             (serving_of self.new (C.left clock.new) (L.state link.new).observed)
             × (BothVisible disks → PassIteration self.old.me (iteration self.old.me g old) result
             (L.state link.new).observed disks
-            (disks_of D.state self.new.store)) }
+            (disks_of D.state self.new.store))
+            × TalkIteration self.old.me (iteration self.old.me g old) (asked (due self.old.core.state.timers) g) result
+            (L.history link.old) (L.history link.new) disks (disks_of D.state self.new.store) }
         ensures faults { (L.state link.new).faults ≡ faults_by result (L.state link.old).faults }
         ensures counts { DisksCount result (D.state (disk_a self.old.store)).faults
             (D.state (disk_b self.old.store)).faults

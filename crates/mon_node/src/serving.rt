@@ -4,6 +4,7 @@ ghost use Rattle.mon_node.specs.Keeping.{DisksCountAt};
 ghost use Rattle.mon_node.specs.Lasting.{BothVisible, StandsThrough};
 ghost use Rattle.mon_node.specs.Nodes.{unstarted, store_view_of, disks, disks_of};
 ghost use Rattle.mon_node.specs.Serving.{Serves};
+ghost use Rattle.mon_node.specs.Talking.{Talks};
 ghost use Rattle.mon_store.specs.Whole.{IsSound, disk_a, disk_b};
 
 use crate::end::{NodeEnd, Served};
@@ -44,7 +45,7 @@ pub fn serve<D: Disk, L: Link, C: Clock>(
     requires sound { IsSound D.state store }
 
     // What clock and link gave to each iteration determines all results, and what a crash leaves of two disks whose
-    // contents can be seen.
+    // contents can be seen. Each history of the link goes on with what the iterations asked and sent.
     ensures serves { let start = unstarted member.rank (store_view_of store) (C.left clock.old)
         (L.state link.old).observed in
         let old = disks_of D.state store in let new = disks D.state result.disks.a result.disks.b in
@@ -52,7 +53,9 @@ pub fn serve<D: Disk, L: Link, C: Clock>(
         × Serves (record { member = member; rule = rule }) start turns result.end result.turns (C.left clock.new)
         (L.state link.new).observed first given
         × (BothVisible old → StandsThrough (record { member = member; rule = rule }) first start given result.end
-        (L.state link.new).observed old new) }
+        (L.state link.new).observed old new)
+        × Talks (record { member = member; rule = rule }) first start given result.end
+        (L.history link.old) (L.history link.new) old new }
 
     ensures faults { (L.state link.new).faults ≡ faults_at result.end (L.state link.old).faults }
     ensures counts { DisksCountAt result.end

@@ -8,7 +8,8 @@ use Rattle.mon_node.proofs.serving.serve.Given as goal
 abbrev pub invariant-loop-done : goal.invariant-loop-done
 invariant-loop-done g l = record {
   served : HasServed (record { member = l.fn.member; rule = l.fn.rule }) (unstarted l.fn.member.rank (store_view_of l.fn.store) (g.C.Clock.left l.fn.clock) (g.L.Link.state l.fn.link).observed)
-      (disks_of g.D.Disk.state l.fn.store) l.done (serving_of l.server (g.C.Clock.left l.clock) (g.L.Link.state l.link).observed) (disks_of g.D.Disk.state l.server.store);
+      (disks_of g.D.Disk.state l.fn.store) (g.L.Link.history l.fn.link) l.done (serving_of l.server (g.C.Clock.left l.clock) (g.L.Link.state l.link).observed) (disks_of g.D.Disk.state l.server.store)
+      (g.L.Link.history l.link);
   in_use : IsInUse g.D.Disk.state l.server;
   own : l.server.me ≡ record { member = l.fn.member; rule = l.fn.rule };
   faults : (g.L.Link.state l.link).faults ≡ (g.L.Link.state l.fn.link).faults;
