@@ -1,19 +1,24 @@
 -- What an iteration leaves, and how iterations go on.
-use Rattle.std.proofs.Common.{◌≡◌, ℕ, ◌+◌, ◌≤◌, List, [], ◌∷◌, ◌++◌, length, take, Option, Some, None, Result, Ok, Err, refl, sym, ap, subst, ◌∙◌, arith}
+use Rattle.std.proofs.Common.{◌≡◌, ℕ, ◌+◌, ◌≤◌, inl, inr, List, [], ◌∷◌, ◌++◌, length, take, Option, Some, None, Result, Ok, Err, refl, sym, ap, subst, ◌∙◌, append_assoc, arith}
 use Rattle.std.proofs.Math.Nat.{le_refl}
 use Rattle.std.proofs.Math.Seq.{take-append_seam, take-append-add, take-length}
-use Rattle.std.specs.Prelude.{IfErr, IfSome, OnOk}
+use Rattle.std.specs.Prelude.{IfErr, IfSome, OnOk, ◌%◌}
 use Rattle.std.specs.Option.{option_map}
 use Rattle.mon_frag.specs.declared.partial.Partial.{Partial}
+use Rattle.mon_link.specs.Histories.{Happened, GoOn}
+use Rattle.mon_link.specs.Histories.Happened.{Received}
 use Rattle.mon_link.specs.Links.{Observed, asked_to_send, next_leaves}
 use Rattle.mon_link.specs.declared.link.Got.{Got}
-use Rattle.mon_link.specs.declared.link.Got.TheVariants.{Datagram, Idle}
+use Rattle.mon_link.specs.declared.link.Got.TheVariants.{Closed, Datagram, Idle}
+use Rattle.mon_link.specs.declared.link.Peer.TheVariants.{Monitor}
 use Rattle.mon_link.specs.declared.link.Peer.{Peer}
 use Rattle.mon_types.specs.declared.names.Stop.{Stop}
 use Rattle.mon_types.specs.declared.names.Stop.TheVariants as stop
+use Rattle.mon_wire.specs.Message.Whole.{text}
 use Rattle.mon_wire.specs.declared.reply.Reply.{Reply}
 use Rattle.map_follower.specs.Copies.{taken}
-use Rattle.map_follower.specs.Iterations.{CopyAt, Course, Iterated, Does, Ends, EndsAfter, Follows, AreAnswers, IsAnswer, SentPrefix, WrittenPrefix, Writes, WritesPrefix, all_turned, and_turned, answered, asked, goes_on, line_of, turned, with_datagram, with_reply}
+use Rattle.map_follower.specs.Iterations.{CopyAt, Course, Iterated, Does, Ends, EndsAfter, Follows, AreAnswers, IsAnswer, SentPrefix, WrittenPrefix, Writes, WritesPrefix, all_turned, and_turned, answered, asked, goes_on, line_of, request_of, turned, with_datagram, with_reply}
+use Rattle.map_follower.specs.Talking.{AllWent, Answer, Asks, AsksBy, LackedAt, SendsOrNot, TalkIteration, Talks, WentAt, WentBy, WentUntil, asked_with, happened}
 use Rattle.map_follower.specs.declared.end.FollowEnd.{FollowEnd}
 use Rattle.map_follower.specs.declared.end.FollowEnd.TheVariants as end
 use Rattle.map_follower.specs.declared.follower.Follower.{Follower}
@@ -110,6 +115,19 @@ iteration_out n g is old updates leaves =
       same_written old.written,
     )
 
+-- the link reports that it is closed, or that it couldn't receive
+pub iteration_closed : (n : ℕ) (g : Result Got Stop) → g ≡ Ok Closed → (old : Course) (updates : Option Observed) → updates ≡ option_map (next_leaves 1000 g) old.link
+    → Does (Err end.Closed) old (turned n g old) (record old { link = updates })
+iteration_closed n g is old updates leaves =
+    subst (λ (z : Result Got Stop). updates ≡ option_map (next_leaves 1000 z) old.link → Does (Err end.Closed) old (turned n z old) (record old { link = updates })) (sym is)
+    (λ l. (refl, (refl, l, refl))) leaves
+
+pub iteration_failed : (n : ℕ) (g : Result Got Stop) → g ≡ Err stop.Failed → (old : Course) (updates : Option Observed) → updates ≡ option_map (next_leaves 1000 g) old.link
+    → Does (Err end.LinkFault) old (turned n g old) (record old { link = updates })
+iteration_failed n g is old updates leaves =
+    subst (λ (z : Result Got Stop). updates ≡ option_map (next_leaves 1000 z) old.link → Does (Err end.LinkFault) old (turned n z old) (record old { link = updates })) (sym is)
+    (λ l. (refl, (refl, l, refl))) leaves
+
 pub ends_after : (turns made : ℕ) (e : FollowEnd) (before : Course) (t : Iterated) (new : Course) → Ends e before t new → EndsAfter turns e made before t new
 ends_after turns made end.WriteFault before t new h = h
 ends_after turns made end.OutOfMemory before t new h = h
@@ -117,28 +135,129 @@ ends_after turns made end.Closed before t new h = h
 ends_after turns made end.LinkFault before t new h = h
 ends_after turns made end.TurnsUsed before t new h = absurd h.1
 
+-- ---- what happened on the link
+
+go_further : (P Q R : List Happened → Type 0) (xs ys : List Happened) → GoOn P xs Q → GoOn Q ys R → GoOn P (xs ++ ys) R
+go_further P Q R xs ys f g h old = subst R (append_assoc h xs ys) (g (h ++ xs) (f h old))
+
+pub none_lacks : (e : FollowEnd) → LackedAt e None
+none_lacks end.OutOfMemory = inl refl
+none_lacks end.Closed = refl
+none_lacks end.TurnsUsed = refl
+none_lacks end.LinkFault = refl
+none_lacks end.WriteFault = refl
+
+module _ (n : ℕ) (c : Course) (P Q : List Happened → Type 0) where
+  abbrev to : Peer
+  to = Monitor (c.asks % n)
+
+  abbrev bytes : List ℕ
+  bytes = text (request_of n c.asks c.follower)
+
+  pub was_asked : SendsOrNot {T = Unit {0}} {E = Unit {0}} to bytes (Ok tt) P Q → Asks {T = Unit {0}} n c (Ok tt) P Q
+  was_asked h = record { answer = Some h.0; went = h.1; goes_on = h.2 }
+
+  pub not_asked : SendsOrNot {T = Unit {0}} {E = Unit {0}} to bytes (Err tt) P Q → Asks {T = Unit {0}} n c (Err end.OutOfMemory) P Q
+  not_asked h = elim h [
+    | inl none ↦ record { answer = None; went = inl refl; goes_on = none }
+    | inr lacked ↦ record { answer = Some (Err stop.OutOfMemory); went = inr refl; goes_on = lacked }
+  ]
+
+-- an iteration at which the client ends isn't the last of all
+abbrev IsNoUse : FollowEnd → Type 0
+IsNoUse end.TurnsUsed = ⊥
+IsNoUse other = Unit {0}
+
+not_used : (e : FollowEnd) (before : Course) (t : Iterated) (new : Course) → Ends e before t new → IsNoUse e
+not_used end.OutOfMemory before t new h = tt
+not_used end.Closed before t new h = tt
+not_used end.TurnsUsed before t new h = absurd h.1
+not_used end.LinkFault before t new h = tt
+not_used end.WriteFault before t new h = tt
+
+first_talk : (e : FollowEnd) (a : Answer) → IsNoUse e → LackedAt e a → WentUntil e [] (a ∷ [])
+first_talk end.OutOfMemory a last h = (h, refl)
+first_talk end.Closed a last h = (h, refl)
+first_talk end.TurnsUsed a last h = absurd last
+first_talk end.LinkFault a last h = (h, refl)
+first_talk end.WriteFault a last h = (h, refl)
+
+ends_talk : (e : FollowEnd) (g : Result Got Stop) (earlier : List (Result Got Stop)) (a : Answer) (others : List Answer) → IsNoUse e → LackedAt e a → AllWent earlier others → WentUntil e (g ∷ earlier) (a ∷ others)
+ends_talk end.OutOfMemory g earlier a others last h all = (h, all)
+ends_talk end.Closed g earlier a others last h all = (h, all)
+ends_talk end.TurnsUsed g earlier a others last h all = absurd last
+ends_talk end.LinkFault g earlier a others last h all = (h, all)
+ends_talk end.WriteFault g earlier a others last h all = (h, all)
+
+used_talk : (given : List (Result Got Stop)) (answers : List Answer) → AllWent given answers → WentUntil end.TurnsUsed given answers
+used_talk [] [] all = absurd all
+used_talk (g ∷ earlier) [] all = absurd all
+used_talk [] (a ∷ others) all = all
+used_talk (g ∷ earlier) (a ∷ others) all = all
+
+module _ (n : ℕ) (old : Course) (g : Result Got Stop) (P Q : List Happened → Type 0) (asks : GoOn P (Received 1000 g ∷ []) Q) where
+  -- nothing was sent
+  pub silent_talk : (r : Result (Unit {0}) FollowEnd) → WentBy g None → TalkIteration n old g r P Q
+  silent_talk r none = record { answer = None; went = by r; goes_on = asks }
+    where
+      by : (r : Result (Unit {0}) FollowEnd) → WentAt r g None
+      by (Ok x) = none
+      by (Err e) = none_lacks e
+
+  pub ends_silent : (e : FollowEnd) → TalkIteration n old g (Err e) P Q
+  ends_silent e = record { answer = None; went = none_lacks e; goes_on = asks }
+
+  -- nothing came, and the next request was sent, or not
+  pub idle_talk : (R : List Happened → Type 0) (r : Result (Unit {0}) FollowEnd) (link : Option Observed) → g ≡ Ok Idle → Asks n (record old { link = link }) r Q R → TalkIteration n old g r P R
+  idle_talk R r link is sends = record {
+    answer = sends.answer;
+    went = by r sends.went;
+    goes_on = go_further P Q R (Received 1000 g ∷ []) (asked_with n old sends.answer) asks sends.goes_on;
+  }
+    where
+      by : (r : Result (Unit {0}) FollowEnd) → AsksBy r sends.answer → WentAt r g sends.answer
+      by (Ok x) h = subst (λ (z : Result Got Stop). WentBy z sends.answer) (sym is) h
+      by (Err e) h = h
+
 -- this many iterations led from one course to another
-pub record Leads (n made : ℕ) (old now : Course) : Type 0 where
+pub record Leads (n made : ℕ) (old now : Course) (before mid : List Happened → Type 0) : Type 0 where
   pub given : List (Result Got Stop)
   pub are : AreAnswers n old given
   pub long : length given ≡ made
   pub leads : all_turned n old given ≡ goes_on now
+  pub answers : List Answer
+  pub went : AllWent given answers
+  pub talk : GoOn before (happened n old given answers) mid
 
-pub begins : (n : ℕ) (old now : Course) → goes_on (asked n old) ≡ goes_on now → Leads n 0 old now
-begins n old now h = record { given = []; are = tt; long = refl; leads = h }
+pub begins : (n : ℕ) (old now : Course) (before mid : List Happened → Type 0) → goes_on (asked n old) ≡ goes_on now → Asks {T = Unit {0}} n old (Ok tt) before mid → Leads n 0 old now before mid
+begins n old now before mid h asks = record { given = []; are = tt; long = refl; leads = h; answers = asks.answer ∷ []; went = (asks.went, refl); talk = asks.goes_on }
 
-module _ (n made : ℕ) (old now : Course) (L : Leads n made old now) (g : Result Got Stop) (answer : IsAnswer now.link g) where
+module _ (n made : ℕ) (old now : Course) (before mid : List Happened → Type 0) (L : Leads n made old now before mid) (g : Result Got Stop) (answer : IsAnswer now.link g) where
   one_more : all_turned n old (g ∷ L.given) ≡ turned n g now
   one_more = ap (and_turned n g) L.leads
 
   are_more : AreAnswers n old (g ∷ L.given)
   are_more = (L.are, subst (λ (t : Iterated). IsAnswer t.course.link g) (sym L.leads) answer)
 
-  pub leads_on : (next : Course) → turned n g now ≡ goes_on next → Leads n (made + 1) old next
-  leads_on next h = record { given = g ∷ L.given; are = are_more; long = omega (arith, L.long); leads = one_more ∙ h }
+  -- what happened in the iteration comes after what happened before
+  talk_more : (a : Answer) (after : List Happened → Type 0) → GoOn mid (Received 1000 g ∷ asked_with n now a) after → GoOn before (happened n old (g ∷ L.given) (a ∷ L.answers)) after
+  talk_more a after talk =
+      go_further before mid after (happened n old L.given L.answers) (Received 1000 g ∷ asked_with n (all_turned n old L.given).course a) L.talk
+      (subst (λ (t : Iterated). GoOn mid (Received 1000 g ∷ asked_with n t.course a) after) (sym L.leads) talk)
 
-  pub ends_at : (turns : ℕ) (e : FollowEnd) (new : Course) → made + 1 ≤ turns → Ends e now (turned n g now) new → Follows n turns old new e
-  ends_at turns e new few h = record {
+  pub leads_on : (next : Course) (after : List Happened → Type 0) → turned n g now ≡ goes_on next → TalkIteration n now g (Ok tt) mid after → Leads n (made + 1) old next before after
+  leads_on next after h talk = record {
+    given = g ∷ L.given;
+    are = are_more;
+    long = omega (arith, L.long);
+    leads = one_more ∙ h;
+    answers = talk.answer ∷ L.answers;
+    went = (talk.went, L.went);
+    talk = talk_more talk.answer after talk.goes_on;
+  }
+
+  follows_at : (turns : ℕ) (e : FollowEnd) (new : Course) → made + 1 ≤ turns → Ends e now (turned n g now) new → Follows n turns old new e
+  follows_at turns e new few h = record {
     given = g ∷ L.given;
     are = are_more;
     most = omega (arith, L.long, few);
@@ -148,8 +267,28 @@ module _ (n made : ℕ) (old now : Course) (L : Leads n made old now) (g : Resul
         (subst (λ (c : Course). Ends e c (turned n g now) new) (sym (ap (λ (t : Iterated). t.course) L.leads)) h));
   }
 
-pub ends_first : (n turns : ℕ) (e : FollowEnd) (old new : Course) → Ends e old (goes_on (asked n old)) new → Follows n turns old new e
-ends_first n turns e old new h = record { given = []; are = tt; most = omega arith; ends = ends_after turns 0 e _ _ new h }
+  pub ends_at : (turns : ℕ) (e : FollowEnd) (new : Course) (after : List Happened → Type 0) → made + 1 ≤ turns → Ends e now (turned n g now) new → TalkIteration n now g (Err e) mid after
+      → (F : Follows n turns old new e) × Talks n old e F.given before after
+  unfolding follows_at
+  ends_at turns e new after few h talk = (
+    follows_at turns e new few h,
+    record {
+      answers = talk.answer ∷ L.answers;
+      went = ends_talk e g L.given talk.answer L.answers (not_used e now (turned n g now) new h) talk.went L.went;
+      goes_on = talk_more talk.answer after talk.goes_on;
+    },
+  )
 
-pub ends_last : (n made turns : ℕ) (old now : Course) → Leads n made old now → made ≡ turns → Follows n turns old now end.TurnsUsed
-ends_last n made turns old now L all = record { given = L.given; are = L.are; most = omega (arith, L.long, all); ends = (L.long ∙ all, L.leads) }
+pub ends_first : (n turns : ℕ) (e : FollowEnd) (old new : Course) (before after : List Happened → Type 0) → Ends e old (goes_on (asked n old)) new → Asks {T = Unit {0}} n old (Err e) before after
+    → (F : Follows n turns old new e) × Talks n old e F.given before after
+ends_first n turns e old new before after h asks = (
+  record { given = []; are = tt; most = omega arith; ends = ends_after turns 0 e _ _ new h },
+  record { answers = asks.answer ∷ []; went = first_talk e asks.answer (not_used e old (goes_on (asked n old)) new h) asks.went; goes_on = asks.goes_on },
+)
+
+pub ends_last : (n made turns : ℕ) (old now : Course) (before mid : List Happened → Type 0) → Leads n made old now before mid → made ≡ turns
+    → (F : Follows n turns old now end.TurnsUsed) × Talks n old end.TurnsUsed F.given before mid
+ends_last n made turns old now before mid L all = (
+  record { given = L.given; are = L.are; most = omega (arith, L.long, all); ends = (L.long ∙ all, L.leads) },
+  record { answers = L.answers; went = used_talk L.given L.answers L.went; goes_on = L.talk },
+)

@@ -5,6 +5,7 @@ ghost use Rattle.mon_link.specs.Links.{asked_to_send};
 ghost use Rattle.mon_link.specs.declared.link.Peer.TheVariants as peer;
 ghost use Rattle.mon_wire.specs.Message.Whole.{HasText, text};
 ghost use Rattle.map_follower.specs.Iterations.{request_of};
+ghost use Rattle.map_follower.specs.Talking.{Sends, SendsOrNot};
 
 use crate::follower::Follower;
 use mon_bytes::OutOfMemory;
@@ -37,9 +38,11 @@ fn send<L: Link>(link: &mut L, to: Peer, bytes: &[u8]) -> Result<(), OutOfMemory
     ensures ok { OnOk result ((L.state link.new).observed ≡ option_map (asked_to_send to bytes.now) (L.state link.old).observed) }
     ensures err { OnErr result ((L.state link.new).observed ≡ (L.state link.old).observed) }
     ensures faults { (L.state link.new).faults ≡ (L.state link.old).faults }
+    ensures talks { Sends to bytes.now result (L.history link.old) (L.history link.new) }
 {
     match link.send(to, bytes) {
-        Ok(()) | Err(Stop::Failed) => Ok(()),
+        Ok(()) => Ok(()),
+        Err(Stop::Failed) => Ok(()),
         Err(Stop::OutOfMemory) => Err(OutOfMemory),
     }
 }
@@ -61,6 +64,8 @@ pub(crate) fn ask<L: Link>(
         (text (request_of monitors asks.old follower.now))) (L.state link.old).observed) }
     ensures err { OnErr result ((L.state link.new).observed ≡ (L.state link.old).observed) }
     ensures faults { (L.state link.new).faults ≡ (L.state link.old).faults }
+    ensures talks { SendsOrNot (peer.Monitor (asks.old % monitors)) (text (request_of monitors asks.old follower.now))
+        result (L.history link.old) (L.history link.new) }
 {
     let message = request_of(monitors, *asks, follower);
     let encoded = message.encode(alloc);

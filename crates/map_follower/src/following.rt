@@ -2,6 +2,7 @@ ghost use Rattle.std.specs.Prelude.{◌≡◌, ℕ, ◌≤◌, ◌^◌, List, []
 ghost use Rattle.mon_frag.specs.declared.partial.Partial.{Partial};
 ghost use Rattle.mon_types.specs.Faults.{Rose};
 ghost use Rattle.map_follower.specs.Iterations.{Follows, course, faults_at};
+ghost use Rattle.map_follower.specs.Talking.{Talks};
 
 use crate::end::FollowEnd;
 use crate::follower::Follower;
@@ -27,9 +28,10 @@ pub fn follow<L: Link, K: Sink>(
     requires least { 1 ≤ monitors }
     requires most { monitors ≤ 15 }
     requires turns { turns ≤ 2 ^ 61 }
-    ensures follows { (asks : ℕ) × (parts : List Partial) × Follows monitors turns
-        (course follower.old [] 0 (L.state link.old).observed (K.held sink.old))
-        (course follower.new parts asks (L.state link.new).observed (K.held sink.new)) result }
+    ensures follows { let old = course follower.old [] 0 (L.state link.old).observed (K.held sink.old) in
+        (asks : ℕ) × (parts : List Partial) × (F : Follows monitors turns old
+        (course follower.new parts asks (L.state link.new).observed (K.held sink.new)) result)
+        × Talks monitors old result F.given (L.history link.old) (L.history link.new) }
     ensures faults { (L.state link.new).faults ≡ faults_at result (L.state link.old).faults }
     ensures later { K.faults sink.old ≤ K.faults sink.new }
     ensures fault { result ≡ FollowEnd.WriteFault → Rose (K.faults sink.old) (K.faults sink.new) }

@@ -6,6 +6,7 @@ ghost use Rattle.mon_link.specs.Links.{Observed};
 ghost use Rattle.mon_link.specs.declared.link.Got.{Got as gots};
 ghost use Rattle.mon_types.specs.Faults.{Rose};
 ghost use Rattle.mon_types.specs.declared.names.Stop.{Stop as stops};
+ghost use Rattle.map_follower.specs.Talking.{Asks, TalkIteration};
 ghost use Rattle.map_follower.specs.Iterations.{IsAnswer, Does, asked, course, faults_by, goes_on, turned, with_datagram};
 
 use crate::asking::ask;
@@ -63,6 +64,9 @@ pub(crate) fn ask_on<L: Link>(
         Does result (course follower.now parts asks.old (L.state link.old).observed written)
         (goes_on (asked monitors (course follower.now parts asks.old (L.state link.old).observed written)))
         (course follower.now parts asks.new (L.state link.new).observed written) }
+    ensures talks { (parts : List Partial) (written : Option (List ℕ)) →
+        Asks monitors (course follower.now parts asks.old (L.state link.old).observed written) result
+        (L.history link.old) (L.history link.new) }
     ensures asks { OnOk result (asks.new ≡ asks.old + 1) }
     ensures faults { (L.state link.new).faults ≡ faults_by result (L.state link.old).faults }
     ensures never { result ≡ Err FollowEnd.WriteFault → ⊥ }
@@ -87,7 +91,8 @@ pub(crate) fn iteration<L: Link, K: Sink>(
     ensures turned { let old = course follower.old assembly.old asks.old (L.state link.old).observed
         (K.held sink.old) in
         (g : Result gots stops) × IsAnswer old.link g × Does result old (turned monitors g old)
-        (course follower.new assembly.new asks.new (L.state link.new).observed (K.held sink.new)) }
+        (course follower.new assembly.new asks.new (L.state link.new).observed (K.held sink.new))
+        × TalkIteration monitors old g result (L.history link.old) (L.history link.new) }
     ensures asks { OnOk result (asks.new ≤ asks.old + 1) }
     ensures faults { (L.state link.new).faults ≡ faults_by result (L.state link.old).faults }
     ensures later { K.faults sink.old ≤ K.faults sink.new }
