@@ -6,6 +6,8 @@ use Rattle.std.proofs.lemmas.List.{append-nil, map-append}
 use Rattle.std.specs.Option.{option_map}
 use Rattle.mon_bytes.specs.Answers.{◌>>=◌}
 use Rattle.mon_link.specs.Clocks.{Readings}
+use Rattle.mon_link.specs.Histories.Happened.{Received, WasSent}
+use Rattle.mon_link.specs.Histories.{Happened, sent}
 use Rattle.mon_link.specs.Links.{Observed, next_leaves}
 use Rattle.mon_link.specs.declared.link.Got.{Got}
 use Rattle.mon_link.specs.declared.link.Got.TheVariants.{Datagram, Idle, Closed}
@@ -15,7 +17,11 @@ use Rattle.mon_msg.specs.declared.view.Me.{Me}
 use Rattle.mon_node.specs.Hearing.{Given, answer_arrived, clock_read, due_by, heard_by, link_asked, wait_until}
 use Rattle.mon_node.specs.Nodes.{Outside, Serving, unstarted}
 use Rattle.mon_node.specs.Posting.{and_sent}
-use Rattle.mon_node.specs.Iterations.{Iteration, ended_iteration, iteration, start, last_iteration}
+use Rattle.mon_node.specs.Iterations.{Iteration, ended_iteration, iteration, start, last_iteration, served}
+use Rattle.mon_node.specs.Sends.{AreSent, Send, call_of, outgoing_of}
+use Rattle.mon_node.specs.Serving.{Has, sends_of}
+use Rattle.mon_node.specs.Talking.{AllSent, AllSentBefore, asked_after, asked_by, happened}
+use Rattle.mon_node.proofs.Talking.{last_of}
 use Rattle.mon_node.specs.declared.end.NodeEnd.{NodeEnd}
 use Rattle.mon_store.specs.StoreView.{StoreView}
 use Rattle.mon_types.specs.declared.names.Stop.{Stop}
@@ -176,6 +182,50 @@ iteration_sent me g s =
     let next = due s.node.state.timers in
     heard_sent (due_by g.began next) me.member.monitors (wait_until g.began next) g (clock_read s.outside)
 
+-- ---- what happened on a link
+
+sent_then : (h k : List Happened) → sent (h ++ k) ≡ sent h ++ sent k
+sent_then [] k = refl
+sent_then (Received wait answer ∷ h) k = sent_then h k
+sent_then (WasSent to bytes answer ∷ h) k = ap (λ (ds : List Outgoing). record { to = to; bytes = bytes } ∷ ds) (sent_then h k)
+
+sent_calls : (sends : List Send) → sent (map call_of sends) ≡ outgoing_of sends
+sent_calls [] = refl
+sent_calls (s ∷ sends) = ap (λ (ds : List Outgoing). s.datagram ∷ ds) (sent_calls sends)
+
+-- what an iteration asks for is no datagram
+asked_alone : (r : Result Serving NodeEnd) (g : Given) → sent (asked_after r g) ≡ []
+asked_alone (Ok s) g = by (due_by g.began (due s.node.state.timers))
+  where
+    by : (t : Option Timer) → sent (asked_by t (wait_until g.began (due s.node.state.timers)) g.answer) ≡ []
+    by (Some t) = refl
+    by None = refl
+asked_alone (Err e) g = refl
+
+-- the iterations of a node that began so send these before the last one
+pub record SaysBefore (me : Me) (first : ℕ) (s : Serving) (given : List Given) (before : List Outgoing) : Type 0 where
+  pub says : (others : List (List Send)) (last : List Send) → AllSentBefore me first s given others → sent (happened me first s given (last ∷ others)) ≡ before ++ outgoing_of last
+
+says_first : (me : Me) (first : ℕ) (s : Serving) → SaysBefore me first s [] []
+says_first me first s = record { says = λ others last none. sent_calls last }
+
+says_next : (me : Me) (first : ℕ) (s : Serving) (given : List Given) (g : Given) (t : Iteration) (before : List Outgoing) → last_iteration me first s given ≡ Ok t → SaysBefore me first s given before
+    → SaysBefore me first s (g ∷ given) (before ++ sends_of me t)
+says_next me first s given g t before is so_far = record { says = by }
+  where
+    all_of : (others : List (List Send)) → AllSent me first s given others → sent (happened me first s given others) ≡ before ++ sends_of me t
+    all_of others all =
+        let l = last_of me first s given others all in
+        let these : AreSent (sends_of me t) l.last = subst (λ (r : Result Iteration NodeEnd). Has r (λ u. AreSent (sends_of me u) l.last)) is l.last_sent in
+        ap (λ (xs : List (List Send)). sent (happened me first s given xs)) l.is ∙ so_far.says l.others l.last l.others_sent ∙ ap (λ (ds : List Outgoing). before ++ ds) these.all
+
+    by : (others : List (List Send)) (last : List Send) → AllSent me first s given others → sent (happened me first s (g ∷ given) (last ∷ others)) ≡ (before ++ sends_of me t) ++ outgoing_of last
+    by others last all =
+        let asks = asked_after (served me first s given) g in
+        sent_then (happened me first s given others) (asks ++ map call_of last)
+        ∙ (λ j. all_of others all j ++ sent_then asks (map call_of last) j)
+        ∙ (λ j. (before ++ sends_of me t) ++ (asked_alone (served me first s given) g j ++ sent_calls last j))
+
 -- ---- the iterations of `serve`
 
 module _ (i : ℕ) (me : Me) (number : ℕ) (store_view : StoreView) (clock : Option Readings) (link : Option Observed) (first : ℕ) (earlier : List Step) where
@@ -192,6 +242,7 @@ module _ (i : ℕ) (me : Me) (number : ℕ) (store_view : StoreView) (clock : Op
     pub before : List Outgoing
     pub sends : (lived given u).sends ≡ (alone me earlier).sends ++ map (under number) (before ++ (outcome_of me t u).sends)
     pub observed : IsSent before link t.serving.outside.link
+    pub says : SaysBefore me first begun given before
 
   iteration_behind : (r : Result Serving NodeEnd) (g : Given) (t : Iteration) → (r >>= λ now. Ok (iteration me g now)) ≡ Ok t → (now : Serving) × (r ≡ Ok now) × (iteration me g now ≡ t)
   iteration_behind (Ok now) g t e = (now, refl, cc)
@@ -203,12 +254,12 @@ module _ (i : ℕ) (me : Me) (number : ℕ) (store_view : StoreView) (clock : Op
 
   started : (u : Until) → LastIs [] u (start first begun)
   unfolding alone
-  started u = record { process = refl; number_is = refl; before = []; sends = refl; observed = sent_nothing link }
+  started u = record { process = refl; number_is = refl; before = []; sends = refl; observed = sent_nothing link; says = says_first me first begun }
 
   -- one more iteration
-  next_iteration : (given : List Given) (g : Given) (u : Until) (t : Iteration) (now : Serving) → ended_iteration me t ≡ Ok now → LastIs given Whole t → LastIs (g ∷ given) u (iteration me g now)
+  next_iteration : (given : List Given) (g : Given) (u : Until) (t : Iteration) (now : Serving) → last_iteration me first begun given ≡ Ok t → ended_iteration me t ≡ Ok now → LastIs given Whole t → LastIs (g ∷ given) u (iteration me g now)
   unfolding alone
-  next_iteration given g u t now e L =
+  next_iteration given g u t now is e L =
       let whole = up_is me t now e in
       let up : (lived given Whole).process ≡ Up now = L.process ∙ ap (λ (l : StepOutcome). l.process) whole in
       let all : (lived given Whole).sends ≡ (alone me earlier).sends ++ map (under number) (L.before ++ (outcome_of me t Whole).sends) = L.sends in
@@ -229,6 +280,7 @@ module _ (i : ℕ) (me : Me) (number : ℕ) (store_view : StoreView) (clock : Op
         observed = sent_both L.before (outcome_of me t Whole).sends link t.serving.outside.link (iteration me g now).serving.outside.link L.observed
             (iteration_sent me g now ∙ sent_now (outcome_of me t Whole).sends t.serving.outside.link now.outside.link
             (ended_link me t now e ∙ ap (λ (l : StepOutcome). option_map (and_sent l.sends) t.serving.outside.link) (sym whole)));
+        says = subst (λ (ds : List Outgoing). SaysBefore me first begun (g ∷ given) (L.before ++ ds)) (ap (λ (l : StepOutcome). l.sends) (sym whole)) (says_next me first begun given g t L.before is L.says);
       }
 
   pub last_is : (given : List Given) (u : Until) (t : Iteration) → last_iteration me first begun given ≡ Ok t → LastIs given u t
@@ -236,4 +288,4 @@ module _ (i : ℕ) (me : Me) (number : ℕ) (store_view : StoreView) (clock : Op
   last_is (g ∷ given) u t e =
       let b = iteration_behind (last_iteration me first begun given >>= ended_iteration me) g t e in
       let c = ended_behind (last_iteration me first begun given) b.0 b.1 in
-      subst (LastIs (g ∷ given) u) b.2 (next_iteration given g u c.0 b.0 c.2 (last_is given Whole c.0 c.1))
+      subst (LastIs (g ∷ given) u) b.2 (next_iteration given g u c.0 b.0 c.1 c.2 (last_is given Whole c.0 c.1))

@@ -1,5 +1,5 @@
 -- A life as `serve` promises it, with the disks that `Store::open` opens after it, is made of steps of a network.
-use Rattle.std.proofs.Common.{◌≡◌, ℕ, Bool, true, false, cond, eqb, ◌&&◌, take, List, [], ◌++◌, Option, Result, Ok, Err, refl, sym, ap, subst, ◌∙◌, inl, inr, arith}
+use Rattle.std.proofs.Common.{◌≡◌, ◌⊎◌, ℕ, Bool, true, false, cond, eqb, ◌&&◌, take, map, List, [], ◌∷◌, ◌++◌, Option, Result, Ok, Err, refl, sym, ap, subst, ◌∙◌, inl, inr, arith}
 use Rattle.std.specs.FinMap.{empty}
 use Rattle.mon_bytes.specs.Answers.{◌>>=◌}
 use Rattle.mon_disk.specs.Images.{Content}
@@ -7,6 +7,7 @@ use Rattle.mon_journal.specs.Content.{content}
 use Rattle.mon_journal.specs.Fields.{Owner}
 use Rattle.mon_journal.specs.Written.{owner_of}
 use Rattle.mon_link.specs.Clocks.{Readings}
+use Rattle.mon_link.specs.Histories.{sent}
 use Rattle.mon_link.specs.Links.{Observed}
 use Rattle.mon_link.specs.declared.link.Outgoing.{Outgoing}
 use Rattle.mon_msg.specs.declared.view.Me.{Me}
@@ -14,11 +15,14 @@ use Rattle.mon_node.specs.Hearing.{Given}
 use Rattle.mon_node.specs.Lasting.{RemainsAfter, IsWithinIteration, On, store_view_kept}
 use Rattle.mon_node.specs.Nodes.{Serving, unstarted}
 use Rattle.mon_node.specs.Posting.{SendsPrefix}
+use Rattle.mon_node.specs.Sends.{AreFirstSent, AreSent, Send, outgoing_of}
 use Rattle.mon_node.specs.Serving.{EndsAfter, Has, Serves, sends_of}
+use Rattle.mon_node.specs.Talking.{AllSent, AllSentBefore, Said, SentAfter, happened}
 use Rattle.mon_node.specs.Iterations.{Iteration, ended_iteration, last_iteration}
 use Rattle.mon_node.specs.declared.end.NodeEnd.TheVariants as end
 use Rattle.mon_node.specs.declared.end.NodeEnd.{NodeEnd}
 use Rattle.mon_node.proofs.Passing.{store_view_then}
+use Rattle.mon_node.proofs.Talking.{last_of}
 use Rattle.mon_store.specs.Times.{EachPair, WhileOpening}
 use Rattle.mon_store.specs.Opening.{Alike}
 use Rattle.mon_store.specs.Pair.{Create, Found, Live, Refusal, found, map_found, opened, owned, stands, taken}
@@ -26,8 +30,8 @@ use Rattle.mon_store.proofs.OnPairs.{store_view_map}
 use Rattle.mon_store.specs.StoreView.{StoreView, opens_as, standing_of}
 use Rattle.mon_tx.specs.Map.{Store}
 use Rattle.mon_types.specs.declared.member.Member.{Member}
-use Rattle.quorum_network.specs.Lives.{IsOutcomeOf, IsLife, IsSent, OpensWith}
-use Rattle.quorum_network.specs.Network.{Kept, StepOutcome, Lost, Step, Until, Whole, outcome_of, map_of}
+use Rattle.quorum_network.specs.Lives.{IsOutcomeOf, IsLife, IsLifeThatSends, IsSent, LeavesKept, OpensWith, alone, life}
+use Rattle.quorum_network.specs.Network.{Kept, StepOutcome, Lost, Step, Until, Whole, outcome_of, map_of, under}
 use Rattle.quorum_network.proofs.Ends.{cut_sends, ended_link, kept_map, up_is, within_is}
 use Rattle.quorum_network.proofs.Lives.{last_is, sent_both, sent_nothing, sent_now}
 
@@ -160,6 +164,66 @@ module _ (me : Me) (t : Iteration) (x : StoreView) (link : Option Observed) wher
   end_is turns begun end.LinkFault clock h left = stays h.link_is left
   end_is turns begun (end.Full would_be) clock h left = stays h.link_is left
 
+-- ---- an end, by what was sent
+
+-- the map after an end is that of a step that sends these
+pub record EndThatSends (me : Me) (t : Iteration) (m : Store) (ds : List Outgoing) : Type 0 where
+  pub up_to : Until
+  pub map : m ≡ map_of (outcome_of me t up_to).process
+  pub sends : (outcome_of me t up_to).sends ≡ ds
+
+module _ (me : Me) (t : Iteration) (m : Store) (x : StoreView) (is : m ≡ x.kv) where
+  abbrev EndsWith : List Send → Type 0
+  EndsWith last = EndThatSends me t m (outgoing_of last)
+
+  none_stays : (last : List Send) → last ≡ [] → x ≡ t.serving.node.store → EndsWith last
+  none_stays last none e = record { up_to = Lost; map = is ∙ ap (λ (z : StoreView). z.kv) e; sends = ap outgoing_of (sym none) }
+
+  none_within : (last : List Send) → last ≡ [] → IsWithinIteration me t x → EndsWith last
+  none_within last none w = elim (within_is me t x w) [
+    | inl e ↦ record { up_to = Lost; map = is ∙ e; sends = ap outgoing_of (sym none) }
+    | inr e ↦ record { up_to = Kept 0; map = is ∙ e 0; sends = cut_sends me t 0 ∙ ap outgoing_of (sym none) }
+  ]
+
+  some_kept : (last : List Send) → AreFirstSent (sends_of me t) last → x ≡ store_view_kept me t → EndsWith last
+  some_kept last front e = record {
+    up_to = Kept front.count;
+    map = is ∙ ap (λ (z : StoreView). z.kv) e ∙ kept_map me t front.count;
+    sends = cut_sends me t front.count ∙ sym front.first;
+  }
+
+  all_used : (clock : Option Readings) (link : Option Observed) (last : List Send) (r : Result Serving NodeEnd) → ended_iteration me t ≡ r → Has r (λ now. (clock ≡ now.outside.clock) × (link ≡ now.outside.link))
+      → AreSent (sends_of me t) last → x ≡ store_view_kept me t → EndsWith last
+  all_used clock link last (Ok now) ends h all e =
+      let whole = up_is me t now ends in
+      record {
+        up_to = Whole;
+        map = is ∙ ap (λ (z : StoreView). z.kv) (e ∙ sym (store_view_then me t now ends)) ∙ ap (λ (l : StepOutcome). map_of l.process) (sym whole);
+        sends = ap (λ (l : StepOutcome). l.sends) whole ∙ sym all.all;
+      }
+  all_used clock link last (Err y) ends h all e = absurd h
+
+-- it ran out of memory, or was killed: then it sent nothing, or its transaction is kept
+pub stopped_says : (me : Me) (t : Iteration) (m : Store) (x : StoreView) (last : List Send) → m ≡ x.kv → IsWithinIteration me t x → AreFirstSent (sends_of me t) last
+    → (last ≡ []) ⊎ ((z : StoreView) × (m ≡ z.kv) × (z ≡ store_view_kept me t)) → EndThatSends me t m (outgoing_of last)
+stopped_says me t m x last is w front (inl none) = none_within me t m x is last none w
+stopped_says me t m x last is w front (inr kept) = some_kept me t m kept.0 kept.1 last front kept.2
+
+remains_within : (me : Me) (t : Iteration) (link : Option Observed) (x : StoreView) → RemainsAfter me t end.OutOfMemory link x → IsWithinIteration me t x
+remains_within me t link x (inl h) = h.1
+remains_within me t link x (inr h) = inr (inr h.1)
+
+pub end_says : (me : Me) (t : Iteration) (m : Store) (x : StoreView) (link : Option Observed) (turns begun : ℕ) (e : NodeEnd) (clock : Option Readings) (last : List Send) → m ≡ x.kv
+    → EndsAfter me turns begun t e clock link → SentAfter e (sends_of me t) last → RemainsAfter me t e link x
+    → (last ≡ []) ⊎ ((z : StoreView) × (m ≡ z.kv) × (z ≡ store_view_kept me t)) → EndThatSends me t m (outgoing_of last)
+end_says me t m x link turns begun end.TurnsUsed clock last is h sent left kept = all_used me t m x is clock link last (ended_iteration me t) refl h.1 sent left
+end_says me t m x link turns begun end.OutOfMemory clock last is h sent left kept = stopped_says me t m x last is (remains_within me t link x left) sent kept
+end_says me t m x link turns begun end.DiskFault clock last is h sent left kept = none_within me t m x is last sent left
+end_says me t m x link turns begun (end.Spent spent) clock last is h sent left kept = some_kept me t m x is last sent left
+end_says me t m x link turns begun end.Closed clock last is h sent left kept = none_stays me t m x is last sent left
+end_says me t m x link turns begun end.LinkFault clock last is h sent left kept = none_stays me t m x is last sent left
+end_says me t m x link turns begun (end.Full would_be) clock last is h sent left kept = none_stays me t m x is last sent left
+
 -- ---- a life
 
 module _ (i : ℕ) (me : Me) (number : ℕ) (store_view : StoreView) (clock : Option Readings) (link : Option Observed) (first : ℕ) (given : List Given) (earlier : List Step) (left_link : Option Observed) (x y : List ℕ) where
@@ -171,14 +235,61 @@ module _ (i : ℕ) (me : Me) (number : ℕ) (store_view : StoreView) (clock : Op
   life_is t m is E =
       let L = last_is i me number store_view clock link first earlier given E.up_to t is in
       record {
-        up_to = E.up_to;
-        map_is = E.map ∙ ap map_of (sym L.process);
         sends = L.before ++ (outcome_of me t E.up_to).sends;
-        sends_are = L.sends;
+        is_life = record { up_to = E.up_to; map_is = E.map ∙ ap map_of (sym L.process); sends_are = L.sends };
         observed_is = sent_both L.before (outcome_of me t E.up_to).sends link t.serving.outside.link left_link L.observed E.sent;
       }
 
+  -- a life that goes on sends what its link was asked to send so far
+  pub goes_saying : (t : Iteration) (now : Serving) (sends : List (List Send)) → last_iteration me first start given ≡ Ok t → ended_iteration me t ≡ Ok now → AllSent me first start given sends
+      → (alone me (life i number store_view clock link first given Whole earlier)).sends ≡ (alone me earlier).sends ++ map (under number) (sent (happened me first start given sends))
+  goes_saying t now sends is ends all =
+      let L = last_is i me number store_view clock link first earlier given Whole t is in
+      let l = last_of me first start given sends all in
+      let these : AreSent (sends_of me t) l.last = subst (λ (r : Result Iteration NodeEnd). Has r (λ u. AreSent (sends_of me u) l.last)) is l.last_sent in
+      let whole : (outcome_of me t Whole).sends ≡ outgoing_of l.last = ap (λ (o : StepOutcome). o.sends) (up_is me t now ends) ∙ sym these.all in
+      let said : L.before ++ (outcome_of me t Whole).sends ≡ sent (happened me first start given sends) =
+      ap (λ (ds : List Outgoing). L.before ++ ds) whole ∙ sym (L.says.says l.others l.last l.others_sent) ∙ sym (ap (λ (xs : List (List Send)). sent (happened me first start given xs)) l.is) in
+      L.sends ∙ ap (λ (ds : List Outgoing). (alone me earlier).sends ++ map (under number) ds) said
+
+  -- and what its link was asked to send is what its steps send
+  life_says : (t : Iteration) (m : Store) (last : List Send) (others : List (List Send)) → last_iteration me first start given ≡ Ok t → AllSentBefore me first start given others → EndThatSends me t m (outgoing_of last)
+      → IsLifeThatSends i me number store_view clock link first given earlier m (sent (happened me first start given (last ∷ others)))
+  life_says t m last others is all E =
+      let L = last_is i me number store_view clock link first earlier given E.up_to t is in
+      let these : L.before ++ (outcome_of me t E.up_to).sends ≡ sent (happened me first start given (last ∷ others)) = ap (λ (ds : List Outgoing). L.before ++ ds) E.sends ∙ sym (L.says.says others last all) in
+      record {
+        up_to = E.up_to;
+        map_is = E.map ∙ ap map_of (sym L.process);
+        sends_are = L.sends ∙ ap (λ (ds : List Outgoing). (alone me earlier).sends ++ map (under number) ds) these;
+      }
+
   module _ (member : Member) (s : StoreView) (opens : opens_as member x y ≡ Ok s) where
+    -- a store that has its transaction
+    with_transaction : (t : Iteration) (last : List Send) → (last ≡ []) ⊎ On (λ z. z ≡ store_view_kept me t) x y → (last ≡ []) ⊎ ((z : StoreView) × (s.kv ≡ z.kv) × (z ≡ store_view_kept me t))
+    with_transaction t last (inl none) = inl none
+    with_transaction t last (inr on) = let z = on_opens (λ v. v ≡ store_view_kept me t) member x y s on opens in inr (z.0, z.2, z.1)
+
+    abbrev SaidSo : (last : List Send) (others : List (List Send)) → Type 0
+    SaidSo last others = IsLifeThatSends i me number store_view clock link first given earlier s.kv (sent (happened me first start given (last ∷ others)))
+
+    pub killed_says : (t : Iteration) (last : List Send) (others : List (List Send)) → last_iteration me first start given ≡ Ok t → AllSentBefore me first start given others → AreFirstSent (sends_of me t) last
+        → LeavesKept me t last (IsWithinIteration me t) x y → SaidSo last others
+    killed_says t last others is all front left =
+        let z = on_opens (IsWithinIteration me t) member x y s left.0 opens in
+        life_says t s.kv last others is all (stopped_says me t s.kv z.0 last z.2 z.1 front (with_transaction t last left.1))
+
+    pub ends_says : (turns begun : ℕ) (e : NodeEnd) (left_clock : Option Readings) → Serves me start turns e begun left_clock left_link first given → (S : Said me first start given e)
+        → Has (last_iteration me first start given) (λ t. LeavesKept me t S.last (RemainsAfter me t e left_link) x y) → SaidSo S.last S.others
+    ends_says turns begun e left_clock serves S left = by (last_iteration me first start given) refl serves.ends S.last_sent left
+      where
+        by : (r : Result Iteration NodeEnd) → last_iteration me first start given ≡ r → Has r (λ t. EndsAfter me turns begun t e left_clock left_link) → Has r (λ t. SentAfter e (sends_of me t) S.last)
+            → Has r (λ t. LeavesKept me t S.last (RemainsAfter me t e left_link) x y) → SaidSo S.last S.others
+        by (Ok t) is h last on =
+            let z = on_opens (RemainsAfter me t e left_link) member x y s on.0 opens in
+            life_says t s.kv S.last S.others is S.others_sent (end_says me t s.kv z.0 left_link turns begun e left_clock S.last z.2 h last z.1 (with_transaction t S.last on.1))
+        by (Err r) is h last on = absurd h
+
     abbrev Lived : Type 0
     Lived = IsLife i me number store_view clock link first given earlier s.kv left_link
 

@@ -9,6 +9,8 @@ use Rattle.mon_link.specs.declared.link.Outgoing.{Outgoing}
 use Rattle.mon_msg.specs.declared.view.Me.{Me}
 use Rattle.mon_node.specs.Hearing.{Given}
 use Rattle.mon_node.specs.Iterations.{Iteration}
+use Rattle.mon_node.specs.Lasting.{On, store_view_kept}
+use Rattle.mon_node.specs.Sends.{Send}
 use Rattle.mon_store.specs.StoreView.{StoreView, opens_as}
 use Rattle.mon_tx.specs.Map.{Store}
 use Rattle.mon_types.specs.declared.member.Member.{Member}
@@ -81,15 +83,25 @@ sent_in link = option_map (λ t. t.sent) link
 abbrev pub IsSent : List Outgoing → Option Observed → Option Observed → Type 0
 IsSent ds old new = sent_in new ≡ option_map (λ sent. sent ++ ds) (sent_in old)
 
--- This map is left by a life with this number and these iterations. Its steps send what its link was asked to send,
--- with the number of the life.
+-- This map is left by a life with this number and these iterations, and its steps send these datagrams, with the number
+-- of the life.
+pub record IsLifeThatSends (i : ℕ) (me : Me) (number : ℕ) (store_view : StoreView) (clock : Option Readings)
+    (link : Option Observed)
+    (first : ℕ) (given : List Given) (earlier : List Step) (left_map : Store) (sends : List Outgoing) : Type 0 where
+  pub up_to : Until
+  pub map_is : left_map ≡ map_of (alone me (life i number store_view clock link first given up_to earlier)).process
+  pub sends_are : (alone me (life i number store_view clock link first given up_to earlier)).sends
+      ≡ (alone me earlier).sends ++ map (under number) sends
+
+-- The same of a life whose steps send what its link was asked to send.
 pub record IsLife (i : ℕ) (me : Me) (number : ℕ) (store_view : StoreView) (clock : Option Readings)
     (link : Option Observed)
     (first : ℕ) (given : List Given) (earlier : List Step) (left_map : Store)
     (observed : Option Observed) : Type 0 where
-  pub up_to : Until
-  pub map_is : left_map ≡ map_of (alone me (life i number store_view clock link first given up_to earlier)).process
   pub sends : List Outgoing
-  pub sends_are : (alone me (life i number store_view clock link first given up_to earlier)).sends
-      ≡ (alone me earlier).sends ++ map (under number) sends
+  pub is_life : IsLifeThatSends i me number store_view clock link first given earlier left_map sends
   pub observed_is : IsSent sends link observed
+
+-- An iteration leaves a store of which this holds. If anything was sent at it, the store has its transaction.
+abbrev pub LeavesKept : Me → Iteration → List Send → (StoreView → Type 0) → List ℕ → List ℕ → Type 0
+LeavesKept me t last P x y = On P x y × ((last ≡ []) ⊎ On (λ s. s ≡ store_view_kept me t) x y)

@@ -1,10 +1,11 @@
 ghost use Rattle.std.specs.FinMap.{empty};
 ghost use Rattle.std.specs.List.{AllByRecursion, Contains};
-ghost use Rattle.std.specs.Prelude.{◌≡◌, ℕ, ◌<◌, ◌≤◌, ◌^◌, List, [], ◌∷◌, ◌++◌, take, false, Option, Some, Ok, Result};
+ghost use Rattle.std.specs.Prelude.{◌≡◌, ℕ, ◌<◌, ◌≤◌, ◌^◌, List, [], ◌∷◌, ◌++◌, map, take, false, Option, Some, Ok, Result};
 ghost use Rattle.mon_core.specs.Core.{Monitor as Core};
 ghost use Rattle.mon_core.specs.Reacts.{IsReaction};
 ghost use Rattle.mon_core.specs.declared.reaction.Reaction.{Reaction};
 ghost use Rattle.mon_link.specs.Clocks.{Readings};
+ghost use Rattle.mon_link.specs.Histories.{sent};
 ghost use Rattle.mon_link.specs.Links.{Observed};
 ghost use Rattle.mon_link.specs.declared.link.Got.TheVariants.{Datagram};
 ghost use Rattle.mon_link.specs.declared.link.Got.{Got};
@@ -16,7 +17,9 @@ ghost use Rattle.mon_name.specs.Naming.{HandsOn, is_foreign, wired};
 ghost use Rattle.mon_node.specs.Hearing.{Given};
 ghost use Rattle.mon_node.specs.Lasting.{RemainsAfter, IsWithinIteration, On, store_view_kept};
 ghost use Rattle.mon_node.specs.Nodes.{Serving, unstarted};
+ghost use Rattle.mon_node.specs.Sends.{AreFirstSent, Send};
 ghost use Rattle.mon_node.specs.Serving.{EndsAfter, Has, OfInput, Serves, sends_of};
+ghost use Rattle.mon_node.specs.Talking.{AllSent, AllSentBefore, Said, happened};
 ghost use Rattle.mon_node.specs.Iterations.{Iteration, ended_iteration, last_iteration, iteration};
 ghost use Rattle.mon_node.specs.declared.end.NodeEnd.TheVariants as end;
 ghost use Rattle.mon_node.specs.declared.end.NodeEnd.{NodeEnd};
@@ -32,8 +35,8 @@ ghost use Rattle.quorum_model.specs.Monitors.{Monitors, me_of};
 ghost use Rattle.quorum_network.specs.AnyDisk.{AllMayAnyhow, AreNamed, ClientsJoinWhole, JoinsWhole, mailed};
 ghost use Rattle.quorum_network.specs.EachIteration.{IsAskedInTime, IsKeptFirst, IsOfReaction, Takes};
 ghost use Rattle.quorum_network.specs.History.{HaveHistory};
-ghost use Rattle.quorum_network.specs.Lives.{alone, life, own, sent_of, IsOutcomeOf, IsLife, OpensWith};
-ghost use Rattle.quorum_network.specs.Network.{AllMay, Begins, IsAnswer, Kept, May, Network, Step, Until, outcome_of, map_of, network, under};
+ghost use Rattle.quorum_network.specs.Lives.{alone, life, own, sent_of, IsOutcomeOf, IsLife, IsLifeThatSends, LeavesKept, OpensWith};
+ghost use Rattle.quorum_network.specs.Network.{AllMay, Begins, IsAnswer, Kept, May, Network, Step, Until, Whole, outcome_of, map_of, network, under};
 ghost use Rattle.quorum_network.specs.Promises.{AgreeWith, HaveOneLog, Leads};
 ghost use Rattle.quorum_network.specs.Requests.{Leadership, leaderships, requests};
 ghost use Rattle.quorum_network.specs.Running.{DoesARun};
@@ -136,6 +139,8 @@ pub fn law_any_disk()
 /// asked to send, with the number of the life. So a process may begin on that store, with a number that its rank didn't
 /// have before. A step that was kept sends a prefix of what its iteration sends, and one that was lost sends nothing.
 ///
+/// The steps of a life send what its link was asked to send, whatever the link is: `Talks` says what happened on it.
+///
 /// Let a node be killed in an iteration, and leave what `serve` says of one that runs out of memory there: it sent
 /// nothing yet, or it kept the iteration's transaction and sent a prefix of its datagrams. Then its iterations are the
 /// steps of a life too. After a crash within a call to a disk, the map that is opened is the one that the iteration
@@ -179,6 +184,40 @@ pub fn law_lives()
         → On (RemainsAfter me t end.OutOfMemory left_link) x y
         → (member : Member) (s : StoreView) → opens_as member x y ≡ Ok s
         → IsLife i me number store_view clock link first given earlier s.kv left_link }
+
+    // What happened on the link, while a life goes on, and of the same two.
+    ensures goes_saying { (i : ℕ) (me : Me) (number : ℕ) (store_view : StoreView) (clock : Option Readings)
+        (link : Option Observed)
+        (first : ℕ) (given : List Given) (earlier : List Step) (t : Iteration) (now : Serving)
+        (sends : List (List Send))
+        → last_iteration me first (unstarted me.member.rank store_view clock link) given ≡ Ok t
+        → ended_iteration me t ≡ Ok now
+        → AllSent me first (unstarted me.member.rank store_view clock link) given sends
+        → (alone me (life i number store_view clock link first given Whole earlier)).sends
+        ≡ (alone me earlier).sends ++ map (under number)
+        (sent (happened me first (unstarted me.member.rank store_view clock link) given sends)) }
+    ensures ends_saying { (i : ℕ) (me : Me) (number : ℕ) (store_view : StoreView) (clock : Option Readings)
+        (link : Option Observed)
+        (first : ℕ) (given : List Given) (earlier : List Step) (turns begun : ℕ) (e : NodeEnd)
+        (left_clock : Option Readings) (left_link : Option Observed) (x y : List ℕ)
+        → Serves me (unstarted me.member.rank store_view clock link) turns e begun left_clock left_link first given
+        → (S : Said me first (unstarted me.member.rank store_view clock link) given e)
+        → Has (last_iteration me first (unstarted me.member.rank store_view clock link) given)
+        (λ t. LeavesKept me t S.last (RemainsAfter me t e left_link) x y)
+        → (member : Member) (s : StoreView) → opens_as member x y ≡ Ok s
+        → IsLifeThatSends i me number store_view clock link first given earlier s.kv
+        (sent (happened me first (unstarted me.member.rank store_view clock link) given (S.last ∷ S.others))) }
+    ensures killed_saying { (i : ℕ) (me : Me) (number : ℕ) (store_view : StoreView) (clock : Option Readings)
+        (link : Option Observed)
+        (first : ℕ) (given : List Given) (earlier : List Step) (t : Iteration) (last : List Send)
+        (others : List (List Send)) (x y : List ℕ)
+        → last_iteration me first (unstarted me.member.rank store_view clock link) given ≡ Ok t
+        → AllSentBefore me first (unstarted me.member.rank store_view clock link) given others
+        → AreFirstSent (sends_of me t) last
+        → LeavesKept me t last (IsWithinIteration me t) x y
+        → (member : Member) (s : StoreView) → opens_as member x y ≡ Ok s
+        → IsLifeThatSends i me number store_view clock link first given earlier s.kv
+        (sent (happened me first (unstarted me.member.rank store_view clock link) given (last ∷ others))) }
 
     // A crash within a call to a disk. `StandsThrough` says for each point which images the disks may then have.
     ensures within { (me : Me) (t : Iteration) (member : Member) (x y : List ℕ) (s : StoreView)

@@ -1,9 +1,9 @@
-use Rattle.std.proofs.Common.{List, ℕ, sym, subst, ap, ◌∙◌}
+use Rattle.std.proofs.Common.{None, List, [], ℕ, sym, subst, ap, ◌∙◌}
 use Rattle.std.specs.List.{Contains}
 use Rattle.quorum_network.specs.Network.{map_of}
 use Rattle.quorum_network.proofs.Ends.{cut_sends}
 use Rattle.quorum_network.proofs.Lives.{last_is, lives_alone, process_alone, sends_alone}
-use Rattle.quorum_network.proofs.Tied.{ends_so, killed, within_opens}
+use Rattle.quorum_network.proofs.Tied.{ends_says, ends_so, goes_saying, killed, killed_says, within_opens}
 use Rattle.quorum_network.proofs.laws.law_lives.Goals as goal
 
 pub returns : goal.returns
@@ -19,5 +19,11 @@ returns c = record {
       ends_so i me number store_view clock link first given earlier left_link x y member s opens turns begun e left_clock S left;
   killed = λ i me number store_view clock link first given earlier t left_link x y is on member s opens.
       killed i me number store_view clock link first given earlier left_link x y member s opens t is on;
+  goes_saying = λ i me number store_view clock link first given earlier t now sends is ends all.
+      goes_saying i me number store_view clock link first given earlier None [] [] t now sends is ends all;
+  ends_saying = λ i me number store_view clock link first given earlier turns begun e left_clock left_link x y serves S left member s opens.
+      ends_says i me number store_view clock link first given earlier left_link x y member s opens turns begun e left_clock serves S left;
+  killed_saying = λ i me number store_view clock link first given earlier t last others x y is all front left member s opens.
+      killed_says i me number store_view clock link first given earlier None x y member s opens t last others is all front left;
   within = within_opens;
 }
