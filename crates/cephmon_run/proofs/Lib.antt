@@ -5,3 +5,4 @@ pub mod Nodes
 pub mod Runs
 pub mod Schedules
 pub mod Writing
+pub mod Talking

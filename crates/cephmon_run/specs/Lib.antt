@@ -4,4 +4,5 @@ pub mod Outside
 pub mod Replay
 pub mod Run
 pub mod Summary
+pub mod Talking
 pub mod Trace

@@ -1,8 +1,9 @@
 -- A node's run, and the cause of each of its statuses.
-use Rattle.std.specs.Prelude.{◌≡◌, ℕ, ◌⊎◌, List, Option, IfSome, Result, Ok, Err, IsTrue, is_some}
+use Rattle.std.specs.Prelude.{◌≡◌, ℕ, ◌⊎◌, List, [], Option, IfSome, Result, Ok, Err, IsTrue, is_some}
 use Rattle.mon_disk.specs.Calls.{DiskState}
 use Rattle.mon_disk.specs.declared.node.NodeDisks.{NodeDisks}
 use Rattle.mon_link.specs.Clocks.{Readings}
+use Rattle.mon_link.specs.Histories.{Happened, GoOn}
 use Rattle.mon_link.specs.Links.{LinkState}
 use Rattle.mon_msg.specs.declared.view.Me.{Me}
 use Rattle.mon_store.specs.Times.{WhileOpening}
@@ -17,8 +18,10 @@ use Rattle.mon_node.specs.Keeping.{DisksCountAt}
 use Rattle.mon_node.specs.Lasting.{BothVisible, StandsThrough}
 use Rattle.mon_node.specs.Nodes.{Disks, unstarted, disks as disks_held}
 use Rattle.mon_node.specs.Serving.{Serves}
+use Rattle.mon_node.specs.Talking.{Talks}
 use Rattle.mon_node.specs.declared.end.NodeEnd.{NodeEnd}
 use Rattle.mon_node.specs.declared.end.NodeEnd.TheVariants as end
+use Rattle.run_status.specs.Status.{status_of_end, status_of_opening}
 use Rattle.run_status.specs.declared.status.Status.{Status}
 use Rattle.run_status.specs.declared.status.Status.TheVariants as status
 
@@ -74,6 +77,15 @@ module _ {D : Type 0} (state : D → DiskState) where
     pub link_counts : after.link.faults ≡ faults_at e before.link.faults
     pub disks_count : DisksCountAt e (state before.disks.a).faults (state before.disks.b).faults
         (state after.disks.a).faults (state after.disks.b).faults
+
+  -- The calls of its link that a node's run made: none if no store was opened; or what a node asked and sent that served
+  -- from one.
+  abbrev pub NodeTalks : Me → (turns : ℕ) → Around D → Around D → Status → (old new : List Happened → Type 0) → Type 0
+  NodeTalks me turns before after s old new =
+      ((why : OpenStop) × Unopened me.member before after why × (s ≡ status_of_opening why) × GoOn old [] new)
+      ⊎ ((e : NodeEnd) × (S : Served me turns before after e) × (s ≡ status_of_end e)
+      × Talks me S.first (unstarted me.member.rank S.store_view before.clock before.link.observed) S.given e old new
+      (contents S.open_disks) (contents after.disks))
 
   -- the cause of each status
   abbrev pub NodeCause : Me → (turns : ℕ) → Around D → Around D → Status → Type 0

@@ -5,6 +5,7 @@ ghost use Rattle.stopped_stores.specs.Importing.{ImportsExport};
 ghost use Rattle.stopped_stores.specs.Reading.{Compares};
 ghost use Rattle.stopped_stores.specs.Texts.{WritesText};
 ghost use Rattle.cephmon_run.specs.Further.{Followed};
+ghost use Rattle.cephmon_run.specs.Talking.{FollowTalks};
 ghost use Rattle.run_status.specs.Status.{StatusOf, status_of_follow, status_of_tool};
 
 use crate::node::Ended;
@@ -29,10 +30,14 @@ pub fn run_follow<L: Link, K: Sink>(
     requires least { 1 ≤ monitors }
     requires most { monitors ≤ 15 }
     requires turns { turns ≤ 2 ^ 61 }
-    ensures { StatusOf status_of_follow (Followed service monitors turns
+    ensures follows { StatusOf status_of_follow (Followed service monitors turns
         (record { bytes = K.held sink.old; faults = K.faults sink.old })
         (record { bytes = K.held sink.new; faults = K.faults sink.new })
         (L.state link.old) (L.state link.new)) result }
+    ensures talks { FollowTalks service monitors turns
+        (record { bytes = K.held sink.old; faults = K.faults sink.old })
+        (record { bytes = K.held sink.new; faults = K.faults sink.new })
+        (L.state link.old) (L.state link.new) result (L.history link.old) (L.history link.new) }
 {
     let mut follower = Follower::new(alloc, service);
     let end = follow(alloc, &mut follower, monitors, link, sink, turns);

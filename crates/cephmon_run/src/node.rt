@@ -1,7 +1,7 @@
 //! The run of a node.
 
 ghost use Rattle.std.specs.Prelude.{◌≡◌};
-ghost use Rattle.cephmon_run.specs.Node.{NodeCause};
+ghost use Rattle.cephmon_run.specs.Node.{NodeCause, NodeTalks};
 
 use mon_disk::{Disk, NodeDisks};
 use mon_link::{Clock, Link};
@@ -27,10 +27,14 @@ pub fn run_node<D: Disk, L: Link, C: Clock>(
     clock: &mut C,
     turns: u64,
 ) -> Ended<D>
-    ensures { NodeCause D.state me.now turns
+    ensures cause { NodeCause D.state me.now turns
         (record { disks = disks; link = L.state link.old; clock = C.left clock.old })
         (record { disks = result.disks; link = L.state link.new; clock = C.left clock.new })
         result.status }
+    ensures talks { NodeTalks D.state me.now turns
+        (record { disks = disks; link = L.state link.old; clock = C.left clock.old })
+        (record { disks = result.disks; link = L.state link.new; clock = C.left clock.new })
+        result.status (L.history link.old) (L.history link.new) }
 {
     match Store::open(alloc, disks, me.member) {
         Ok(store) => {

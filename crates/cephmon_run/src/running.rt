@@ -9,6 +9,7 @@ ghost use Rattle.task_words.specs.Task.{HasWords};
 ghost use Rattle.cephmon_run.specs.Run.{Ends, HasCause, MadeCause, ReplayCause, ReportsFault};
 ghost use Rattle.cephmon_run.specs.Replay.{StopsAs, status_of};
 ghost use Rattle.cephmon_run.specs.Summary.{IsLine, summary};
+ghost use Rattle.cephmon_run.specs.Talking.{RunTalks, TaskTalks};
 
 use crate::further::{run_compare, run_follow, run_import, run_text};
 use crate::node::{Ended, run_node};
@@ -120,12 +121,18 @@ fn run_task<S: Source, K: Sink, D: Disk, L: Link, C: Clock>(
     clock: &mut C,
 ) -> Ended<D>
     requires { HasWords task.now }
-    ensures { HasCause D.state task.now
+    ensures cause { HasCause D.state task.now
         (record { left = S.left source.old; held = K.held sink.old; read_faults = S.faults source.old; write_faults = K.faults sink.old })
         (record { left = S.left source.new; held = K.held sink.new; read_faults = S.faults source.new; write_faults = K.faults sink.new })
         (record { disks = disks; link = L.state link.old; clock = C.left clock.old })
         (record { disks = result.disks; link = L.state link.new; clock = C.left clock.new })
         result.status }
+    ensures talks { TaskTalks D.state task.now
+        (record { left = S.left source.old; held = K.held sink.old; read_faults = S.faults source.old; write_faults = K.faults sink.old })
+        (record { left = S.left source.new; held = K.held sink.new; read_faults = S.faults source.new; write_faults = K.faults sink.new })
+        (record { disks = disks; link = L.state link.old; clock = C.left clock.old })
+        (record { disks = result.disks; link = L.state link.new; clock = C.left clock.new })
+        result.status (L.history link.old) (L.history link.new) }
 {
     match task {
         Task::Replay => Ended {
@@ -200,12 +207,20 @@ pub fn run<S: Source, K: Sink, D: Disk, L: Link, C: Clock>(
 ) -> Ended<D>
     // What the status says of what was asked, read, written and served, and which status comes if no device fails.
     // Each run that it describes is safe after each event.
-    ensures { Ends D.state words.now
+    ensures ends { Ends D.state words.now
         (record { left = S.left source.old; held = K.held sink.old; read_faults = S.faults source.old; write_faults = K.faults sink.old })
         (record { left = S.left source.new; held = K.held sink.new; read_faults = S.faults source.new; write_faults = K.faults sink.new })
         (record { disks = disks; link = L.state link.old; clock = C.left clock.old })
         (record { disks = result.disks; link = L.state link.new; clock = C.left clock.new })
         result.status }
+
+    // Each history of the link goes on with what was asked and sent.
+    ensures talks { RunTalks D.state words.now
+        (record { left = S.left source.old; held = K.held sink.old; read_faults = S.faults source.old; write_faults = K.faults sink.old })
+        (record { left = S.left source.new; held = K.held sink.new; read_faults = S.faults source.new; write_faults = K.faults sink.new })
+        (record { disks = disks; link = L.state link.old; clock = C.left clock.old })
+        (record { disks = result.disks; link = L.state link.new; clock = C.left clock.new })
+        result.status (L.history link.old) (L.history link.new) }
 {
     match read_words(alloc, words) {
         Ok(task) => run_task(alloc, &task, source, sink, disks, link, clock),
