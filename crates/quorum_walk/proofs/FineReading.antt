@@ -20,7 +20,7 @@ use Rattle.mon_tx.specs.declared.op.Op.{Op}
 use Rattle.quorum_walk.proofs.FineCourses.{Calm, CellFine, EntryFine, Fit, FoundFine, RecordsFine, Val}
 use Rattle.table_walk.proofs.Lists.{all_append, all_map}
 use Rattle.quorum_walk.proofs.Sparing.{EntrySpares, Spares}
-use Rattle.std.proofs.Common.{Bool, IfSome, List, None, Option, Some, [], cond, false, inl, inr, leb, length, min, refl, subst, suc, sym, true, zero, ℕ, ◌++◌, ◌+◌, ◌-◌, ◌∙◌, ◌∷◌, ◌≡◌, ◌⊎◌}
+use Rattle.std.proofs.Common.{Bool, IfSome, List, None, Option, Some, [], cond, false, inl, inr, leb, length, min, refl, subst, suc, sym, true, zero, ℕ, ◌++◌, ◌-◌, ◌∙◌, ◌∷◌, ◌≡◌, ◌⊎◌}
 use Rattle.std.proofs.lemmas.Bool.{cond_both}
 use Rattle.std.specs.List.{AllByRecursion}
 use Rattle.std.specs.Option.{option_map}
