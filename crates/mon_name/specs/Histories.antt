@@ -32,7 +32,7 @@ abbrev pub IsAskedOnce : (tag wait : ℕ) → Result (Option Got) Stop → List 
 IsAskedOnce tag wait result calls =
     (gave : Result Got Stop) × (calls ≡ Received wait gave ∷ []) × IsOpened tag gave result
 
--- It was asked past foreign datagrams, at most so many, and its last answer is handed on.
+-- It was asked past at most MOST_FOREIGN foreign datagrams, and its last answer is handed on.
 pub record IsAskedPast (tag wait : ℕ) (result : Result Got Stop) (calls : List Happened) : Type 0 where
   pub past : List (Result Got Stop)
   pub last : Result Got Stop

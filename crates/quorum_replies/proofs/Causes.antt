@@ -49,7 +49,7 @@ use Rattle.table_walk.proofs.Steps.{ActSteps, CommandOf, FoundOf, InHand, IsOwn,
 use Rattle.table_walk.proofs.Table.{walked}
 use Rattle.table_walk.proofs.Walk.{Then}
 
--- ---- a command is never refused for want of memory
+-- ---- out of memory is no cause of a refusal
 
 abbrev IsOfService : {A : Type 0} → Result A CommandRefused → Type 0
 IsOfService (Ok x) = Unit {0}

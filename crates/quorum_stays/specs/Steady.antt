@@ -178,7 +178,7 @@ pub record FollowsSince (leader : ℕ) (q : List Bool) (at : ℕ) (s : State) : 
 abbrev pub LeasedSince : (at : ℕ) → State → Type 0
 LeasedSince at s = IsSomeAnd s.peon.lease (λ end. at + LENGTH ≤ end)
 
--- when a peon that took so many of a round's messages got its last lease
+-- when a peon that took `heard` messages of a round got its last lease
 abbrev pub leased : Round → (heard : ℕ) → ℕ
 leased r (suc (suc more)) = r.latest
 leased r other = r.before
@@ -198,7 +198,7 @@ Keeps r (suc zero) w = (w.last ≡ r.version) × (is_some (pending w) ≡ false)
 Keeps r (suc (suc zero)) w = (w.last ≡ r.version) × (is_some (pending w) ≡ false)
 Keeps r other w = (w.last ≡ r.version) × (w.pending_v ≡ suc r.version)
 
--- how many answers so many of them got: a COMMIT gets none
+-- how many answers the first `heard` messages of a round get: a COMMIT gets none
 abbrev pub said : (heard : ℕ) → ℕ
 said zero = zero
 said (suc h) = h
