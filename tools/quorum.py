@@ -22,14 +22,21 @@ def built_program() -> str:
     return os.path.join(TOP, 'out', 'cephmon')
 
 
+# The ports that `free_ports` returned before. A port may be bound long after it was returned.
+GIVEN: set[int] = set()
+
+
 def free_ports(count: int) -> list[int]:
-    """Free ports of 127.0.0.1. They are below those that the system assigns by itself, so a port stays free while its monitor is down."""
+    """Free ports of 127.0.0.1, each returned once. They are below those that the system assigns by itself, so a port stays free while its monitor is down."""
     ports = random.sample(range(10_000, 32_000), 10 * count)
-    return [port for port in ports if is_free(port)][:count]
+    found = [port for port in ports if port not in GIVEN and is_free(port) and is_free(port, socket.SOCK_STREAM)][:count]
+    GIVEN.update(found)
+    return found
 
 
-def is_free(port: int) -> bool:
-    with socket.socket(socket.AF_INET, socket.SOCK_DGRAM) as probe:
+def is_free(port: int, kind: socket.SocketKind = socket.SOCK_DGRAM) -> bool:
+    """Whether no socket of this kind has a port of 127.0.0.1."""
+    with socket.socket(socket.AF_INET, kind) as probe:
         try:
             probe.bind(('127.0.0.1', port))
         except OSError:
