@@ -20,6 +20,8 @@ PAUSE = 0.1
 PATIENCE = 0.5
 # Seconds after which a request ends if at no monitor anybody listened meanwhile. A monitor that was started just now has that long to open its socket.
 GRACE = 5.0
+# Seconds after which a try that had no answer hardly makes its change any more: a quorum that lost its leader has elected another one meanwhile.
+SETTLED = 20.0
 # The bytes of a datagram that has the ID of its try, which no other try has.
 TOLD_APART = 20
 # The kinds of replies that serve a request.
@@ -91,10 +93,14 @@ class Asker:
         # The last request.
         self.last = Request(self, b'\0', 0, 0)
 
+    def request(self, request: bytes, end: float, at_least: int = 0) -> Request:
+        """A request of these bytes, which is now the last one. A map below version `at_least` doesn't serve it."""
+        self.last = Request(self, request, end, max(at_least, self.seen if self.settings.onward else 0))
+        return self.last
+
     def ask(self, request: bytes, end: float, at_least: int = 0) -> Steps[dict[str, Any]]:
         """Sends an encoded request until a monitor serves it, and returns the fields of its reply. A map below version `at_least` doesn't serve it."""
-        self.last = Request(self, request, end, max(at_least, self.seen if self.settings.onward else 0))
-        return self.last.steps()
+        return self.request(request, end, at_least).steps()
 
     def ranks(self) -> range:
         """The monitors that may be asked."""
@@ -126,6 +132,8 @@ class Request:
         self.heard_of = time.monotonic()
         self.reply: Reply | None = None
         self.numbers: list[int] = []
+        # the tries that had no answer yet, each of which may make a change
+        self.open: set[int] = set()
         self.outcomes: dict[int, str] = {}
 
     def is_known(self) -> bool:
@@ -155,6 +163,14 @@ class Request:
         is_early = time.monotonic() < self.end and not settings.once
         seconds = round(time.monotonic() - began, 1) if is_early else round(self.end - began, 3)
         raise not_served(seconds, self.outcomes, self.is_known())
+
+    def settled(self, end: float) -> Steps[bool]:
+        """Waits until each try was answered, so that none of them makes the change later. Returns whether all were in time."""
+        while self.open and time.monotonic() < end:
+            heard = yield Wait(end)
+            if isinstance(heard, Reply):
+                self.open.discard(heard.number)
+        return not self.open
 
     def all_closed(self) -> bool:
         return all(rank in self.closed for rank in self.asker.ranks())
@@ -191,12 +207,15 @@ class Request:
         self.tries += 1
         self.silent += 1
         self.numbers.append(new_number())
+        self.open.add(self.numbers[-1])
         message = request_message(len(addresses), self.numbers[-1], self.request)
         pieces = datagrams(message, self.asker.boot, self.numbers[-1])
         yield Send(pieces, addresses[rank])
         reply = yield from self.answer(rank, min(self.end, time.monotonic() + patience))
         if reply is None and rank not in self.closed:
             reply = yield from self.greeted(rank, PAUSE)
+        if self.is_refused(rank, pieces):
+            self.open.discard(self.numbers[-1])
         self.silent -= bool(reply) or self.is_refused(rank, pieces)
         self.reply = reply or self.reply
         return reply
@@ -215,6 +234,8 @@ class Request:
             if isinstance(heard, Closed) and heard.address == self.asker.settings.addresses[rank]:
                 self.closed[rank] = heard.datagram
                 return None
+            if isinstance(heard, Reply):
+                self.open.discard(heard.number)
             if isinstance(heard, Reply) and self.numbers and (
                     heard.number == self.numbers[-1] or heard.number in self.numbers and heard.kind in SERVED):
                 return heard

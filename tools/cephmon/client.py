@@ -7,7 +7,7 @@ import time
 from typing import Any, Iterator, Optional, Sequence, TypeVar, Union, overload
 
 from cephmon import operations, quorum_file
-from cephmon.asking import PATIENCE, Asker, Heard, Rest, Send, Settings, Steps
+from cephmon.asking import PATIENCE, SETTLED, Asker, Heard, Rest, Send, Settings, Steps
 from cephmon.changes import Change
 from cephmon.closed import Address, Closed, closed, keep_errors
 from cephmon.errors import NotServed, Refused
@@ -116,6 +116,10 @@ class Client:
         """Returns a version of the log of all changes with every change that was acknowledged before this call. A map of at least this version has them, and
         so has each map that this client reads from now on. It sets a new key of its own, and removes it. If no monitor removes it in time, it stays."""
         return self.run(operations.mark(self.asker, self.end(timeout)))
+
+    def settled(self, *, timeout: float = SETTLED) -> bool:
+        """Waits until each try of the last request was answered, so that none of them makes its change once more. Returns whether all were in time."""
+        return self.run(self.asker.last.settled(self.end(timeout)))
 
     @overload
     def get(self, key: str | bytes, *, fresh: bool = ..., at_least: int = ..., timeout: float | None = ...) -> str: ...

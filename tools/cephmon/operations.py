@@ -19,12 +19,22 @@ def version_of(fields: dict[str, Any]) -> int:
     return int(fields['version'])
 
 
+def setting(key: str | bytes, value: str | bytes) -> bytes:
+    """The request that sets a key."""
+    return bytes([SET]) + key_field(key) + text_field(value)
+
+
+def removal(key: str | bytes) -> bytes:
+    """The request that removes a key."""
+    return bytes([REMOVE]) + key_field(key)
+
+
 def set_key(asker: Asker, key: str | bytes, value: str | bytes, end: float) -> Steps[int]:
-    return version_of((yield from asker.ask(bytes([SET]) + key_field(key) + text_field(value), end)))
+    return version_of((yield from asker.ask(setting(key, value), end)))
 
 
 def remove_key(asker: Asker, key: str | bytes, end: float) -> Steps[int]:
-    return version_of((yield from asker.ask(bytes([REMOVE]) + key_field(key), end)))
+    return version_of((yield from asker.ask(removal(key), end)))
 
 
 def log_text(asker: Asker, text: str | bytes, end: float) -> Steps[int]:
