@@ -3,42 +3,49 @@ use Rattle.mon_msg.specs.Protocol.Changes.{Last, Learn}
 use Rattle.mon_msg.specs.Protocol.Course.{Course}
 use Rattle.mon_msg.specs.Protocol.Played.{played}
 use Rattle.mon_msg.specs.Protocol.Readings.{Readings, epoch_of, promise_of, readings_of, shared_entries}
-use Rattle.mon_msg.specs.Protocol.Sending.{answers_to, members, message_to}
+use Rattle.mon_msg.specs.Protocol.Sending.{answer_to, answers_to, members, message_to}
 use Rattle.mon_msg.specs.Protocol.Sets.{are_within, is_empty}
 use Rattle.mon_msg.specs.Protocol.State.{State}
 use Rattle.mon_msg.specs.Protocol.Timers.{disarmed, only_ping}
 use Rattle.mon_msg.specs.declared.input.Input.TheVariants as input
 use Rattle.mon_msg.specs.declared.plan.Origin.{Origin}
+use Rattle.mon_msg.specs.declared.plan.Sent.{Sent}
 use Rattle.mon_msg.specs.declared.view.Me.{Me}
+use Rattle.mon_tx.specs.Map.{Store}
 use Rattle.mon_types.specs.Ranks.{has, with_rank}
 use Rattle.mon_wire.specs.declared.body.Body.TheVariants as body
+use Rattle.mon_wire.specs.declared.message.Message.{Message}
 use Rattle.mon_wire.specs.declared.phase.Timer.TheVariants as timer
 use Rattle.mon_wire.specs.declared.reply.Reply.TheVariants as reply
 use Rattle.mon_wire.specs.declared.reply.Reply.{Reply}
 use Rattle.quorum_model.proofs.Members.{member_of}
-use Rattle.quorum_model.specs.Clients.{envelope_of, messages_of}
+use Rattle.quorum_model.specs.Clients.{envelope_of, messages_of, replies_of}
 use Rattle.quorum_model.specs.Monitors.{Monitors}
 use Rattle.quorum_model.specs.World.{Arrives, Deliver, Envelope}
 use Rattle.quorum_stays.proofs.Bounds.{few, leading, until}
 use Rattle.quorum_stays.proofs.Carrying.{Gives, gives_append, gives_none}
-use Rattle.quorum_stays.proofs.Giving.{gives_apart, gives_each, gives_no_leader, to_all}
+use Rattle.quorum_stays.proofs.Giving.{each_hands_on_none, gives_apart, gives_each, gives_no_leader, to_all}
 use Rattle.quorum_stays.proofs.Leaders.{accept_body, busy, comes, lt, proposes_busy, took, up_busy}
 use Rattle.quorum_stays.proofs.Onward.{lands, other_left, pack}
-use Rattle.quorum_stays.proofs.Outcomes.{ForAClient, an_answer, messages_for_clients}
+use Rattle.quorum_stays.proofs.Outcomes.{ForAClient, HandsOnNone, an_answer, an_answer_hands_on_none, messages_for_clients}
 use Rattle.quorum_stays.proofs.Peering.{PeonIn}
 use Rattle.quorum_stays.proofs.Rows.{commits, last_accept_row}
 use Rattle.quorum_stays.proofs.Sending.{each}
+use Rattle.quorum_stays.proofs.Serving.{Answers, Committed, Goes, answered, messages_hand_on_none}
 use Rattle.quorum_stays.proofs.States.{bare_committing, extends}
-use Rattle.quorum_stays.proofs.Stepping.{Did, did}
+use Rattle.quorum_stays.proofs.Stepping.{Did, did, replied}
 use Rattle.quorum_stays.proofs.Stores.{learned_epoch}
-use Rattle.quorum_stays.proofs.Timers.{all_extended}
+use Rattle.quorum_stays.proofs.Taking.{no_forward, taken_nowhere}
+use Rattle.quorum_stays.proofs.Timers.{all_extended, armed_if_any, extended_timers}
 use Rattle.quorum_stays.proofs.Turning.{other_state, other_store, same_carried}
 use Rattle.quorum_stays.specs.Reading.{ClocksGoOn}
+use Rattle.quorum_stays.specs.Serving.{IsForward, is_done}
 use Rattle.quorum_stays.specs.Steady.{AreApart, Begun, Carries, FollowsSince, HasLease, IsItem, IsOfClients, Item, Keeps, LeadsSince, Noted, Proposes, Reign, Round, Steady, item, in_reign, leased, said, to_leader, to_peon}
 use Rattle.quorum_timed.specs.Begins.{IsQuick}
 use Rattle.quorum_timed.specs.Timed.{MayBe, Owed, Pace, Timed, Went, at_time, without_first}
+use Rattle.quorum_walk.proofs.Lists.{all_append}
 use Rattle.quorum_walk.proofs.Ranks.{has_with_is, within_at}
-use Rattle.std.proofs.Common.{Bool, List, None, Option, Some, [], ap, arith, drop, inl, inr, length, ltb, map, not, refl, subst, suc, sym, take, true, zero, ℕ, ◌*◌, ◌+◌, ◌++◌, ◌^◌, ◌∙◌, ◌∷◌, ◌≡◌, ◌≤◌, ◌⊎◌}
+use Rattle.std.proofs.Common.{Bool, List, None, Option, Some, [], ap, arith, drop, false, inl, inr, length, ltb, map, not, refl, subst, suc, sym, take, true, zero, ℕ, ◌*◌, ◌+◌, ◌++◌, ◌^◌, ◌∙◌, ◌∷◌, ◌≡◌, ◌≤◌, ◌⊎◌}
 use Rattle.std.proofs.lemmas.Bool.{cases_eq}
 use Rattle.std.proofs.lemmas.List.Elements.{filter_map-append}
 use Rattle.std.specs.List.{AllByRecursion}
@@ -47,6 +54,10 @@ use Rattle.std.specs.Prelude.{IsSomeAnd}
 maybe_answer : (me : Me) (e : ℕ) (o : Option Origin) (r : Reply) → AllByRecursion ForAClient (answers_to me e o r)
 maybe_answer me e None r = tt
 maybe_answer me e (Some o) r = an_answer me e o r
+
+maybe_none : (me : Me) (e : ℕ) (o : Option Origin) (r : Reply) → AllByRecursion HandsOnNone (answers_to me e o r)
+maybe_none me e None r = tt
+maybe_none me e (Some o) r = an_answer_hands_on_none me e o r
 
 module _ (ms : Monitors) (q : List Bool) (pace : Pace) (reign : Reign) (K : IsQuick pace) (r0 : Round) (b : Begun) (t : Timed) (S : Steady ms q pace reign (record r0 { next = Some b }) t) (u : ℕ)
     (M : MayBe ms q pace t u) (room : ClocksGoOn q pace u)
@@ -198,8 +209,8 @@ module _ (ms : Monitors) (q : List Bool) (pace : Pace) (reign : Reign) (K : IsQu
             (subst (λ (z : ℕ). Carries ms reign t.world.messages j reign.leader (t.time + pace.delay) (drop (suc (suc zero)) (take (said z) (to_leader reign pace r))) (t.under_way j reign.leader)) h
             (subst (λ (z : ℕ). Carries ms reign t.world.messages j reign.leader (t.time + pace.delay) (drop z (take (said G.heard) (to_leader reign pace r))) (t.under_way j reign.leader)) two G.to_take)))
 
-    pub commits_all : Steady ms q pace reign (record { version = suc r0.version; value = b.value; committed = u; latest = u; before = r0.latest; next = None }) next
-    commits_all =
+    commit_stays : Steady ms q pace reign (record { version = suc r0.version; value = b.value; committed = u; latest = u; before = r0.latest; next = None }) next
+    commit_stays =
         let p = P in
         let X = p.proposes in
         let size : length (only_ping (disarmed timer.Accept s.timers)) ≡ 11 = refl in
@@ -228,3 +239,60 @@ module _ (ms : Monitors) (q : List Bool) (pace : Pace) (reign : Reign) (K : IsQu
           others = λ g j qg qj a. same_carried ms q pace reign t next u later _ _ went reign.leader proposing1 y.state _ es up D g j []
               (subst (Carries ms reign t.world.messages g j (t.time + pace.delay) []) (sym (other_left f reign.leader others t.under_way g j (λ y z. nf (sym y ∙ a.1 z)))) (S.others g j qg qj a)) (gives_others g j a);
         }
+
+    -- ---- the commands that wait
+
+    abbrev message : Message
+    message = (in_reign ms reign f reign.leader (body.Accept reign.pn (suc v.last))).message
+
+    R : (event : ℕ) × (m : Store) × (next.world.replied ≡ t.world.replied ++ replies_of event reign.leader m y.out)
+    R = replied ms t.world next.world (Deliver o.number at) reign.leader here at (input.Deliver (in_reign ms reign f reign.leader (body.Accept reign.pn (suc v.last))).message) proposing1
+        (comes ms q pace reign r t S u later next f qf nf F o others x rest it C went _ (accept_body ms q pace reign r0 b t S u later next f qf nf F o others x rest it C went one all is list)) up went.happened y
+        (last_accept_row ms reign.leader here (shared_entries (t.world.store reign.leader)) at v s q reign.pn b.value f reign.epoch nf qf S.epoch full fits)
+
+    abbrev to_members : List Sent
+    to_members = map (message_to me (epoch_of (played (Learn (suc v.last) b.value ∷ Last (suc v.last) ∷ []) v)) (body.Commit (suc v.last) (b.value ∷ []))) (members me q)
+        ++ map (message_to me (epoch_of (played (Learn (suc v.last) b.value ∷ Last (suc v.last) ∷ []) v)) (body.Lease (suc v.last))) (members me q)
+
+    whoever_waits : (a : Origin) → s.leader.origin ≡ Some a → Answers ms reign t.world next.world (messages_of y.out) a
+    whoever_waits a waits =
+        let e = epoch_after in
+        let same : y.out ≡ to_members ++ answer_to me reign.epoch a (reply.Done (suc v.last)) ∷ [] = (λ i. to_members ++ answers_to me (e i) (waits i) (reply.Done (suc v.last))) in
+        subst (λ (z : List Sent). Answers ms reign t.world next.world (messages_of z) a) (sym same)
+        (answered ms reign t.world next.world here R.0 R.1 a (reply.Done (suc v.last)) (is_done (suc v.last)) to_members [] (subst (λ (z : List Sent). next.world.replied ≡ t.world.replied ++ replies_of R.0 reign.leader R.1 z) same R.2))
+
+    some_value : ◌≡◌ {A = Option Begun} (Some b) None → ⊥
+    some_value none = absurd cc
+
+    plainly : AllByRecursion (λ (m : Envelope). IsForward m.message.body → ⊥) (messages_of y.out)
+    plainly = subst (AllByRecursion (λ (m : Envelope). IsForward m.message.body → ⊥)) (sym sent_is)
+        (all_append (λ (m : Envelope). IsForward m.message.body → ⊥) (to_all ms q reign here (body.Commit (suc r0.version) (b.value ∷ [])) ++ to_all ms q reign here (body.Lease (suc r0.version))) _
+        (all_append (λ (m : Envelope). IsForward m.message.body → ⊥) (to_all ms q reign here (body.Commit (suc r0.version) (b.value ∷ []))) (to_all ms q reign here (body.Lease (suc r0.version)))
+        (each_hands_on_none me reign.epoch _ (λ k. k) (members me q)) (each_hands_on_none me reign.epoch _ (λ k. k) (members me q)))
+        (messages_hand_on_none _ (maybe_none me reign.epoch s.leader.origin (reply.Done (suc r0.version)))))
+
+    pub commits_all : Goes ms q pace reign t.world u (Arrives (Deliver o.number (u + pace.clock reign.leader))) (record r0 { next = Some b }) (record { version = suc r0.version; value = b.value; committed = u; latest = u; before = r0.latest; next = None }) next
+    commits_all =
+        let P2 = P in
+        let X = P2.proposes in
+        let size : length (only_ping (disarmed timer.Accept s.timers)) ≡ 11 = refl in
+        let bare = bare_committing ms.count reign q b.value (b.at + pace.clock reign.leader) proposing1 X in
+        let E = all_extended at (room reign.leader S.leads) (only_ping (disarmed timer.Accept s.timers)) size bare false (is_empty (members me q)) in (
+          commit_stays,
+          record {
+            here = here;
+            was = proposing1;
+            is = y.state;
+            up = up;
+            up_after = D.up;
+            es = messages_of y.out;
+            messages = D.messages ∙ ap (λ (z : List Envelope). t.world.messages ++ z) (sym sent_is);
+            plain = inl plainly;
+            version = λ none. absurd (some_value none);
+            turn = Committed b
+                (taken_nowhere me t.world reign.leader proposing1 _ _ (comes ms q pace reign r t S u later next f qf nf F o others x rest it C went _ (accept_body ms q pace reign r0 b t S u later next f qf nf F o others x rest it C went one all is list))
+                (no_forward me v proposing1 message (λ k. k)))
+                refl refl refl refl whoever_waits
+                (armed_if_any s.clients.queue at (extended_timers at (is_empty (members me q)) (only_ping (disarmed timer.Accept s.timers))) E.kinds (room reign.leader S.leads));
+          },
+        )

@@ -13,6 +13,7 @@ use Rattle.mon_msg.specs.Protocol.Timers.{armed, disarmed, end_of, only_ping}
 use Rattle.mon_msg.specs.declared.clients.Clients.{Clients}
 use Rattle.mon_msg.specs.declared.input.Input.TheVariants as input
 use Rattle.mon_msg.specs.declared.paxos.LeaderStage.TheVariants as stage
+use Rattle.mon_msg.specs.declared.clients.Waiting.{Waiting}
 use Rattle.mon_msg.specs.declared.plan.Origin.{Origin}
 use Rattle.mon_msg.specs.declared.view.Me.{Me}
 use Rattle.mon_tx.specs.declared.op.Op.{Op}
@@ -31,18 +32,22 @@ use Rattle.quorum_stays.proofs.Onward.{lands, pack, unpack}
 use Rattle.quorum_stays.proofs.Peering.{PeonIn}
 use Rattle.quorum_stays.proofs.Rows.{renew_row}
 use Rattle.quorum_stays.proofs.Sending.{each, each_from, to_member, to_none}
+use Rattle.quorum_stays.proofs.Serving.{Began, Goes, Renewed, Turn}
 use Rattle.quorum_stays.proofs.States.{bare_renewing, begun, extends}
 use Rattle.quorum_stays.proofs.Stepping.{Did, did}
-use Rattle.quorum_stays.proofs.Timers.{Tidy, all_extended, disarmed_size, extended_timers, maybe_armed}
+use Rattle.quorum_stays.proofs.Taking.{taken_by, taken_nowhere}
+use Rattle.quorum_stays.proofs.Timers.{Tidy, all_extended, armed_if_any, disarmed_size, extended_timers, maybe_armed}
 use Rattle.quorum_stays.proofs.Turning.{other_state, other_store, same_carried}
 use Rattle.quorum_stays.specs.Reading.{ClocksGoOn}
+use Rattle.quorum_stays.specs.Serving.{IsForward}
 use Rattle.quorum_stays.specs.Steady.{AllIn, AreApart, Begun, Carries, FollowsSince, HasLease, IsOfCommand, Item, Keeps, LeadsSince, LeasedSince, Noted, Proposes, Reign, Round, Steady, item, leased, said, to_leader, to_peon}
 use Rattle.quorum_timed.proofs.Armed.{Timers}
 use Rattle.quorum_timed.specs.Begins.{IsQuick}
 use Rattle.quorum_timed.specs.Timed.{MayBe, Pace, Timed, Went, at_time}
 use Rattle.quorum_walk.proofs.Ranks.{has_only_is}
-use Rattle.std.proofs.Common.{Bool, List, None, Option, Some, [], ap, arith, drop, inl, inr, ltb, map, not, refl, subst, suc, sym, take, true, zero, ℕ, ◌*◌, ◌+◌, ◌++◌, ◌<◌, ◌^◌, ◌∙◌, ◌∷◌, ◌≡◌, ◌≤◌, ◌⊎◌}
+use Rattle.std.proofs.Common.{Bool, List, None, Option, Some, [], ap, arith, drop, false, inl, inr, ltb, map, not, refl, subst, suc, sym, take, true, zero, ℕ, ◌*◌, ◌+◌, ◌++◌, ◌<◌, ◌^◌, ◌∙◌, ◌∷◌, ◌≡◌, ◌≤◌, ◌⊎◌, length}
 use Rattle.std.proofs.lemmas.Bool.{cases_eq}
+use Rattle.std.specs.List.{AllByRecursion}
 use Rattle.std.specs.Prelude.{IsSomeAnd, is_some}
 
 -- ---- a value in progress more or less
@@ -65,6 +70,10 @@ leased_next r a b (suc zero) = refl
 leased_next r a b (suc (suc h)) = refl
 
 -- ---- the leader and its peons
+
+pub each_hands_on_none : (me : Me) (e : ℕ) (b : Body) → (IsForward b → ⊥) → (ks : List ℕ) → AllByRecursion (λ (m : Envelope). IsForward m.message.body → ⊥) (each me e b ks)
+each_hands_on_none me e b nil [] = tt
+each_hands_on_none me e b nil (k ∷ ks) = (nil, each_hands_on_none me e b nil ks)
 
 -- what one body to each member gives
 module _ (ms : Monitors) (q : List Bool) (reign : Reign) (here : ltb reign.leader ms.count ≡ true) (b : Body) where
@@ -194,8 +203,8 @@ module _ (ms : Monitors) (q : List Bool) (pace : Pace) (reign : Reign) (r : Roun
               (same_carried ms q pace reign t next u later e t.under_way went reign.leader s after _ es up D j reign.leader (drop F.taken (take (said F.heard) (to_leader reign pace calm))) F.to_take (gives_no_leader ms q reign here _ j reign.leader nj));
         }
 
-    pub value_begins : Steady ms q pace reign (record r { next = Some (record { value = x; at = u }) }) next
-    value_begins = record {
+    begin_stays : Steady ms q pace reign (record r { next = Some (record { value = x; at = u }) }) next
+    begin_stays = record {
       leads = S.leads;
       second = S.second;
       second_in = S.second_in;
@@ -221,6 +230,25 @@ module _ (ms : Monitors) (q : List Bool) (pace : Pace) (reign : Reign) (r : Roun
       peons = λ j qj nj. peon j qj nj (S.peons j qj nj);
       others = λ f j qf qj a. same_carried ms q pace reign t next u later e t.under_way went reign.leader s after _ es up D f j [] (S.others f j qf qj a) (gives_apart ms q reign here _ f j a);
     }
+
+    pub value_begins : (taken : Option Origin) → taken_by (member_of ms reign.leader here) t.world reign.leader s e ≡ taken
+        → ((taken ≡ Some from) × (s.clients.queue ≡ []) × (clients.queue ≡ [])) ⊎ ((one : Waiting) × (taken ≡ None) × (s.clients.queue ≡ one ∷ clients.queue) × (one.origin ≡ from))
+        → Goes ms q pace reign t.world u e (record r { next = None }) (record r { next = Some (record { value = x; at = u }) }) next
+    value_begins taken taken_is start = (
+      begin_stays,
+      record {
+        here = here;
+        was = s;
+        is = after;
+        up = up;
+        up_after = D.up;
+        es = es;
+        messages = D.messages;
+        plain = inl (each_hands_on_none me reign.epoch (body.Begin reign.pn (suc r.version) x) (λ k. k) (members me q));
+        version = λ _. refl;
+        turn = subst (λ (z : Option Origin). Turn ms pace reign u t.world next.world calm new z s after es) (sym taken_is) (Began from (record { value = x; at = u }) refl refl refl refl start);
+      },
+    )
 
 -- ---- the leases are renewed
 
@@ -329,8 +357,8 @@ module _ (ms : Monitors) (q : List Bool) (pace : Pace) (reign : Reign) (K : IsQu
             (gives_no_leader ms q reign here2 _ j reign.leader nj);
       }
 
-  pub renews : Steady ms q pace reign (record r { latest = u; before = r.latest; next = None }) next
-  renews = record {
+  renewal_stays : Steady ms q pace reign (record r { latest = u; before = r.latest; next = None }) next
+  renewal_stays = record {
     leads = S.leads;
     second = S.second;
     second_in = S.second_in;
@@ -353,3 +381,26 @@ module _ (ms : Monitors) (q : List Bool) (pace : Pace) (reign : Reign) (K : IsQu
     peons = λ j qj nj. renewed_peon j qj nj (S.peons j qj nj);
     others = λ f j qf qj a. same_carried ms q pace reign t next u M.later _ t.under_way went reign.leader s after2 [] es2 up E f j [] (S.others f j qf qj a) (gives_apart ms q reign here2 _ f j a);
   }
+
+  all_extended_size : length (extended_timers now2 (is_empty (members me2 s.leader.quorum)) bare) ≡ 11
+  all_extended_size =
+      let E = all_extended now2 (room reign.leader S.leads) bare (disarmed_size timer.Renew s.timers L.kinds) (bare_renewing reign q (r.latest + pace.clock reign.leader) s L (L.heard all_acked)) false (is_empty (members me2 s.leader.quorum)) in
+      E.kinds
+
+  pub renews : Goes ms q pace reign t.world u (Arrives (Ring reign.leader timer.Renew (u + pace.clock reign.leader))) (record r { next = None }) (record r { latest = u; before = r.latest; next = None }) next
+  renews = (
+    renewal_stays,
+    record {
+      here = here2;
+      was = s;
+      is = after2;
+      up = up;
+      up_after = E.up;
+      es = es2;
+      messages = E.messages;
+      plain = inl (each_hands_on_none me2 reign.epoch (body.Lease r.version) (λ k. k) (members me2 q));
+      version = λ _. refl;
+      turn = Renewed (taken_nowhere me2 t.world reign.leader s _ (record { rank = reign.leader; at = u + pace.clock reign.leader; input = input.Timer timer.Renew }) refl refl) refl refl refl refl late
+          (armed_if_any s.clients.queue now2 (extended_timers now2 (is_empty (members me2 s.leader.quorum)) bare) all_extended_size (room reign.leader S.leads));
+    },
+  )

@@ -2,13 +2,14 @@
 use Rattle.mon_msg.specs.Protocol.Readings.{Readings, epoch_of, promise_of, readings_of, shared_entries}
 use Rattle.mon_msg.specs.Protocol.Sets.{are_within}
 use Rattle.mon_msg.specs.Protocol.State.{State}
-use Rattle.mon_msg.specs.Protocol.Timers.{disarmed}
+use Rattle.mon_msg.specs.Protocol.Timers.{disarmed, end_of}
 use Rattle.mon_msg.specs.declared.input.Input.TheVariants as input
 use Rattle.mon_types.specs.Ranks.{has, with_rank}
 use Rattle.mon_wire.specs.declared.body.Body.TheVariants as body
 use Rattle.mon_wire.specs.declared.body.Body.{Body}
 use Rattle.mon_wire.specs.declared.phase.Phase.TheVariants as phase
 use Rattle.mon_wire.specs.declared.phase.Timer.TheVariants as timer
+use Rattle.quorum_model.proofs.Members.{member_of}
 use Rattle.quorum_model.specs.Meets.{message_at}
 use Rattle.quorum_model.specs.Monitors.{Monitors}
 use Rattle.quorum_model.specs.World.{Arrives, Deliver}
@@ -17,9 +18,13 @@ use Rattle.quorum_stays.proofs.Onward.{here_left, other_left, pack}
 use Rattle.quorum_stays.proofs.Peering.{PeonIn, one_peon}
 use Rattle.quorum_stays.proofs.Peons.{head_is, rest_is}
 use Rattle.quorum_stays.proofs.Rows.{accept_row, ack_row, late_ack_row}
+use Rattle.quorum_stays.proofs.Serving.{Goes, Served, undisturbed}
 use Rattle.quorum_stays.proofs.States.{accepted, acknowledged, has_self}
 use Rattle.quorum_stays.proofs.Stepping.{Did, brought, did}
+use Rattle.quorum_stays.proofs.Taking.{no_forward}
+use Rattle.quorum_stays.proofs.Timers.{still_on}
 use Rattle.quorum_stays.proofs.Turning.{on_state, other_state, other_store, same_carried}
+use Rattle.quorum_stays.specs.Serving.{IsForward}
 use Rattle.quorum_stays.specs.Steady.{Begun, Carries, FollowsSince, HasLease, IsItem, Item, Keeps, Leads, LeadsSince, Noted, Proposes, Reign, Round, Steady, item, in_reign, leased, said, to_leader, to_peon}
 use Rattle.quorum_timed.specs.Timed.{Owed, Pace, Timed, Went, at_time, without_first}
 use Rattle.quorum_walk.proofs.Ranks.{has_with, has_with_is}
@@ -90,6 +95,12 @@ module _ (ms : Monitors) (q : List Bool) (pace : Pace) (reign : Reign) (r : Roun
 
     pub noted_on : (j taken : ℕ) → (Noted j taken r.next s → Noted j taken r.next after) → IsSomeAnd (t.world.state reign.leader) (Noted j taken r.next) → IsSomeAnd (next.world.state reign.leader) (Noted j taken r.next)
     noted_on j taken go k = on_state ms q pace reign t next u later _ left went reign.leader s after [] [] up D (Noted j taken r.next) (Noted j taken r.next) reign.leader (λ _ z. go z) (λ ne z k. absurd (ne refl)) k
+
+    -- nothing became of the commands that wait
+    pub calmly : (IsForward x.body → ⊥) → after.clients.queue ≡ s.clients.queue → after.leader.origin ≡ s.leader.origin → (r.next ≡ None → end_of timer.Propose after.timers ≡ end_of timer.Propose s.timers)
+        → Served ms pace reign (Arrives (Deliver o.number (u + pace.clock reign.leader))) u t.world next.world r r
+    calmly none queue same ends = undisturbed ms pace reign lt r u t.world next.world (Deliver o.number (u + pace.clock reign.leader)) _ (comes x.body refl) s up
+        (no_forward (member_of ms reign.leader lt) (readings_of (t.world.store reign.leader)) s (in_reign ms reign f reign.leader x.body).message none) after D queue same ends
 
     pub answered : (more : ℕ) → more ≤ said F.heard → Noted f more r.next after → rest ≡ drop more (take (said F.heard) (to_leader reign pace r))
         → ((j taken : ℕ) → (j ≡ f → ⊥) → Noted j taken r.next s → Noted j taken r.next after) → Leads ms.count q pace reign r r.next after → Steady ms q pace reign r next
@@ -163,8 +174,12 @@ module _ (ms : Monitors) (q : List Bool) (pace : Pace) (reign : Reign) (r0 : Rou
       (comes ms q pace reign r t S u later next f qf nf F o others x rest it C went _ body_is) A.1 went.happened _
       (ack_row ms reign.leader here (shared_entries (t.world.store reign.leader)) (u + pace.clock reign.leader) store s f reign.epoch nf (subst (λ (z : List Bool). has z f ≡ true) (sym L.quorum) qf) S.epoch L.leads)
 
-  pub ack_comes : Steady ms q pace reign (record r0 { next = None }) next
-  ack_comes =
+  ends_as_before : (test : Bool) → end_of timer.Propose (cond test (disarmed timer.LeaseAck s.timers) s.timers) ≡ end_of timer.Propose s.timers
+  ends_as_before true = still_on timer.Propose timer.LeaseAck s.timers (λ e. omega arith)
+  ends_as_before false = refl
+
+  ack_stays : Steady ms q pace reign (record r0 { next = None }) next
+  ack_stays =
       let L = A.2 in
       let few : f < length s.leader.acks = (let a = S.members f qf in let b = ms.most in let c = L.ranks in omega arith) in
       answered ms q pace reign r t S u later next f qf nf F o others x rest it C went s _ A.1 D 1 (said_some F.heard shape.1) (λ _. has_self s.leader.acks f few)
@@ -180,6 +195,13 @@ module _ (ms : Monitors) (q : List Bool) (pace : Pace) (reign : Reign) (r0 : Rou
       empty (suc zero) = refl
       empty (suc (suc zero)) = refl
       empty (suc (suc (suc h))) = refl
+
+  pub ack_comes : Goes ms q pace reign t.world u (Arrives (Deliver o.number (u + pace.clock reign.leader))) (record r0 { next = None }) (record r0 { next = None }) next
+  ack_comes = (
+    ack_stays,
+    calmly ms q pace reign r t S u later next f qf nf F o others x rest it C went s _ A.1 D (subst (λ (b : Body). IsForward b → ⊥) (sym body_is) (λ k. k)) refl refl
+        (λ _. ends_as_before (are_within ms.count s.leader.quorum (with_rank s.leader.acks f))),
+  )
 
 -- ---- a value is in progress
 
@@ -220,9 +242,11 @@ module _ (ms : Monitors) (q : List Bool) (pace : Pace) (reign : Reign) (r0 : Rou
 
   -- an acknowledgement that comes late
   pub late_ack_comes : F.taken ≡ 0 → 2 ≤ F.heard → item (body.LeaseAck r0.version) (r0.latest + 2 * pace.delay) ≡ x → rest ≡ drop (suc zero) (take (said F.heard) (to_leader reign pace (record r0 { next = Some b })))
-      → Steady ms q pace reign (record r0 { next = Some b }) next
-  late_ack_comes none some is list =
-      answered ms q pace reign rb t S u later next f qf nf F o others x rest it C went busy busy up_busy D1 1 (said_some F.heard some) fresh list (λ j taken ne N. N) proposes_busy
+      → Goes ms q pace reign t.world u (Arrives (Deliver o.number (u + pace.clock reign.leader))) (record r0 { next = Some b }) (record r0 { next = Some b }) next
+  late_ack_comes none some is list = (
+    answered ms q pace reign rb t S u later next f qf nf F o others x rest it C went busy busy up_busy D1 1 (said_some F.heard some) fresh list (λ j taken ne N. N) proposes_busy,
+    calmly ms q pace reign rb t S u later next f qf nf F o others x rest it C went busy busy up_busy D1 (subst (λ (y : Item). IsForward y.body → ⊥) is (λ k. k)) refl refl (λ _. refl),
+  )
     where
       said_some : (h : ℕ) → 2 ≤ h → 1 ≤ said h
       said_some zero le = absurd (omega arith)
@@ -247,12 +271,17 @@ module _ (ms : Monitors) (q : List Bool) (pace : Pace) (reign : Reign) (r0 : Rou
     pub accept_body : x.body ≡ body.Accept reign.pn (suc store1.last)
     accept_body = ap (λ (y : Item). y.body) (sym is) ∙ ap (λ (v : ℕ). body.Accept reign.pn (suc v)) (sym S.last)
 
-    pub accept_comes : are_within ms.count q (with_rank s0.leader.accepted f) ≡ false → Steady ms q pace reign (record r0 { next = Some b }) next
-    accept_comes more =
+    D2 : are_within ms.count q (with_rank s0.leader.accepted f) ≡ false → Did t.world next.world reign.leader (record busy { leader = record (busy.leader) { accepted = with_rank s0.leader.accepted f } }) [] []
+    D2 more = did ms t.world next.world (Deliver o.number (u + pace.clock reign.leader)) reign.leader here1 (u + pace.clock reign.leader) (input.Deliver (in_reign ms reign f reign.leader (body.Accept reign.pn (suc store1.last))).message) busy
+        (comes ms q pace reign rb t S u later next f qf nf F o others x rest it C went _ accept_body) up_busy went.happened _
+        (accept_row ms reign.leader here1 (shared_entries (t.world.store reign.leader)) (u + pace.clock reign.leader) store1 s0 q reign.pn b.value f reign.epoch nf qf S.epoch more)
+
+    accept_stays : are_within ms.count q (with_rank s0.leader.accepted f) ≡ false → Steady ms q pace reign (record r0 { next = Some b }) next
+    accept_stays more =
         let P = proposes_busy in
         let X = P.proposes in
         let few : f < length s0.leader.accepted = (let a = S.members f qf in let b = ms.most in let c = X.ranks in omega arith) in
-        answered ms q pace reign rb t S u later next f qf nf F o others x rest it C went busy _ up_busy D2 2 (subst (λ (z : ℕ). 2 ≤ said z) (sym all) (omega arith))
+        answered ms q pace reign rb t S u later next f qf nf F o others x rest it C went busy _ up_busy (D2 more) 2 (subst (λ (z : ℕ). 2 ≤ said z) (sym all) (omega arith))
         ((λ _. has_self s0.leader.accepted f few), (λ _. refl)) (list ∙ sym (empty F.heard all))
         (λ j taken ne N. ((λ e. has_with s0.leader.accepted f j (N.0 e)), (λ h. elim (has_with_is s0.leader.accepted f j h) [ inl e ↦ absurd (ne e) | inr h2 ↦ N.1 h2 ])))
         (record { proposes = accepted ms.count reign q b.value (b.at + pace.clock reign.leader) busy X f more; made = P.made; fits = P.fits; after = P.after; before = P.before })
@@ -264,7 +293,8 @@ module _ (ms : Monitors) (q : List Bool) (pace : Pace) (reign : Reign) (r0 : Rou
         empty (suc (suc (suc zero))) e = refl
         empty (suc (suc (suc (suc h)))) e = refl
 
-        D2 : Did t.world next.world reign.leader (record busy { leader = record (busy.leader) { accepted = with_rank s0.leader.accepted f } }) [] []
-        D2 = did ms t.world next.world (Deliver o.number (u + pace.clock reign.leader)) reign.leader here1 (u + pace.clock reign.leader) (input.Deliver (in_reign ms reign f reign.leader (body.Accept reign.pn (suc store1.last))).message) busy
-            (comes ms q pace reign rb t S u later next f qf nf F o others x rest it C went _ accept_body) up_busy went.happened _
-            (accept_row ms reign.leader here1 (shared_entries (t.world.store reign.leader)) (u + pace.clock reign.leader) store1 s0 q reign.pn b.value f reign.epoch nf qf S.epoch more)
+    pub accept_comes : are_within ms.count q (with_rank s0.leader.accepted f) ≡ false → Goes ms q pace reign t.world u (Arrives (Deliver o.number (u + pace.clock reign.leader))) (record r0 { next = Some b }) (record r0 { next = Some b }) next
+    accept_comes more = (
+      accept_stays more,
+      calmly ms q pace reign rb t S u later next f qf nf F o others x rest it C went busy _ up_busy (D2 more) (subst (λ (z : Body). IsForward z → ⊥) (sym accept_body) (λ k. k)) refl refl (λ _. refl),
+    )

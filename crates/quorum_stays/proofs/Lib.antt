@@ -4,6 +4,7 @@ pub mod Carrying
 pub mod Coming
 pub mod Committing
 pub mod Giving
+pub mod Growing
 pub mod Leaders
 pub mod Leases
 pub mod Leaving
@@ -15,12 +16,18 @@ pub mod Outcomes
 pub mod Peering
 pub mod Peons
 pub mod Quiets
+pub mod Resting
 pub mod Rows
 pub mod Sending
+pub mod Serves
+pub mod Serving
 pub mod States
 pub mod Staying
 pub mod Stepping
 pub mod Stores
+pub mod Taking
 pub mod Timers
 pub mod Turning
+pub mod Turns
 pub mod UnderWay
+pub mod Waiting

@@ -66,7 +66,6 @@ module _ (ms : Monitors) (q : List Bool) (pace : Pace) (reign : Reign) (t next :
       ap (message_at (t.world.messages ++ es)) number ∙ new_there t.world.messages es d m there
 
   -- What is left under way is followed by what was sent, which arrives by `due`.
-  -- What is left under way is followed by what was sent, which arrives by `due`.
   pub lands : (f j top due : ℕ) (xs : List Item) (bs : List Body) → top ≤ t.time + pace.delay → t.time + pace.delay ≤ due
       → Carries ms reign t.world.messages f j top xs (left f j) → Gives ms reign f j bs es
       → Carries ms reign next.world.messages f j (next.time + pace.delay) (xs ++ due_at due bs) (next.under_way f j)

@@ -18,15 +18,18 @@ use Rattle.quorum_stays.proofs.Carrying.{Gives}
 use Rattle.quorum_stays.proofs.Onward.{here_left, lands, other_left, pack, unpack}
 use Rattle.quorum_stays.proofs.Peering.{PeonIn, one_peon}
 use Rattle.quorum_stays.proofs.Rows.{begin_row, commit_row, lease_row}
+use Rattle.quorum_stays.proofs.Serving.{Goes, aside}
 use Rattle.quorum_stays.proofs.States.{begun_follows, leased_follows}
 use Rattle.quorum_stays.proofs.Stepping.{Did, brought, did}
 use Rattle.quorum_stays.proofs.Stores.{learned_epoch, learned_pending, learned_promise, settled}
 use Rattle.quorum_stays.proofs.Turning.{other_state, other_store, same_carried}
 use Rattle.quorum_stays.specs.Reading.{ClocksGoOn}
+use Rattle.quorum_stays.specs.Serving.{IsForward}
 use Rattle.quorum_stays.specs.Steady.{Begun, Carries, FollowsSince, HasLease, IsItem, Item, Keeps, Leads, Noted, Reign, Round, Steady, in_reign, leased, said, to_leader, to_peon}
 use Rattle.quorum_timed.specs.Begins.{IsQuick}
 use Rattle.quorum_timed.specs.Timed.{MayBe, Owed, Pace, Timed, Went, at_time, without_first}
 use Rattle.std.proofs.Common.{Bool, List, None, Some, [], ap, arith, drop, inl, inr, refl, subst, suc, sym, take, true, zero, ℕ, ◌*◌, ◌+◌, ◌^◌, ◌∙◌, ◌∷◌, ◌≡◌, ◌≤◌}
+use Rattle.std.specs.List.{AllByRecursion}
 use Rattle.std.specs.Prelude.{IsSomeAnd, option_map}
 
 pub head_is : {A : Type 0} (x y : A) (xs ys : List A) → x ∷ xs ≡ y ∷ ys → x ≡ y
@@ -106,8 +109,8 @@ module _ (ms : Monitors) (q : List Bool) (pace : Pace) (reign : Reign) (K : IsQu
     noted_on : (j taken : ℕ) → IsSomeAnd (t.world.state reign.leader) (Noted j taken r.next) → IsSomeAnd (next.world.state reign.leader) (Noted j taken r.next)
     noted_on j taken k = other_state ms q pace reign t next u later _ left went i s after cs es P.1 D (Noted j taken r.next) reign.leader not_leader k
 
-    done : PeonIn ms q pace reign r next i next.under_way → ((f j : ℕ) → (f ≡ i → j ≡ reign.leader → ⊥) → Gives ms reign f j [] es) → Steady ms q pace reign r next
-    done G gives = one_peon ms q pace reign r t S next u later _ left went i s after cs es P.1 D i ni (inl refl) G
+    stays : PeonIn ms q pace reign r next i next.under_way → ((f j : ℕ) → (f ≡ i → j ≡ reign.leader → ⊥) → Gives ms reign f j [] es) → Steady ms q pace reign r next
+    stays G gives = one_peon ms q pace reign r t S next u later _ left went i s after cs es P.1 D i ni (inl refl) G
         (λ j ne nj. (other_left reign.leader i others t.under_way reign.leader j (λ _ b. ne b), other_left reign.leader i others t.under_way j reign.leader (λ a _. nj a)))
         (λ f j a. other_left reign.leader i others t.under_way f j (λ y z. ni (sym z ∙ a.0 y))) (
           other_store ms q pace reign t next u later _ left went i s after cs es P.1 D (λ w. epoch_of w ≡ reign.epoch) reign.leader not_leader S.epoch,
@@ -116,10 +119,16 @@ module _ (ms : Monitors) (q : List Bool) (pace : Pace) (reign : Reign) (K : IsQu
         (other_state ms q pace reign t next u later _ left went i s after cs es P.1 D (Leads ms.count q pace reign r r.next) reign.leader not_leader S.lead)
         (λ j ne taken k. noted_on j taken k) (λ f j _ b. gives f j b)
 
+    done : PeonIn ms q pace reign r next i next.under_way → ((f j : ℕ) → (f ≡ i → j ≡ reign.leader → ⊥) → Gives ms reign f j [] es) → AllByRecursion (λ (m : Envelope). IsForward m.message.body → ⊥) es
+        → Goes ms q pace reign t.world u (Arrives (Deliver o.number (u + pace.clock i))) r r next
+    done G gives none =
+        let l = leading ms q pace reign r t S in
+        (stays G gives, aside ms pace reign (inside ms q pace reign r t S reign.leader S.leads) r u t.world next.world (Deliver o.number (u + pace.clock i)) _ (comes x.body refl) l.0 l.1 i refl ni after cs es D (inl none))
+
   -- ---- a COMMIT
 
-  pub commit_comes : F.heard ≡ zero → Steady ms q pace reign r next
-  commit_comes is = done s (Learn (suc w.last) r.value ∷ Last (suc w.last) ∷ []) [] D new (λ f j ne. refl)
+  pub commit_comes : F.heard ≡ zero → Goes ms q pace reign t.world u (Arrives (Deliver o.number (u + pace.clock i))) r r next
+  commit_comes is = done s (Learn (suc w.last) r.value ∷ Last (suc w.last) ∷ []) [] D new (λ f j ne. refl) tt
     where
       k : Keeps r zero w
       k = keeps_at zero is
@@ -156,8 +165,8 @@ module _ (ms : Monitors) (q : List Bool) (pace : Pace) (reign : Reign) (K : IsQu
 
   -- ---- a LEASE
 
-  pub lease_comes : F.heard ≡ suc zero → Steady ms q pace reign r next
-  lease_comes is = done after [] (reply ∷ []) D new (λ f j ne. gives_elsewhere ms reign i reign.leader (body.LeaseAck r.version) f j ne)
+  pub lease_comes : F.heard ≡ suc zero → Goes ms q pace reign t.world u (Arrives (Deliver o.number (u + pace.clock i))) r r next
+  lease_comes is = done after [] (reply ∷ []) D new (λ f j ne. gives_elsewhere ms reign i reign.leader (body.LeaseAck r.version) f j ne) ((λ k. k), tt)
     where
       k : Keeps r (suc zero) w
       k = keeps_at (suc zero) is
@@ -230,9 +239,9 @@ module _ (ms : Monitors) (q : List Bool) (pace : Pace) (reign : Reign) (K : IsQu
   abbrev Q : (s : State) × (t.world.state i ≡ Some s) × FollowsSince reign.leader q (leased r F.heard + pace.clock i) s
   Q = P ms q pace reign K r t S u M room next i qi ni F o others x rest items it C went
 
-  pub begin_comes : F.heard ≡ suc (suc zero) → Steady ms q pace reign (record r0 { next = Some b }) next
+  pub begin_comes : F.heard ≡ suc (suc zero) → Goes ms q pace reign t.world u (Arrives (Deliver o.number (u + pace.clock i))) (record r0 { next = Some b }) (record r0 { next = Some b }) next
   begin_comes is = done ms q pace reign K r t S u M room next i qi ni F o others x rest items it C went after (Vote (suc v.last) (promise_of v) b.value ∷ []) (in_reign ms reign i reign.leader (body.Accept reign.pn (suc r0.version)) ∷ []) D new
-      (λ f j ne. gives_elsewhere ms reign i reign.leader (body.Accept reign.pn (suc r0.version)) f j ne)
+      (λ f j ne. gives_elsewhere ms reign i reign.leader (body.Accept reign.pn (suc r0.version)) f j ne) ((λ k. k), tt)
     where
       after : State
       after = record (Q.0) { peon = record (Q.0.peon) { lease = None } }

@@ -12,15 +12,15 @@ use Rattle.mon_msg.specs.Protocol.Table.{react}
 use Rattle.mon_msg.specs.declared.input.Input.TheVariants as input
 use Rattle.mon_msg.specs.declared.input.Input.{Input}
 use Rattle.mon_msg.specs.declared.view.Me.{Me}
-use Rattle.mon_tx.specs.Map.{apply}
+use Rattle.mon_tx.specs.Map.{Store, apply}
 use Rattle.mon_types.specs.declared.names.Which.{Which}
 use Rattle.quorum_model.proofs.Members.{me_is, member_of}
-use Rattle.quorum_model.specs.Clients.{messages_of}
-use Rattle.quorum_model.specs.Happens.{Full, Stop, after_meeting, happens, in_world, moved}
+use Rattle.quorum_model.specs.Clients.{messages_of, replies_of}
+use Rattle.quorum_model.specs.Happens.{Full, Stop, after_meeting, happens, in_world, map_after, moved}
 use Rattle.quorum_model.specs.Meets.{Arrival, Meeting, Reacts, arrival, meeting, meeting_at, meets, state_at}
 use Rattle.quorum_model.specs.Monitors.{Monitors}
 use Rattle.quorum_model.specs.World.{Arrives, Envelope, Plain, World}
-use Rattle.std.proofs.Common.{Err, List, Ok, Option, Result, Some, ap, ltb, refl, subst, sym, true, ℕ, ◌++◌, ◌∙◌, ◌≡◌}
+use Rattle.std.proofs.Common.{Err, List, Ok, Option, Result, Some, ap, ltb, refl, subst, suc, sym, true, ℕ, ◌++◌, ◌∙◌, ◌≡◌}
 use Rattle.std.proofs.lemmas.Bool.{cond_both, eq-eqb, ne_eqb}
 use Rattle.std.specs.List.{AllByRecursion}
 use Rattle.std.specs.Prelude.{nat_lt}
@@ -68,6 +68,11 @@ module _ (ms : Monitors) (w next : World) (p : Plain) (i : ℕ) (lt : ltb i ms.c
       stores = λ j ne. rw (ne_eqb j i ne) refl;
       messages = refl;
     }
+
+    -- what it replied to clients
+    pub replied : (event : ℕ) × (m : Store) × (next.replied ≡ w.replied ++ replies_of event i m y.out)
+    unfolding moved
+    replied = (suc w.events, map_after w i (reaction_of y), ap (λ (z : World). z.replied) (becomes y is) ∙ refl)
 
     pub did : Did w next i y.state y.changes (messages_of y.out)
     did = subst (λ (v : World). Did w v i y.state y.changes (messages_of y.out)) (sym (becomes y is)) after

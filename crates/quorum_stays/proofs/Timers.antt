@@ -1,4 +1,5 @@
 -- When timers end after one of them was armed or disarmed.
+use Rattle.mon_msg.specs.Protocol.Sets.{is_empty}
 use Rattle.mon_msg.specs.Protocol.Timers.{armed, armed_once, disarmed, end_of, index_of, is_armed, length_of, only_ping}
 use Rattle.mon_wire.specs.declared.phase.Timer.TheVariants as timer
 use Rattle.mon_wire.specs.declared.phase.Timer.{Timer}
@@ -181,3 +182,8 @@ module _ (now : ℕ) (room : now + 10000 ≤ 2 ^ 62) (ts : Timers) (size : lengt
           | inr ne ↦ E.only kind end (sym (still_ends now kind timer.Propose after ne) ∙ e)
         ];
       }
+
+-- if commands wait, their timer ends now
+pub armed_if_any : {A : Type 0} (xs : List A) (now : ℕ) (ts : Timers) → length ts ≡ 11 → now + 10000 ≤ 2 ^ 62 → (xs ≡ [] → ⊥) → end_of timer.Propose (maybe_armed (not (is_empty xs)) now ts) ≡ Some now
+armed_if_any [] now ts size room some = absurd (some refl)
+armed_if_any (x ∷ xs) now ts size room some = ends now timer.Propose ts size (omega arith) ∙ ap Some (omega arith)

@@ -2,7 +2,7 @@
 use Rattle.quorum_model.specs.World.{Envelope}
 use Rattle.quorum_timed.specs.Timed.{Owed, new_between, owed_by}
 use Rattle.std.proofs.Common.{Bool, List, Some, [], ap, arith, eqb, false, filter, length, map, refl, subst, suc, true, zero, ℕ, ◌&&◌, ◌++◌, ◌+◌, ◌∙◌, ◌∷◌, ◌≡◌}
-use Rattle.std.proofs.lemmas.Bool.{and_parts, eq-eqb, eqb-true}
+use Rattle.std.proofs.lemmas.Bool.{and_parts, eqb-true}
 use Rattle.std.proofs.lemmas.List.{drop_at}
 use Rattle.std.specs.List.{AllByRecursion, enumerate_from}
 use Rattle.std.specs.Prelude.{cond, slice_get}

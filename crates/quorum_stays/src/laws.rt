@@ -1,4 +1,4 @@
-ghost use Rattle.std.specs.Prelude.{ℕ, ◌*◌, ◌+◌, ◌<◌, ◌≡◌, ◌≤◌, Bool, None, Some, true, List, Ok};
+ghost use Rattle.std.specs.Prelude.{ℕ, ◌*◌, ◌+◌, ◌<◌, ◌≡◌, ◌≤◌, Bool, None, Some, true, List, Ok, ◌∷◌};
 ghost use Rattle.mon_msg.specs.Protocol.Readings.{readings_of};
 ghost use Rattle.mon_types.specs.Ranks.{has};
 ghost use Rattle.mon_wire.specs.declared.request.Request.{Request};
@@ -8,6 +8,8 @@ ghost use Rattle.quorum_model.specs.Monitors.{Monitors};
 ghost use Rattle.quorum_model.specs.World.{Arrives, Client, Event, World};
 ghost use Rattle.quorum_stays.specs.Leaving.{FollowMembers};
 ghost use Rattle.quorum_stays.specs.Reading.{ClocksGoOn, IsAnswered, LeasesStand, Reads};
+ghost use Rattle.quorum_stays.specs.Serving.{Attends, IsServed, NothingWaits, Writes, answer_time};
+ghost use Rattle.std.specs.List.{AllByRecursion};
 ghost use Rattle.quorum_stays.specs.Steady.{Begun, Reign, Round, Steady};
 ghost use Rattle.quorum_timed.specs.Begins.{Begins, IsQuick};
 ghost use Rattle.quorum_timed.specs.Timed.{Leads, MayBe, Pace, Timed};
@@ -28,6 +30,32 @@ pub fn law_values_are_committed()
         (more : List (ℕ × Event)) → IsQuick pace → Steady ms q pace reign r t → r.next ≡ Some b
         → Leads ms q pace t more last → ClocksGoOn q pace last.time → b.at + 2 * pace.delay < last.time
         → (later : Round) × Steady ms q pace reign later last × (r.version < later.version) }
+{}
+
+/// The leader of such a quorum answers each command that it is asked within `answer_time`, whatever other clients ask.
+/// The command is committed, or its service refuses it, or it is too long, or too many wait (`IsAnswer`). At first the
+/// next one of the commands that wait is proposed soon (`Attends`), and so it is at each later time.
+pub fn law_serves()
+    ensures attends { (ms : Monitors) (q : List Bool) (pace : Pace) (reign : Reign) (r : Round) (t last : Timed)
+        (more : List (ℕ × Event)) → IsQuick pace → Steady ms q pace reign r t → Attends pace reign r t
+        → Leads ms q pace t more last → ClocksGoOn q pace last.time
+        → (later : Round) × Steady ms q pace reign later last × Attends pace reign later last }
+    ensures answers { (ms : Monitors) (q : List Bool) (pace : Pace) (reign : Reign) (r : Round) (t last : Timed)
+        (u : ℕ) (session : Session) (request : Request) (more : List (ℕ × Event)) → IsQuick pace
+        → Steady ms q pace reign r t → Attends pace reign r t → (Reads request → ⊥)
+        → Leads ms q pace t ((u, Arrives (Client reign.leader (u + pace.clock reign.leader) session request)) ∷ more) last
+        → ClocksGoOn q pace last.time → u + answer_time pace < last.time
+        → IsServed t.world last.world reign.leader session }
+{}
+
+/// If nobody writes in a quorum that is led so, nothing is begun, and the last version and the time of its commit stay
+/// the same. No command waits at the leader or is on its way to it at first, and no client asks for one.
+pub fn law_nothing_is_begun()
+    ensures { (ms : Monitors) (q : List Bool) (pace : Pace) (reign : Reign) (r : Round) (t last : Timed)
+        (more : List (ℕ × Event)) → IsQuick pace → Steady ms q pace reign r t → r.next ≡ None → NothingWaits q reign t
+        → Leads ms q pace t more last → AllByRecursion (λ m. Writes m.1 → ⊥) more → ClocksGoOn q pace last.time
+        → (later : Round) × Steady ms q pace reign later last × (later.next ≡ None) × (later.version ≡ r.version)
+        × (later.committed ≡ r.committed) × NothingWaits q reign last }
 {}
 
 /// In a quorum that is led so, the lease of each member is valid while no value is in progress, from one delay after

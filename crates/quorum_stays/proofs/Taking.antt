@@ -1,0 +1,103 @@
+-- Whether the leader takes a command from what an event brings.
+use Rattle.mon_msg.specs.Protocol.Leader.{of_member}
+use Rattle.mon_msg.specs.Protocol.Hearing.{is_heard}
+use Rattle.mon_msg.specs.Protocol.Phases.{is_leading}
+use Rattle.mon_msg.specs.Protocol.Readings.{Readings, readings_of}
+use Rattle.mon_msg.specs.Protocol.State.{State}
+use Rattle.mon_msg.specs.Protocol.Table.{at_rest}
+use Rattle.mon_msg.specs.declared.input.Input.TheVariants as input
+use Rattle.mon_msg.specs.declared.input.Input.{Input}
+use Rattle.mon_msg.specs.declared.plan.Origin.TheVariants as origin
+use Rattle.mon_msg.specs.declared.plan.Origin.{Origin}
+use Rattle.mon_msg.specs.declared.view.Me.{Me}
+use Rattle.mon_wire.specs.declared.body.Body.TheVariants as body
+use Rattle.mon_wire.specs.declared.body.Body.{Body}
+use Rattle.mon_wire.specs.declared.message.Message.{Message}
+use Rattle.mon_wire.specs.declared.phase.Phase.TheVariants as phase
+use Rattle.mon_wire.specs.declared.phase.Phase.{Phase}
+use Rattle.mon_wire.specs.declared.request.Request.TheVariants as request
+use Rattle.mon_wire.specs.declared.request.Request.{Request}
+use Rattle.mon_wire.specs.declared.request.Session.{Session}
+use Rattle.quorum_model.specs.Meets.{Arrival, arrival}
+use Rattle.quorum_model.specs.World.{Arrives, Event, World}
+use Rattle.quorum_stays.specs.Serving.{IsForward}
+use Rattle.std.proofs.Common.{Bool, List, None, Option, Some, [], ap, eqb, ltb, refl, ℕ, ◌&&◌, ◌∙◌, ◌∷◌, ◌≡◌}
+use Rattle.std.proofs.lemmas.Bool.{cond_both, eq-eqb, ne_eqb}
+use Rattle.std.specs.Prelude.{cond, slice_index_or}
+
+-- a monitor that leads, in each of its phases
+abbrev pub leading : List Phase
+leading = phase.Collecting ∷ phase.Previous ∷ phase.Active ∷ phase.Updating ∷ []
+
+-- the message is of a member of the leader's quorum, and it took none of this number from that member or later
+abbrev pub takes_seq : Readings → State → Message → (seq : ℕ) → Bool
+takes_seq w s m seq = of_member leading m.from m.epoch (at_rest w s) && ltb (slice_index_or s.clients.taken m.from 0) seq
+
+module _ (me : Me) (w : Readings) (s : State) where
+  -- who asks the command that a leader takes from a client's request
+  abbrev pub taken_request : Session → Request → Option Origin
+  taken_request session (request.Show service) = None
+  taken_request session (request.Since service version) = None
+  taken_request session other = cond (is_leading s.phase) (Some (origin.Session session)) None
+
+  -- the same for a message that is heard
+  abbrev pub taken_body : Message → Body → Option Origin
+  taken_body m (body.Forward seq c) = cond (takes_seq w s m seq) (Some (origin.Forwarded m.from seq)) None
+  taken_body m other = None
+
+  abbrev pub taken_from : Input → Option Origin
+  taken_from (input.Client session r) = taken_request session r
+  taken_from (input.Deliver m) = cond (is_heard me m) (taken_body m m.body) None
+  taken_from other = None
+
+  body_none : (m : Message) (b : Body) → (IsForward b → ⊥) → taken_body m b ≡ None
+  body_none m (body.Forward seq c) nil = absurd (nil tt)
+  body_none m (body.Route seq r) nil = refl
+  body_none m body.Probe nil = refl
+  body_none m (body.ProbeReply quorum first last) nil = refl
+  body_none m (body.Propose table) nil = refl
+  body_none m body.Ack nil = refl
+  body_none m (body.Victory quorum) nil = refl
+  body_none m (body.Collect pn first last) nil = refl
+  body_none m (body.Last pn first last whole from values pending) nil = refl
+  body_none m (body.Begin pn v value) nil = refl
+  body_none m (body.Accept pn v) nil = refl
+  body_none m (body.Commit from values) nil = refl
+  body_none m (body.Lease last) nil = refl
+  body_none m (body.LeaseAck last) nil = refl
+  body_none m body.GetCookieFull nil = refl
+  body_none m (body.GetCookieRecent last) nil = refl
+  body_none m (body.Cookie full cookie last) nil = refl
+  body_none m (body.GetChunk cookie place) nil = refl
+  body_none m (body.Chunk cookie place values entries finished) nil = refl
+  body_none m (body.LastChunk cookie place values entries last) nil = refl
+  body_none m (body.NoCookie cookie) nil = refl
+  body_none m (body.Ping table) nil = refl
+  body_none m (body.PingReply table) nil = refl
+  body_none m (body.Request id r) nil = refl
+  body_none m (body.Reply id r) nil = refl
+
+  pub no_forward : (m : Message) → (IsForward m.body → ⊥) → taken_from (input.Deliver m) ≡ None
+  no_forward m nil = cond_both (is_heard me m) (taken_body m m.body) None (λ (o : Option Origin). o ≡ None) (λ _. body_none m m.body nil) (λ _. refl)
+
+-- ---- of an event
+
+module _ (me : Me) (w : World) (leader : ℕ) (s : State) where
+  abbrev pub taken_at : Option Arrival → Option Origin
+  taken_at None = None
+  taken_at (Some a) = cond (eqb a.rank leader) (taken_from me (readings_of (w.store leader)) s a.input) None
+
+  -- who asks the command that the leader takes, if it takes one
+  abbrev pub taken_by : Event → Option Origin
+  taken_by (Arrives p) = taken_at (arrival w p)
+  taken_by other = None
+
+  pub taken_here : (o : Option Arrival) (a : Arrival) → o ≡ Some a → a.rank ≡ leader → taken_at o ≡ taken_from me (readings_of (w.store leader)) s a.input
+  taken_here o a is same = ap taken_at is ∙ (let t = eq-eqb a.rank leader same in rw t refl)
+
+  pub taken_elsewhere : (o : Option Arrival) (a : Arrival) → o ≡ Some a → (a.rank ≡ leader → ⊥) → taken_at o ≡ None
+  taken_elsewhere o a is other = ap taken_at is ∙ (let t = ne_eqb a.rank leader other in rw t refl)
+
+  -- nothing is taken from such an input, wherever it comes
+  pub taken_nowhere : (o : Option Arrival) (a : Arrival) → o ≡ Some a → taken_from me (readings_of (w.store leader)) s a.input ≡ None → taken_at o ≡ None
+  taken_nowhere o a is none = ap taken_at is ∙ cond_both (eqb a.rank leader) (taken_from me (readings_of (w.store leader)) s a.input) None (λ (z : Option Origin). z ≡ None) (λ _. none) (λ _. refl)
