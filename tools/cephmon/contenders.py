@@ -76,26 +76,35 @@ class Seen(NamedTuple):
 class Contender:
     """One contender for a prefix. It is driven by `step`, and must be left at the end."""
 
-    def __init__(self, replica: Replica, prefix: str, period: float = PERIOD, patience: int = PATIENCE):
+    def __init__(self, replica: Replica, prefix: str, period: float = PERIOD, patience: int = PATIENCE, before: Contender | None = None):
+        """`before` is an earlier contender of the same program, which left without having been first. What that one knew of the others goes on, so a silent one
+        is passed over even if no single wait is long enough for that."""
         self.replica, self.client, self.prefix = replica, replica.client, prefix
         self.own = secrets.token_hex(8)
         self.period, self.patience = period, patience
         self.token, self.renewals, self.next = 0, 0, 0.0
         self.others: dict[str, Seen] = {}
         self.is_lost, self.is_renewed = False, False
+        if before:
+            self.others, self.renewals, self.next = before.others, before.renewals, before.next
 
     def key(self, part: str) -> str:
         return f'{self.prefix}{self.own}/{part}'
 
     def enter(self, timeout: float | None = None) -> None:
         """Sets `choosing` and `entry`. If it raises, keys may be left, which `leave` removes."""
-        end = ended_at(timeout, self.client.timeout)
+        end, is_due = ended_at(timeout, self.client.timeout), 0.0 < self.next <= time.monotonic()
         self.token = self.client.set(self.key('choosing'), '', timeout=left(end))
         version = self.client.set(self.key('entry'), str(self.token), timeout=left(end))
         self.replica.refresh(version, left(end))
         self.look()
         self.is_lost = self.is_lost or self.key('choosing') not in self.replica.map
-        self.next = time.monotonic() + self.period
+        if is_due:
+            # These changes are as good as the renewal that the earlier contender would have made now.
+            self.renewals += 1
+            self.pass_over(left(end))
+        if is_due or not self.next:
+            self.next = time.monotonic() + self.period
 
     def step(self, timeout: float | None = None) -> None:
         """Reads what changed, renews if it is time, and passes over who is silent and ahead."""

@@ -66,25 +66,28 @@ class Lock:
         self.client, self.period, self.patience = client.copy(), period, patience
         self.contender: Contender | None = None
         self.keeper: Keeper | None = None
+        # The last contender that left without having been first.
+        self.waited: Contender | None = None
 
     def acquire(self, timeout: float | None = None) -> int:
         """Waits until it is held, and returns the token. Raises TimedOut if it isn't within these seconds, by default those of the client's requests.
-        Then it may take some seconds more to leave."""
+        Then it may take some seconds more to leave. A holder that died is passed over after some `patience` periods, also of several calls together."""
         if self.keeper:
             raise RuntimeError('it is already acquired')
         end = ended_at(timeout, self.client.timeout)
         while time.monotonic() < end:
-            contender = Contender(Replica(self.client, self.prefix), self.prefix, self.period, self.patience)
+            contender = Contender(Replica(self.client, self.prefix), self.prefix, self.period, self.patience, self.waited)
             try:
                 contender.enter(left(end))
                 if won(contender, end):
-                    self.contender, self.keeper = contender, Keeper(contender)
+                    self.contender, self.keeper, self.waited = contender, Keeper(contender), None
                     self.keeper.start()
                     return contender.token
             except NotServed:
                 pass
             finally:
                 if not self.keeper:
+                    self.waited = contender
                     left_quietly(contender)
         raise TimedOut('it was not acquired in time')
 
@@ -304,6 +307,8 @@ class Tasks:
         self.swept = 0.0
         self.keeper: Keeper | None = None
         self.taken: Task | None = None
+        # The contender for the last task that wasn't taken.
+        self.waited: Contender | None = None
 
     def put(self, text: str, timeout: float | None = None) -> str:
         """Adds a task, and returns its ID. If it raises NotKnown the task may be in the queue."""
@@ -363,7 +368,9 @@ class Tasks:
 
     def claimed(self, task: str, end: float) -> Task | None:
         """Contends for a task until a free one is there. Returns it if it is taken."""
-        contender = Contender(self.replica, f'{self.prefix}claim/{task}/', self.period, self.patience)
+        prefix = f'{self.prefix}claim/{task}/'
+        before = self.waited if self.waited and self.waited.prefix == prefix else None
+        contender = Contender(self.replica, prefix, self.period, self.patience, before)
         try:
             contender.enter(left(end))
             while f'{self.prefix}task/{task}' in self.replica.map and not contender.is_lost and time.monotonic() < end:
@@ -376,6 +383,7 @@ class Tasks:
                     break
         finally:
             if not self.taken:
+                self.waited = contender
                 left_quietly(contender)
         return None
 
