@@ -26,16 +26,19 @@ use Rattle.quorum_model.specs.World.{Arrives, Client, Deliver, Envelope, Event, 
 use Rattle.quorum_stays.proofs.Bounds.{by_renewal, inside, leading, waits}
 use Rattle.quorum_stays.proofs.Onward.{here_left, list_left, one_state, other_left, unpack}
 use Rattle.quorum_stays.proofs.Timers.{same_kind_or}
-use Rattle.quorum_stays.proofs.Outcomes.{Begins, Fate, Outcome, client_row, message_row, messages_for_clients, propose_row}
+use Rattle.quorum_stays.proofs.Outcomes.{AsksAs, BringsNone, BringsRoute, NobodyAsks, Begins, Fate, Outcome, client_row, message_row, messages_for_clients, propose_row}
 use Rattle.quorum_stays.proofs.Peering.{PeonIn, replaced_other, replaced_peon}
 use Rattle.quorum_stays.proofs.Quiets.{stays_quiet}
 use Rattle.quorum_stays.proofs.Sending.{not_alone}
-use Rattle.quorum_stays.proofs.Serving.{Goes, Served, Turn, aside}
+use Rattle.quorum_stays.proofs.Serving.{Goes, Marking, Served, Turn, aside, messages_carry}
+use Rattle.quorum_stays.proofs.Sharing.{HandsOnNoneOf, Share, Shares, elsewhere}
+use Rattle.mon_wire.specs.declared.reply.Reply.{Reply}
+use Rattle.quorum_model.specs.Meets.{Arrival}
 use Rattle.quorum_stays.proofs.Stepping.{Did, brought, did, reacted, reacts, replied}
 use Rattle.quorum_stays.proofs.Taking.{taken_by, taken_from, taken_here}
-use Rattle.quorum_stays.proofs.Turns.{hands_on_none, turned}
-use Rattle.quorum_stays.specs.Reading.{ClocksGoOn, Reads}
-use Rattle.quorum_stays.specs.Serving.{IsForward, Writes}
+use Rattle.quorum_stays.proofs.Turns.{Ties, client_ties, hands_on_none, hands_on_own, marked, message_ties, shared, timer_ties, turned}
+use Rattle.quorum_stays.specs.Reading.{ClocksGoOn}
+use Rattle.quorum_stays.specs.Serving.{CarriesAnswer, IsForward, Writes}
 use Rattle.std.specs.List.{AllByRecursion}
 use Rattle.quorum_timed.proofs.Armed.{Timers}
 use Rattle.mon_msg.specs.declared.clients.Clients.{Clients}
@@ -146,6 +149,11 @@ module _ (ms : Monitors) (q : List Bool) (pace : Pace) (reign : Reign) (r : Roun
     pub course : Course
     pub taken : Option Origin
     pub taken_is : taken_by (member_of ms i here) t.world i state e ≡ taken
+    pub input : Plain
+    pub event_is : e ≡ Arrives input
+    pub coming : Arrival
+    pub arrives : arrival t.world input ≡ Some coming
+    pub rank_is : coming.rank ≡ i
     pub begins : Begins (member_of ms i here) (shared_entries (t.world.store i)) (u + pace.clock i) (readings_of (t.world.store i)) state taken course
     pub did_it : Did t.world next.world i course.state course.changes (messages_of course.out)
 
@@ -162,6 +170,9 @@ module _ (ms : Monitors) (q : List Bool) (pace : Pace) (reign : Reign) (r : Roun
     pub state_is : course.state ≡ record state { clients = clients; timers = timers }
     pub fate : Fate (member_of ms i here) (shared_entries (t.world.store i)) (u + pace.clock i) (readings_of (t.world.store i)) state taken clients timers course.out
     pub plain : AllByRecursion (λ (m : Envelope). IsForward m.message.body → ⊥) (messages_of course.out) ⊎ Writes e
+    pub marks : (f : ℕ) → Marking ms pace reign f taken state (record state { clients = clients; timers = timers })
+    pub routes : AllByRecursion (λ (m : Envelope). CarriesAnswer m.message.body) (messages_of course.out)
+    pub peons : (f : ℕ) → (f ≡ i → ⊥) → Shares ms reign t.world next.world e (messages_of course.out) f
     pub did_it : Did t.world next.world i course.state course.changes (messages_of course.out)
     pub event : ℕ
     pub store : Store
@@ -185,6 +196,9 @@ module _ (ms : Monitors) (q : List Bool) (pace : Pace) (reign : Reign) (r : Roun
           messages = E.messages;
           plain = A.plain;
           version = λ _. refl;
+          marks = λ f. subst (λ (z : Option Origin). Marking ms pace reign f z A.state (record (A.state) { clients = A.clients; timers = A.timers })) (sym A.taken_is) (A.marks f);
+          routes = A.routes;
+          peons = A.peons;
           turn = subst (λ (z : Option Origin). Turn ms pace reign u t.world next.world r r z A.state (record (A.state) { clients = A.clients; timers = A.timers }) (messages_of A.course.out)) (sym A.taken_is)
               (turned ms q pace reign r u soon quick room S.leads A.here sh w S.epoch A.state L t.world next.world A.event A.store A.taken A.clients A.timers A.course.out A.replied A.fate);
         }
@@ -192,9 +206,9 @@ module _ (ms : Monitors) (q : List Bool) (pace : Pace) (reign : Reign) (r : Roun
   module _ (u : ℕ) (later : t.time ≤ u) (soon : r.next ≡ None → u ≤ r.latest + 3000 + pace.late) (quick : pace.delay + pace.late < 2000) (room : ClocksGoOn q pace u)
       (next : Timed) (p : Plain) (went : Went ms q pace (at_time ms q pace u t) (Arrives p) t.under_way next)
       (i : ℕ) (qi : has q i ≡ true) (came : Input) (comes : arrival t.world p ≡ Some (record { rank = i; at = u + pace.clock i; input = came }))
-      (plain : (s : State) → state_at i (Some s) came ≡ Some s) (Asks : Type 0) (writes : Asks → Writes (Arrives p))
+      (plain : (s : State) → state_at i (Some s) came ≡ Some s) (Asks : Session → Type 0) (Brings : State → ℕ → Reply → Type 0) (ties : (s : State) → t.world.state i ≡ Some s → Ties ms reign t.world p i (readings_of (t.world.store i)) s Asks (Brings s))
       (row : (here : ltb i ms.count ≡ true) (m : Member i here) → Then (Outcome (member_of ms i here) (shared_entries (t.world.store i)) (u + pace.clock i) (readings_of (t.world.store i)) m.state
-      (taken_from (member_of ms i here) (readings_of (t.world.store i)) m.state came) Asks)
+      (taken_from (member_of ms i here) (readings_of (t.world.store i)) m.state came) Asks (Brings m.state))
       (react (member_of ms i here) (shared_entries (t.world.store i)) (u + pace.clock i) (readings_of (t.world.store i)) m.state came)) where
     abbrev at : ltb i ms.count ≡ true
     at = inside ms q pace reign r t S i qi
@@ -221,10 +235,10 @@ module _ (ms : Monitors) (q : List Bool) (pace : Pace) (reign : Reign) (r : Roun
     takes_is = taken_here (member_of ms i (inside ms q pace reign r t S i qi)) t.world i m1.state (arrival t.world p) _ comes refl
 
     abbrev Out : Type 0
-    Out = Outcome (member_of ms i (inside ms q pace reign r t S i qi)) (shared_entries (t.world.store i)) (u + pace.clock i) (readings_of (t.world.store i)) m1.state takes Asks Y.0
+    Out = Outcome (member_of ms i (inside ms q pace reign r t S i qi)) (shared_entries (t.world.store i)) (u + pace.clock i) (readings_of (t.world.store i)) m1.state takes Asks (Brings m1.state) Y.0
 
     outcome : Out
-    outcome = let z = subst (Then (Outcome (member_of ms i (inside ms q pace reign r t S i qi)) (shared_entries (t.world.store i)) (u + pace.clock i) (readings_of (t.world.store i)) m1.state takes Asks)) Y.1 (row (inside ms q pace reign r t S i qi) m1) in z.holds
+    outcome = let z = subst (Then (Outcome (member_of ms i (inside ms q pace reign r t S i qi)) (shared_entries (t.world.store i)) (u + pace.clock i) (readings_of (t.world.store i)) m1.state takes Asks (Brings m1.state))) Y.1 (row (inside ms q pace reign r t S i qi) m1) in z.holds
 
     pub turns : Goes ms q pace reign t.world u (Arrives p) r r next ⊎ BeginsAt reign.leader u (Arrives p) next
     turns = by outcome (cases_eq i reign.leader)
@@ -236,16 +250,69 @@ module _ (ms : Monitors) (q : List Bool) (pace : Pace) (reign : Reign) (r : Roun
             (subst (λ (z : State). Did t.world next.world i z Y.0.changes (messages_of Y.0.out)) Q.state D) in
             inl (stays_quiet ms q pace reign r t S next u later (Arrives p) went i m1.state Q.clients Q.timers Q.tidy (messages_of Y.0.out) m1.up E (messages_for_clients Y.0.out Q.about), served k)
           where
+            tie : Ties ms reign t.world p i (readings_of (t.world.store i)) m1.state Asks (Brings m1.state)
+            tie = ties m1.state m1.up
+
             plainly : AllByRecursion (λ (m : Envelope). IsForward m.message.body → ⊥) (messages_of Y.0.out) ⊎ Writes (Arrives p)
-            plainly = hands_on_none (member_of ms i (inside ms q pace reign r t S i qi)) (shared_entries (t.world.store i)) (u + pace.clock i) (readings_of (t.world.store i)) m1.state Asks (Writes (Arrives p)) Q.clients Y.0.out writes Q.hand
+            plainly = let T = tie in hands_on_none (member_of ms i (inside ms q pace reign r t S i qi)) (shared_entries (t.world.store i)) (u + pace.clock i) (readings_of (t.world.store i)) m1.state Asks (Brings m1.state) (Writes (Arrives p)) Q.clients Y.0.out T.writes Q.hand
+
+            only_own : (f : ℕ) → (f ≡ i → ⊥) → HandsOnNoneOf f (messages_of Y.0.out)
+            only_own = hands_on_own (member_of ms i (inside ms q pace reign r t S i qi)) (shared_entries (t.world.store i)) (u + pace.clock i) (readings_of (t.world.store i)) m1.state Asks (Brings m1.state) Q.clients Y.0.out Q.hand
+
+            elsewhere_it : (f : ℕ) → (f ≡ i → ⊥) → Shares ms reign t.world next.world (Arrives p) (messages_of Y.0.out) f
+            elsewhere_it f ne = elsewhere ms reign t.world next.world p _ comes i refl Y.0.state Y.0.changes (messages_of Y.0.out) D f ne (only_own f ne)
+
+            mine : (i ≡ reign.leader → ⊥) → Shares ms reign t.world next.world (Arrives p) (messages_of Y.0.out) i
+            mine ne z up =
+                let F = S.peons i qi ne in
+                let G : FollowsSince reign.leader q (leased r F.heard + pace.clock i) m1.state = subst (λ (o : Option State). IsSomeAnd o (FollowsSince reign.leader q (leased r F.heard + pace.clock i))) m1.up F.follows in
+                let same : m1.state ≡ z = one_state (t.world.state i) m1.state z m1.up up in
+                let h = shared ms reign i ne (inside ms q pace reign r t S i qi) (shared_entries (t.world.store i)) (u + pace.clock i) (readings_of (t.world.store i)) m1.state G.follows G.leader_is F.epoch Asks (Brings m1.state) t.world next.world p tie R.0 R.1 Q.clients Q.timers Y.0.out R.2 Q.hand in (
+                  record (m1.state) { clients = Q.clients; timers = Q.timers },
+                  D.up ∙ ap Some Q.state,
+                  subst (λ (y : State). Share ms reign t.world next.world (Arrives p) i y (record (m1.state) { clients = Q.clients; timers = Q.timers }) (messages_of Y.0.out)) same h,
+                )
 
             served : (i ≡ reign.leader) ⊎ (i ≡ reign.leader → ⊥) → Served ms pace reign (Arrives p) u t.world next.world r r
-            served (inl e) = quiet_leader u soon quick room (Arrives p) next (subst (λ (z : ℕ). QuietAt z u (Arrives p) next) e
-                (record { here = inside ms q pace reign r t S i qi; state = m1.state; up = m1.up; course = Y.0; taken = takes; taken_is = takes_is; clients = Q.clients; timers = Q.timers; state_is = Q.state; fate = Q.fate; plain = plainly; did_it = D; event = R.0; store = R.1; replied = R.2 }))
+            served (inl e) = quiet_leader u soon quick room (Arrives p) next (subst (λ (z : ℕ). QuietAt z u (Arrives p) next) e (record {
+              here = inside ms q pace reign r t S i qi;
+              state = m1.state;
+              up = m1.up;
+              course = Y.0;
+              taken = takes;
+              taken_is = takes_is;
+              clients = Q.clients;
+              timers = Q.timers;
+              state_is = Q.state;
+              fate = Q.fate;
+              plain = plainly;
+              marks = marked (member_of ms i (inside ms q pace reign r t S i qi)) (shared_entries (t.world.store i)) (u + pace.clock i) (readings_of (t.world.store i)) m1.state ms pace reign takes Q.clients Q.timers Q.marks;
+              routes = messages_carry Y.0.out Q.routes;
+              peons = elsewhere_it;
+              did_it = D;
+              event = R.0;
+              store = R.1;
+              replied = R.2;
+            }))
             served (inr ne) =
                 let l = leading ms q pace reign r t S in
                 aside ms pace reign (inside ms q pace reign r t S reign.leader S.leads) r u t.world next.world p _ comes l.0 l.1 i refl ne Y.0.state Y.0.changes (messages_of Y.0.out) D plainly
-        by (inr B) (inl e) = inr (subst (λ (z : ℕ). BeginsAt z u (Arrives p) next) e (record { here = inside ms q pace reign r t S i qi; state = m1.state; up = m1.up; course = Y.0; taken = takes; taken_is = takes_is; begins = B; did_it = D }))
+                only_own (messages_carry Y.0.out Q.routes) (mine ne)
+        by (inr B) (inl e) = inr (subst (λ (z : ℕ). BeginsAt z u (Arrives p) next) e (record {
+          here = inside ms q pace reign r t S i qi;
+          state = m1.state;
+          up = m1.up;
+          course = Y.0;
+          taken = takes;
+          taken_is = takes_is;
+          input = p;
+          event_is = refl;
+          coming = record { rank = i; at = u + pace.clock i; input = came };
+          arrives = comes;
+          rank_is = refl;
+          begins = B;
+          did_it = D;
+        }))
         by (inr B) (inr ne) = absurd (false≢true (sym (m1.peon ne) ∙ B.active))
 
   -- ---- a message about a client's command is taken
@@ -340,9 +407,13 @@ module _ (ms : Monitors) (q : List Bool) (pace : Pace) (reign : Reign) where
         let left = without_first f i others t.under_way in
         let went2 = moved (without_first f i others t.under_way) (Arrives (Deliver o.number (u + pace.clock i))) went in
         resolved (without_first f i others t.under_way) T _ went2
-        (turns ms q pace reign r (record t { under_way = without_first f i others t.under_way }) T u M.later soon quick room next (Deliver o.number (u + pace.clock i)) went2 i qi (input.Deliver c.envelope.message) comes (λ s. refl) ⊥ (λ k. absurd k)
+        (turns ms q pace reign r (record t { under_way = without_first f i others t.under_way }) T u M.later soon quick room next (Deliver o.number (u + pace.clock i)) went2 i qi (input.Deliver c.envelope.message) comes (λ s. refl) NobodyAsks (λ s. BringsRoute (member_of ms i at) (readings_of (t.world.store i)) s c.envelope.message c.envelope.message.body)
+        (λ s _. message_ties ms reign t.world i (u + pace.clock i) at (readings_of (t.world.store i)) s o.number c.envelope c.there)
         (λ here m. message_row (member_of ms i here) (shared_entries (t.world.store i)) (u + pace.clock i) (readings_of (t.world.store i)) m.state m.several m.awake c.envelope.message c.command))
       where
+        at : ltb i ms.count ≡ true
+        at = inside ms q pace reign r t S i qi
+
         comes : option_map (brought (u + pace.clock i)) (message_at t.world.messages o.number)
             ≡ Some (record { rank = i; at = u + pace.clock i; input = input.Deliver c.envelope.message })
         comes = ap (option_map (brought (u + pace.clock i))) c.there
@@ -391,7 +462,8 @@ module _ (ms : Monitors) (q : List Bool) (pace : Pace) (reign : Reign) where
     -- the timer of commands that wait
     proposes : (i : ℕ) → has q i ≡ true → Went ms q pace (at_time ms q pace u t) (Arrives (Ring i timer.Propose (u + pace.clock i))) t.under_way next → Stays t.world u (Arrives (Ring i timer.Propose (u + pace.clock i))) r next
     proposes i qi went = resolved t.under_way S _ went
-        (turns ms q pace reign r t S u M.later soon quick room next (Ring i timer.Propose (u + pace.clock i)) went i qi (input.Timer timer.Propose) refl (λ s. refl) ⊥ (λ k. absurd k)
+        (turns ms q pace reign r t S u M.later soon quick room next (Ring i timer.Propose (u + pace.clock i)) went i qi (input.Timer timer.Propose) refl (λ s. refl) NobodyAsks (λ s. BringsNone)
+        (λ s _. timer_ties ms reign t.world i (u + pace.clock i) (inside ms q pace reign r t S i qi) (readings_of (t.world.store i)) s timer.Propose)
         (λ here m. propose_row (member_of ms i here) (shared_entries (t.world.store i)) (u + pace.clock i) (readings_of (t.world.store i)) m.state m.several m.awake))
 
     fires : (i : ℕ) → has q i ≡ true → (s : State) → t.world.state i ≡ Some s → (kind : Timer) (end : ℕ) → end_of kind s.timers ≡ Some end → end ≤ u + pace.clock i
@@ -414,7 +486,8 @@ module _ (ms : Monitors) (q : List Bool) (pace : Pace) (reign : Reign) where
 
     asks : (i : ℕ) → has q i ≡ true → (session : Session) (request : Request) → Went ms q pace (at_time ms q pace u t) (Arrives (Client i (u + pace.clock i) session request)) t.under_way next → Stays t.world u (Arrives (Client i (u + pace.clock i) session request)) r next
     asks i qi session request went = resolved t.under_way S _ went
-        (turns ms q pace reign r t S u M.later soon quick room next (Client i (u + pace.clock i) session request) went i qi (input.Client session request) refl (λ s. refl) (Reads request → ⊥) (λ k. k)
+        (turns ms q pace reign r t S u M.later soon quick room next (Client i (u + pace.clock i) session request) went i qi (input.Client session request) refl (λ s. refl) (AsksAs session request) (λ s. BringsNone)
+        (λ s _. client_ties ms reign t.world i (u + pace.clock i) (inside ms q pace reign r t S i qi) (readings_of (t.world.store i)) s session request)
         (λ here m. client_row (member_of ms i here) (shared_entries (t.world.store i)) (u + pace.clock i) (readings_of (t.world.store i)) m.state m.several m.awake session request))
 
     pub handled : (e : Event) → Comes ms q pace tu next e → Stays t.world u e r next

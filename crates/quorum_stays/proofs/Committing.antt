@@ -24,14 +24,16 @@ use Rattle.quorum_model.specs.Monitors.{Monitors}
 use Rattle.quorum_model.specs.World.{Arrives, Deliver, Envelope}
 use Rattle.quorum_stays.proofs.Bounds.{few, leading, until}
 use Rattle.quorum_stays.proofs.Carrying.{Gives, gives_append, gives_none}
-use Rattle.quorum_stays.proofs.Giving.{each_hands_on_none, gives_apart, gives_each, gives_no_leader, to_all}
+use Rattle.quorum_stays.proofs.Giving.{each_carries, each_hands_on_none, gives_apart, gives_each, gives_no_leader, to_all}
 use Rattle.quorum_stays.proofs.Leaders.{accept_body, busy, comes, lt, proposes_busy, took, up_busy}
 use Rattle.quorum_stays.proofs.Onward.{lands, other_left, pack}
-use Rattle.quorum_stays.proofs.Outcomes.{ForAClient, HandsOnNone, an_answer, an_answer_hands_on_none, messages_for_clients}
+use Rattle.quorum_stays.proofs.Outcomes.{ForAClient, HandsOnNone, RoutesAnswer, an_answer, an_answer_hands_on_none, an_answer_is_routed, messages_for_clients}
 use Rattle.quorum_stays.proofs.Peering.{PeonIn}
 use Rattle.quorum_stays.proofs.Rows.{commits, last_accept_row}
 use Rattle.quorum_stays.proofs.Sending.{each}
-use Rattle.quorum_stays.proofs.Serving.{Answers, Committed, Goes, answered, messages_hand_on_none}
+use Rattle.quorum_stays.proofs.Serving.{Answers, Committed, Goes, answered, messages_carry, messages_hand_on_none}
+use Rattle.quorum_stays.proofs.Sharing.{elsewhere, none_of}
+use Rattle.quorum_model.specs.Meets.{arrival}
 use Rattle.quorum_stays.proofs.States.{bare_committing, extends}
 use Rattle.quorum_stays.proofs.Stepping.{Did, did, replied}
 use Rattle.quorum_stays.proofs.Stores.{learned_epoch}
@@ -39,7 +41,7 @@ use Rattle.quorum_stays.proofs.Taking.{no_forward, taken_nowhere}
 use Rattle.quorum_stays.proofs.Timers.{all_extended, armed_if_any, extended_timers}
 use Rattle.quorum_stays.proofs.Turning.{other_state, other_store, same_carried}
 use Rattle.quorum_stays.specs.Reading.{ClocksGoOn}
-use Rattle.quorum_stays.specs.Serving.{IsForward, is_done}
+use Rattle.quorum_stays.specs.Serving.{CarriesAnswer, IsAnswer, IsForward, is_done}
 use Rattle.quorum_stays.specs.Steady.{AreApart, Begun, Carries, FollowsSince, HasLease, IsItem, IsOfClients, Item, Keeps, LeadsSince, Noted, Proposes, Reign, Round, Steady, item, in_reign, leased, said, to_leader, to_peon}
 use Rattle.quorum_timed.specs.Begins.{IsQuick}
 use Rattle.quorum_timed.specs.Timed.{MayBe, Owed, Pace, Timed, Went, at_time, without_first}
@@ -54,6 +56,10 @@ use Rattle.std.specs.Prelude.{IsSomeAnd}
 maybe_answer : (me : Me) (e : ℕ) (o : Option Origin) (r : Reply) → AllByRecursion ForAClient (answers_to me e o r)
 maybe_answer me e None r = tt
 maybe_answer me e (Some o) r = an_answer me e o r
+
+maybe_carries : (me : Me) (e : ℕ) (o : Option Origin) (r : Reply) → IsAnswer r → AllByRecursion RoutesAnswer (answers_to me e o r)
+maybe_carries me e None r k = tt
+maybe_carries me e (Some o) r k = an_answer_is_routed me e o r k
 
 maybe_none : (me : Me) (e : ℕ) (o : Option Origin) (r : Reply) → AllByRecursion HandsOnNone (answers_to me e o r)
 maybe_none me e None r = tt
@@ -271,6 +277,19 @@ module _ (ms : Monitors) (q : List Bool) (pace : Pace) (reign : Reign) (K : IsQu
         (each_hands_on_none me reign.epoch _ (λ k. k) (members me q)) (each_hands_on_none me reign.epoch _ (λ k. k) (members me q)))
         (messages_hand_on_none _ (maybe_none me reign.epoch s.leader.origin (reply.Done (suc r0.version)))))
 
+    routed : AllByRecursion (λ (m : Envelope). CarriesAnswer m.message.body) (messages_of y.out)
+    routed = subst (AllByRecursion (λ (m : Envelope). CarriesAnswer m.message.body)) (sym sent_is)
+        (all_append (λ (m : Envelope). CarriesAnswer m.message.body) (to_all ms q reign here (body.Commit (suc r0.version) (b.value ∷ [])) ++ to_all ms q reign here (body.Lease (suc r0.version))) _
+        (all_append (λ (m : Envelope). CarriesAnswer m.message.body) (to_all ms q reign here (body.Commit (suc r0.version) (b.value ∷ []))) (to_all ms q reign here (body.Lease (suc r0.version)))
+        (each_carries me reign.epoch _ tt (members me q)) (each_carries me reign.epoch _ tt (members me q)))
+        (messages_carry _ (maybe_carries me reign.epoch s.leader.origin (reply.Done (suc r0.version)) (is_done (suc r0.version)))))
+
+    arrives : arrival t.world (Deliver o.number at) ≡ Some (record { rank = reign.leader; at = at; input = input.Deliver (in_reign ms reign f reign.leader (body.Accept reign.pn (suc v.last))).message })
+    arrives = comes ms q pace reign r t S u later next f qf nf F o others x rest it C went _ (accept_body ms q pace reign r0 b t S u later next f qf nf F o others x rest it C went one all is list)
+
+    E2 : Did t.world next.world reign.leader y.state (Learn (suc v.last) b.value ∷ Last (suc v.last) ∷ []) (messages_of y.out)
+    E2 = subst (Did t.world next.world reign.leader y.state (Learn (suc v.last) b.value ∷ Last (suc v.last) ∷ [])) (sym sent_is) D
+
     pub commits_all : Goes ms q pace reign t.world u (Arrives (Deliver o.number (u + pace.clock reign.leader))) (record r0 { next = Some b }) (record { version = suc r0.version; value = b.value; committed = u; latest = u; before = r0.latest; next = None }) next
     commits_all =
         let P2 = P in
@@ -289,6 +308,9 @@ module _ (ms : Monitors) (q : List Bool) (pace : Pace) (reign : Reign) (K : IsQu
             messages = D.messages ∙ ap (λ (z : List Envelope). t.world.messages ++ z) (sym sent_is);
             plain = inl plainly;
             version = λ none. absurd (some_value none);
+            marks = λ f. inl refl;
+            routes = routed;
+            peons = λ f nf. elsewhere ms reign t.world next.world (Deliver o.number at) _ arrives reign.leader refl y.state _ (messages_of y.out) E2 f nf (none_of f (messages_of y.out) plainly);
             turn = Committed b
                 (taken_nowhere me t.world reign.leader proposing1 _ _ (comes ms q pace reign r t S u later next f qf nf F o others x rest it C went _ (accept_body ms q pace reign r0 b t S u later next f qf nf F o others x rest it C went one all is list))
                 (no_forward me v proposing1 message (λ k. k)))

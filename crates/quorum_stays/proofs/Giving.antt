@@ -25,21 +25,23 @@ use Rattle.mon_wire.specs.declared.phase.Timer.TheVariants as timer
 use Rattle.quorum_model.proofs.Members.{member_of}
 use Rattle.quorum_model.specs.Clients.{messages_of}
 use Rattle.quorum_model.specs.Monitors.{Monitors}
-use Rattle.quorum_model.specs.World.{Arrives, Envelope, Event, Ring}
+use Rattle.quorum_model.specs.World.{Arrives, Envelope, Event, Plain, Ring}
 use Rattle.quorum_stays.proofs.Bounds.{by_ack, by_lease, by_renewal, few, inside}
 use Rattle.quorum_stays.proofs.Carrying.{Gives, gives_other}
 use Rattle.quorum_stays.proofs.Onward.{lands, pack, unpack}
 use Rattle.quorum_stays.proofs.Peering.{PeonIn}
 use Rattle.quorum_stays.proofs.Rows.{renew_row}
 use Rattle.quorum_stays.proofs.Sending.{each, each_from, to_member, to_none}
-use Rattle.quorum_stays.proofs.Serving.{Began, Goes, Renewed, Turn}
+use Rattle.quorum_stays.proofs.Serving.{Began, Goes, Marking, Renewed, Turn}
+use Rattle.quorum_stays.proofs.Sharing.{Shares, elsewhere, none_of}
+use Rattle.quorum_model.specs.Meets.{Arrival, arrival}
 use Rattle.quorum_stays.proofs.States.{bare_renewing, begun, extends}
 use Rattle.quorum_stays.proofs.Stepping.{Did, did}
 use Rattle.quorum_stays.proofs.Taking.{taken_by, taken_nowhere}
 use Rattle.quorum_stays.proofs.Timers.{Tidy, all_extended, armed_if_any, disarmed_size, extended_timers, maybe_armed}
 use Rattle.quorum_stays.proofs.Turning.{other_state, other_store, same_carried}
 use Rattle.quorum_stays.specs.Reading.{ClocksGoOn}
-use Rattle.quorum_stays.specs.Serving.{IsForward}
+use Rattle.quorum_stays.specs.Serving.{CarriesAnswer, IsForward}
 use Rattle.quorum_stays.specs.Steady.{AllIn, AreApart, Begun, Carries, FollowsSince, HasLease, IsOfCommand, Item, Keeps, LeadsSince, LeasedSince, Noted, Proposes, Reign, Round, Steady, item, leased, said, to_leader, to_peon}
 use Rattle.quorum_timed.proofs.Armed.{Timers}
 use Rattle.quorum_timed.specs.Begins.{IsQuick}
@@ -74,6 +76,10 @@ leased_next r a b (suc (suc h)) = refl
 pub each_hands_on_none : (me : Me) (e : ℕ) (b : Body) → (IsForward b → ⊥) → (ks : List ℕ) → AllByRecursion (λ (m : Envelope). IsForward m.message.body → ⊥) (each me e b ks)
 each_hands_on_none me e b nil [] = tt
 each_hands_on_none me e b nil (k ∷ ks) = (nil, each_hands_on_none me e b nil ks)
+
+pub each_carries : (me : Me) (e : ℕ) (b : Body) → CarriesAnswer b → (ks : List ℕ) → AllByRecursion (λ (m : Envelope). CarriesAnswer m.message.body) (each me e b ks)
+each_carries me e b k [] = tt
+each_carries me e b k (j ∷ ks) = (k, each_carries me e b k ks)
 
 -- what one body to each member gives
 module _ (ms : Monitors) (q : List Bool) (reign : Reign) (here : ltb reign.leader ms.count ≡ true) (b : Body) where
@@ -233,8 +239,9 @@ module _ (ms : Monitors) (q : List Bool) (pace : Pace) (reign : Reign) (r : Roun
 
     pub value_begins : (taken : Option Origin) → taken_by (member_of ms reign.leader here) t.world reign.leader s e ≡ taken
         → ((taken ≡ Some from) × (s.clients.queue ≡ []) × (clients.queue ≡ [])) ⊎ ((one : Waiting) × (taken ≡ None) × (s.clients.queue ≡ one ∷ clients.queue) × (one.origin ≡ from))
+        → (p : Plain) → e ≡ Arrives p → (a : Arrival) → arrival t.world p ≡ Some a → a.rank ≡ reign.leader → ((f : ℕ) → Marking ms pace reign f taken s (record s { clients = clients; timers = ts }))
         → Goes ms q pace reign t.world u e (record r { next = None }) (record r { next = Some (record { value = x; at = u }) }) next
-    value_begins taken taken_is start = (
+    value_begins taken taken_is start p is a comes rank marks = (
       begin_stays,
       record {
         here = here;
@@ -246,6 +253,10 @@ module _ (ms : Monitors) (q : List Bool) (pace : Pace) (reign : Reign) (r : Roun
         messages = D.messages;
         plain = inl (each_hands_on_none me reign.epoch (body.Begin reign.pn (suc r.version) x) (λ k. k) (members me q));
         version = λ _. refl;
+        marks = λ f. subst (λ (z : Option Origin). Marking ms pace reign f z s after) (sym taken_is) (marks f);
+        routes = each_carries me reign.epoch (body.Begin reign.pn (suc r.version) x) tt (members me q);
+        peons = λ f nf. subst (λ (z : Event). Shares ms reign t.world next.world z es f) (sym is)
+            (elsewhere ms reign t.world next.world p a comes reign.leader rank after (Vote (suc w.last) s.leader.pn x ∷ []) es D f nf (none_of f es (each_hands_on_none me reign.epoch (body.Begin reign.pn (suc r.version) x) (λ k. k) (members me q))));
         turn = subst (λ (z : Option Origin). Turn ms pace reign u t.world next.world calm new z s after es) (sym taken_is) (Began from (record { value = x; at = u }) refl refl refl refl start);
       },
     )
@@ -400,6 +411,10 @@ module _ (ms : Monitors) (q : List Bool) (pace : Pace) (reign : Reign) (K : IsQu
       messages = E.messages;
       plain = inl (each_hands_on_none me2 reign.epoch (body.Lease r.version) (λ k. k) (members me2 q));
       version = λ _. refl;
+      marks = λ f. inl refl;
+      routes = each_carries me2 reign.epoch (body.Lease r.version) tt (members me2 q);
+      peons = λ f nf. elsewhere ms reign t.world next.world (Ring reign.leader timer.Renew (u + pace.clock reign.leader)) (record { rank = reign.leader; at = u + pace.clock reign.leader; input = input.Timer timer.Renew }) refl reign.leader refl after2 [] es2 E f nf
+          (none_of f es2 (each_hands_on_none me2 reign.epoch (body.Lease r.version) (λ k. k) (members me2 q)));
       turn = Renewed (taken_nowhere me2 t.world reign.leader s _ (record { rank = reign.leader; at = u + pace.clock reign.leader; input = input.Timer timer.Renew }) refl refl) refl refl refl refl late
           (armed_if_any s.clients.queue now2 (extended_timers now2 (is_empty (members me2 s.leader.quorum)) bare) all_extended_size (room reign.leader S.leads));
     },

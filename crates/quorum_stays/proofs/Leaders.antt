@@ -97,10 +97,10 @@ module _ (ms : Monitors) (q : List Bool) (pace : Pace) (reign : Reign) (r : Roun
     noted_on j taken go k = on_state ms q pace reign t next u later _ left went reign.leader s after [] [] up D (Noted j taken r.next) (Noted j taken r.next) reign.leader (λ _ z. go z) (λ ne z k. absurd (ne refl)) k
 
     -- nothing became of the commands that wait
-    pub calmly : (IsForward x.body → ⊥) → after.clients.queue ≡ s.clients.queue → after.leader.origin ≡ s.leader.origin → (r.next ≡ None → end_of timer.Propose after.timers ≡ end_of timer.Propose s.timers)
+    pub calmly : (IsForward x.body → ⊥) → after.clients ≡ s.clients → after.leader.origin ≡ s.leader.origin → (r.next ≡ None → end_of timer.Propose after.timers ≡ end_of timer.Propose s.timers)
         → Served ms pace reign (Arrives (Deliver o.number (u + pace.clock reign.leader))) u t.world next.world r r
-    calmly none queue same ends = undisturbed ms pace reign lt r u t.world next.world (Deliver o.number (u + pace.clock reign.leader)) _ (comes x.body refl) s up
-        (no_forward (member_of ms reign.leader lt) (readings_of (t.world.store reign.leader)) s (in_reign ms reign f reign.leader x.body).message none) after D queue same ends
+    calmly none clients same ends = undisturbed ms pace reign lt r u t.world next.world (Deliver o.number (u + pace.clock reign.leader)) _ (comes x.body refl) s up refl
+        (no_forward (member_of ms reign.leader lt) (readings_of (t.world.store reign.leader)) s (in_reign ms reign f reign.leader x.body).message none) after D clients same ends
 
     pub answered : (more : ℕ) → more ≤ said F.heard → Noted f more r.next after → rest ≡ drop more (take (said F.heard) (to_leader reign pace r))
         → ((j taken : ℕ) → (j ≡ f → ⊥) → Noted j taken r.next s → Noted j taken r.next after) → Leads ms.count q pace reign r r.next after → Steady ms q pace reign r next

@@ -3,6 +3,8 @@ pub mod Bounds
 pub mod Carrying
 pub mod Coming
 pub mod Committing
+pub mod Counting
+pub mod Forwarding
 pub mod Giving
 pub mod Growing
 pub mod Leaders
@@ -17,10 +19,12 @@ pub mod Peering
 pub mod Peons
 pub mod Quiets
 pub mod Resting
+pub mod Riding
 pub mod Rows
 pub mod Sending
 pub mod Serves
 pub mod Serving
+pub mod Sharing
 pub mod States
 pub mod Staying
 pub mod Stepping

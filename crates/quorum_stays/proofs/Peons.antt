@@ -15,16 +15,18 @@ use Rattle.quorum_model.specs.Monitors.{Monitors}
 use Rattle.quorum_model.specs.World.{Arrives, Deliver, Envelope}
 use Rattle.quorum_stays.proofs.Bounds.{by_lease, first_of, inside, leading}
 use Rattle.quorum_stays.proofs.Carrying.{Gives}
-use Rattle.quorum_stays.proofs.Onward.{here_left, lands, other_left, pack, unpack}
+use Rattle.quorum_stays.proofs.Onward.{here_left, lands, one_state, other_left, pack, unpack}
 use Rattle.quorum_stays.proofs.Peering.{PeonIn, one_peon}
 use Rattle.quorum_stays.proofs.Rows.{begin_row, commit_row, lease_row}
+use Rattle.mon_msg.specs.declared.clients.Clients.{Clients}
 use Rattle.quorum_stays.proofs.Serving.{Goes, aside}
+use Rattle.quorum_stays.proofs.Sharing.{IsRoute, Shares, Untouched, no_route_there, none_of}
 use Rattle.quorum_stays.proofs.States.{begun_follows, leased_follows}
 use Rattle.quorum_stays.proofs.Stepping.{Did, brought, did}
 use Rattle.quorum_stays.proofs.Stores.{learned_epoch, learned_pending, learned_promise, settled}
 use Rattle.quorum_stays.proofs.Turning.{other_state, other_store, same_carried}
 use Rattle.quorum_stays.specs.Reading.{ClocksGoOn}
-use Rattle.quorum_stays.specs.Serving.{IsForward}
+use Rattle.quorum_stays.specs.Serving.{CarriesAnswer, IsForward}
 use Rattle.quorum_stays.specs.Steady.{Begun, Carries, FollowsSince, HasLease, IsItem, Item, Keeps, Leads, Noted, Reign, Round, Steady, in_reign, leased, said, to_leader, to_peon}
 use Rattle.quorum_timed.specs.Begins.{IsQuick}
 use Rattle.quorum_timed.specs.Timed.{MayBe, Owed, Pace, Timed, Went, at_time, without_first}
@@ -119,16 +121,26 @@ module _ (ms : Monitors) (q : List Bool) (pace : Pace) (reign : Reign) (K : IsQu
         (other_state ms q pace reign t next u later _ left went i s after cs es P.1 D (Leads ms.count q pace reign r r.next) reign.leader not_leader S.lead)
         (λ j ne taken k. noted_on j taken k) (λ f j _ b. gives f j b)
 
+    -- no session comes or goes
+    shares : (IsRoute x.body → ⊥) → after.clients ≡ s.clients → AllByRecursion (λ (m : Envelope). IsForward m.message.body → ⊥) es → Shares ms reign t.world next.world (Arrives (Deliver o.number (u + pace.clock i))) es i
+    shares other clients none z up =
+        let same : s ≡ z = one_state (t.world.state i) s z P.1 up in
+        let all : after.clients ≡ z.clients = clients ∙ ap (λ (y : State). y.clients) same in
+        (after, D.up, Untouched (λ _ k. k) (no_route_there ms reign (message_at t.world.messages o.number) reign.leader i x.body other it.there) (ap (λ (c : Clients). c.sessions) all) (ap (λ (c : Clients). c.next_seq) all) (none_of i es none))
+
     done : PeonIn ms q pace reign r next i next.under_way → ((f j : ℕ) → (f ≡ i → j ≡ reign.leader → ⊥) → Gives ms reign f j [] es) → AllByRecursion (λ (m : Envelope). IsForward m.message.body → ⊥) es
-        → Goes ms q pace reign t.world u (Arrives (Deliver o.number (u + pace.clock i))) r r next
-    done G gives none =
-        let l = leading ms q pace reign r t S in
-        (stays G gives, aside ms pace reign (inside ms q pace reign r t S reign.leader S.leads) r u t.world next.world (Deliver o.number (u + pace.clock i)) _ (comes x.body refl) l.0 l.1 i refl ni after cs es D (inl none))
+        → AllByRecursion (λ (m : Envelope). CarriesAnswer m.message.body) es → (IsRoute x.body → ⊥) → after.clients ≡ s.clients → Goes ms q pace reign t.world u (Arrives (Deliver o.number (u + pace.clock i))) r r next
+    done G gives none routes other clients =
+        let l = leading ms q pace reign r t S in (
+          stays G gives,
+          aside ms pace reign (inside ms q pace reign r t S reign.leader S.leads) r u t.world next.world (Deliver o.number (u + pace.clock i)) _ (comes x.body refl) l.0 l.1 i refl ni after cs es D (inl none)
+              (λ f _. none_of f es none) routes (shares other clients none),
+        )
 
   -- ---- a COMMIT
 
   pub commit_comes : F.heard ≡ zero → Goes ms q pace reign t.world u (Arrives (Deliver o.number (u + pace.clock i))) r r next
-  commit_comes is = done s (Learn (suc w.last) r.value ∷ Last (suc w.last) ∷ []) [] D new (λ f j ne. refl) tt
+  commit_comes is = done s (Learn (suc w.last) r.value ∷ Last (suc w.last) ∷ []) [] D new (λ f j ne. refl) tt tt (subst (λ (b : Body). IsRoute b → ⊥) (sym body_is) (λ k. k)) refl
     where
       k : Keeps r zero w
       k = keeps_at zero is
@@ -166,7 +178,7 @@ module _ (ms : Monitors) (q : List Bool) (pace : Pace) (reign : Reign) (K : IsQu
   -- ---- a LEASE
 
   pub lease_comes : F.heard ≡ suc zero → Goes ms q pace reign t.world u (Arrives (Deliver o.number (u + pace.clock i))) r r next
-  lease_comes is = done after [] (reply ∷ []) D new (λ f j ne. gives_elsewhere ms reign i reign.leader (body.LeaseAck r.version) f j ne) ((λ k. k), tt)
+  lease_comes is = done after [] (reply ∷ []) D new (λ f j ne. gives_elsewhere ms reign i reign.leader (body.LeaseAck r.version) f j ne) ((λ k. k), tt) (tt, tt) (subst (λ (b : Body). IsRoute b → ⊥) (sym body_is) (λ k. k)) refl
     where
       k : Keeps r (suc zero) w
       k = keeps_at (suc zero) is
@@ -241,7 +253,7 @@ module _ (ms : Monitors) (q : List Bool) (pace : Pace) (reign : Reign) (K : IsQu
 
   pub begin_comes : F.heard ≡ suc (suc zero) → Goes ms q pace reign t.world u (Arrives (Deliver o.number (u + pace.clock i))) (record r0 { next = Some b }) (record r0 { next = Some b }) next
   begin_comes is = done ms q pace reign K r t S u M room next i qi ni F o others x rest items it C went after (Vote (suc v.last) (promise_of v) b.value ∷ []) (in_reign ms reign i reign.leader (body.Accept reign.pn (suc r0.version)) ∷ []) D new
-      (λ f j ne. gives_elsewhere ms reign i reign.leader (body.Accept reign.pn (suc r0.version)) f j ne) ((λ k. k), tt)
+      (λ f j ne. gives_elsewhere ms reign i reign.leader (body.Accept reign.pn (suc r0.version)) f j ne) ((λ k. k), tt) (tt, tt) (subst (λ (b : Body). IsRoute b → ⊥) (sym body_is) (λ k. k)) refl
     where
       after : State
       after = record (Q.0) { peon = record (Q.0.peon) { lease = None } }

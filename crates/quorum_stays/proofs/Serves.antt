@@ -172,25 +172,16 @@ module _ (ms : Monitors) (q : List Bool) (pace : Pace) (reign : Reign) (K : IsQu
   taken_command w me s session (request.Show service) k t = absurd (k tt)
   taken_command w me s session (request.Since service version) k t = absurd (k tt)
 
-  module _ (r : Round) (t : Timed) (S : Steady ms q pace reign r t) (A : Attends pace reign r t) (u : ℕ) (M : MayBe ms q pace t u) (later : Round) (next : Timed) (session : Session) (x : Request) (command : Reads x → ⊥)
-      (V : Served ms pace reign (Arrives (Client reign.leader (u + pace.clock reign.leader) session x)) u t.world next.world r later) where
+  module _ (r : Round) (t : Timed) (S : Steady ms q pace reign r t) (A : Attends pace reign r t) (u : ℕ) (M : MayBe ms q pace t u) (later : Round) (next : Timed) (e : Event)
+      (V : Served ms pace reign e u t.world next.world r later) (asker : Origin) (takes : taken_by (member_of ms reign.leader V.here) t.world reign.leader V.was e ≡ Some asker) where
     abbrev me : Me
     me = member_of ms reign.leader V.here
 
-    abbrev event : Event
-    event = Arrives (Client reign.leader (u + pace.clock reign.leader) session x)
+    wrong : {B : Type 0} → taken_by me t.world reign.leader V.was e ≡ None → B
+    wrong nil = neither (taken_by me t.world reign.leader V.was e) asker nil takes
 
-    takes : taken_by me t.world reign.leader V.was event ≡ Some (origin.Session session)
-    takes =
-        let L = subst (λ (o : Option State). IsSomeAnd o (Leads ms.count q pace reign r r.next)) V.up S.lead in
-        taken_here me t.world reign.leader V.was _ (record { rank = reign.leader; at = u + pace.clock reign.leader; input = input.Client session x }) refl refl
-        ∙ taken_command (readings_of (t.world.store reign.leader)) me V.was session x command (leads_phase r r.next V.was L)
-
-    wrong : {B : Type 0} → taken_by me t.world reign.leader V.was event ≡ None → B
-    wrong nil = neither (taken_by me t.world reign.leader V.was event) (origin.Session session) nil takes
-
-    mine : (o : Origin) → taken_by me t.world reign.leader V.was event ≡ Some o → o ≡ origin.Session session
-    mine o took = let same : Some o ≡ Some (origin.Session session) = sym took ∙ takes in cc
+    mine : (o : Origin) → taken_by me t.world reign.leader V.was e ≡ Some o → o ≡ asker
+    mine o took = let same : Some o ≡ Some asker = sym took ∙ takes in cc
 
     -- it is the last one that waits
     last_in_queue : (one : Waiting) → V.is.clients.queue ≡ V.was.clients.queue ++ one ∷ [] → length V.was.clients.queue < 64 → (r.next ≡ None → V.was.clients.queue ≡ [] → ⊥) → Rests ms pace reign r later V.was V.is
@@ -220,11 +211,11 @@ module _ (ms : Monitors) (q : List Bool) (pace : Pace) (reign : Reign) (K : IsQu
         let c : b.at ≤ t.time = subst (λ (z : Option Begun). IfSome z (λ b. b.at ≤ t.time)) is A.begun in
         inr (b, R.next ∙ is, omega arith)
 
-    pub asked : Awaits ms q pace reign (u + answer_time pace) (origin.Session session) later V.is ⊎ IsServed t.world next.world reign.leader session
+    pub asked : Awaits ms q pace reign (u + answer_time pace) asker later V.is ⊎ Answers ms reign t.world next.world V.es asker
     asked = by V.turn
       where
-        by : Turn ms pace reign u t.world next.world r later (taken_by (member_of ms reign.leader V.here) t.world reign.leader V.was (Arrives (Client reign.leader (u + pace.clock reign.leader) session x))) V.was V.is V.es
-            → Awaits ms q pace reign (u + answer_time pace) (origin.Session session) later V.is ⊎ IsServed t.world next.world reign.leader session
+        by : Turn ms pace reign u t.world next.world r later (taken_by (member_of ms reign.leader V.here) t.world reign.leader V.was e) V.was V.is V.es
+            → Awaits ms q pace reign (u + answer_time pace) asker later V.is ⊎ Answers ms reign t.world next.world V.es asker
         by (Kept nil queue R) = wrong nil
         by (Answered o took answers queue R) = inr (subst (Answers ms reign t.world next.world V.es) (mine o took) answers)
         by (Queued one took queue few some R) = inl (InQueue V.was.clients.queue [] one queue (mine one.origin took) (last_in_queue one queue few some R r.next refl))
@@ -233,6 +224,13 @@ module _ (ms : Monitors) (q : List Bool) (pace : Pace) (reign : Reign) (K : IsQu
         by (Began from b old new at whose (inl h)) = inl (InProgress b new (whose ∙ ap Some (mine from h.0)) (omega arith))
         by (Began from b old new at whose (inr h)) = wrong h.1
         by (Committed b nil queue old later_none latest answers armed) = wrong nil
+
+  client_takes : (r : Round) (t : Timed) (S : Steady ms q pace reign r t) (u : ℕ) (later : Round) (next : Timed) (session : Session) (x : Request) (command : Reads x → ⊥) (V : Served ms pace reign (Arrives (Client reign.leader (u + pace.clock reign.leader) session x)) u t.world next.world r later)
+      → taken_by (member_of ms reign.leader V.here) t.world reign.leader V.was (Arrives (Client reign.leader (u + pace.clock reign.leader) session x)) ≡ Some (origin.Session session)
+  client_takes r t S u later next session x command V =
+      let L = subst (λ (o : Option State). IsSomeAnd o (Leads ms.count q pace reign r r.next)) V.up S.lead in
+      taken_here (member_of ms reign.leader V.here) t.world reign.leader V.was _ (record { rank = reign.leader; at = u + pace.clock reign.leader; input = input.Client session x }) refl refl
+      ∙ taken_command (readings_of (t.world.store reign.leader)) (member_of ms reign.leader V.here) V.was session x command (leads_phase r r.next V.was L)
 
   pub serves : (r : Round) (t last : Timed) (u : ℕ) (session : Session) (x : Request) (more : List (ℕ × Event)) → Steady ms q pace reign r t → Attends pace reign r t → (Reads x → ⊥)
       → LeadsTo ms q pace t ((u, Arrives (Client reign.leader (u + pace.clock reign.leader) session x)) ∷ more) last → ClocksGoOn q pace last.time → u + answer_time pace < last.time
@@ -244,7 +242,7 @@ module _ (ms : Monitors) (q : List Bool) (pace : Pace) (reign : Reign) (K : IsQu
       let c = goes_on ms q pace reign K more next last L.1.2 in
       let N = stays ms q pace reign K r t S u L.0 (clocks_go_on u last.time (omega arith) room) next e L.1.1 in
       let V = N.1.1 in
-      elim (asked r t S A u L.0 N.0 next session x command V) [
+      elim (asked r t S A u L.0 N.0 next e V (origin.Session session) (client_takes r t S u N.0 next session x command V)) [
         | inl z ↦ served_earlier t.world next.world last.world reign.leader session (comes_grew ms q pace (at_time ms q pace u t) next e L.1.1)
             (answered_in_time (u + answer_time pace) session N.0 next last more N.1.0 V.is V.up_after z L.1.2 room past)
         | inr z ↦ served_later t.world next.world last.world reign.leader session z (leads_grew ms q pace more next last L.1.2)

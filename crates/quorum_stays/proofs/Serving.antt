@@ -18,16 +18,20 @@ use Rattle.quorum_model.specs.Clients.{messages_of, replies_of}
 use Rattle.quorum_model.specs.Meets.{Arrival, arrival}
 use Rattle.quorum_model.specs.Monitors.{Monitors}
 use Rattle.quorum_model.specs.World.{Arrives, Envelope, Event, Plain, Replied, World}
-use Rattle.quorum_stays.proofs.Outcomes.{HandsOnNone}
+use Rattle.quorum_stays.proofs.Outcomes.{HandsOnNone, RoutesAnswer}
+use Rattle.mon_msg.specs.declared.clients.Clients.{Clients}
+use Rattle.quorum_stays.proofs.Sharing.{HandsOnNoneOf, Shares, elsewhere}
 use Rattle.quorum_stays.proofs.Stepping.{Did}
 use Rattle.quorum_stays.proofs.Taking.{taken_by, taken_elsewhere, taken_from, taken_nowhere}
-use Rattle.quorum_stays.specs.Serving.{IsAnswer, IsForward, IsServed, Writes}
+use Rattle.quorum_stays.specs.Serving.{CarriesAnswer, IsAnswer, IsForward, IsServed, Writes}
 use Rattle.quorum_stays.specs.Steady.{Begun, Reign, Round, Steady, in_reign}
 use Rattle.quorum_timed.specs.Timed.{Pace, Timed}
-use Rattle.std.proofs.Common.{Bool, List, None, Option, Some, [], ap, inl, length, ltb, refl, sym, true, ℕ, ◌+◌, ◌++◌, ◌<◌, ◌∙◌, ◌∷◌, ◌≡◌, ◌≤◌, ◌⊎◌}
+use Rattle.std.proofs.Common.{Bool, List, None, Option, Some, [], ap, inl, inr, length, ltb, refl, subst, sym, true, ℕ, ◌+◌, ◌++◌, ◌<◌, ◌∙◌, ◌∷◌, ◌≡◌, ◌≤◌, ◌⊎◌}
 use Rattle.std.proofs.lemmas.List.Elements.{filter_map-append}
 use Rattle.std.proofs.lemmas.List.{append_assoc}
+use Rattle.std.proofs.lemmas.Bool.{cases_eq}
 use Rattle.std.specs.List.{AllByRecursion}
+use Rattle.std.specs.Prelude.{slice_index_or}
 
 -- ---- answers
 
@@ -98,6 +102,11 @@ module _ (ms : Monitors) (pace : Pace) (reign : Reign) where
     Committed : (b : Begun) → taken ≡ None → is.clients.queue ≡ was.clients.queue → r.next ≡ Some b → later.next ≡ None → later.latest ≡ u
         → ((o : Origin) → was.leader.origin ≡ Some o → Answers ms reign before after es o) → Armed u is → Turn u before after r later taken was is es
 
+  -- the leader notes a peon's number if it takes the command of that number
+  abbrev pub Marking : (f : ℕ) → Option Origin → (was is : State) → Type 0
+  Marking f taken was is = (slice_index_or is.clients.taken f 0 ≡ slice_index_or was.clients.taken f 0)
+      ⊎ ((seq : ℕ) × (taken ≡ Some (origin.Forwarded f seq)) × (slice_index_or is.clients.taken f 0 ≤ seq))
+
   pub record Served (e : Event) (u : ℕ) (before after : World) (r later : Round) : Type 0 where
     pub here : ltb reign.leader ms.count ≡ true
     pub was : State
@@ -108,6 +117,9 @@ module _ (ms : Monitors) (pace : Pace) (reign : Reign) where
     pub messages : after.messages ≡ before.messages ++ es
     pub plain : AllByRecursion (λ m. IsForward m.message.body → ⊥) es ⊎ Writes e
     pub version : r.next ≡ None → later.version ≡ r.version
+    pub marks : (f : ℕ) → Marking f (taken_by (member_of ms reign.leader here) before reign.leader was e) was is
+    pub routes : AllByRecursion (λ m. CarriesAnswer m.message.body) es
+    pub peons : (f : ℕ) → (f ≡ reign.leader → ⊥) → Shares ms reign before after e es f
     pub turn : Turn u before after r later (taken_by (member_of ms reign.leader here) before reign.leader was e) was is es
 
 -- a quorum stays led in an event, in which the leader served its commands
@@ -118,34 +130,44 @@ module _ (ms : Monitors) (pace : Pace) (reign : Reign) (here : ltb reign.leader 
     (s : State) (up : before.state reign.leader ≡ Some s) where
   -- an event at another monitor
   pub aside : (i : ℕ) → a.rank ≡ i → (i ≡ reign.leader → ⊥) → (x : State) (cs : List Change) (es : List Envelope) → Did before after i x cs es → AllByRecursion (λ m. IsForward m.message.body → ⊥) es ⊎ Writes (Arrives p)
-      → Served ms pace reign (Arrives p) u before after r r
-  aside i rank other x cs es D plain = record {
+      → ((f : ℕ) → (f ≡ i → ⊥) → HandsOnNoneOf f es) → AllByRecursion (λ m. CarriesAnswer m.message.body) es → Shares ms reign before after (Arrives p) es i → Served ms pace reign (Arrives p) u before after r r
+  aside i rank other x cs es D plain none routes mine = record {
     here = here;
     was = s;
     is = s;
     up = up;
     up_after = D.others reign.leader (λ e. other (sym e)) ∙ up;
+    marks = λ f. inl refl;
+    routes = routes;
+    peons = λ f nf. peon f (cases_eq f i);
     es = es;
     messages = D.messages;
     plain = plain;
     version = λ _. refl;
     turn = Kept (taken_elsewhere (member_of ms reign.leader here) before reign.leader s (arrival before p) a comes (λ e. other (sym rank ∙ e))) refl (record { next = refl; latest = refl; origin = refl; ends = λ _ _. refl });
   }
+    where
+      peon : (f : ℕ) → (f ≡ i) ⊎ (f ≡ i → ⊥) → Shares ms reign before after (Arrives p) es f
+      peon f (inl e) = subst (Shares ms reign before after (Arrives p) es) (sym e) mine
+      peon f (inr ne) = elsewhere ms reign before after p a comes i rank x cs es D f ne (none f ne)
 
   -- an event at the leader, which takes no command, and leaves its commands as they were
-  pub undisturbed : taken_from (member_of ms reign.leader here) (readings_of (before.store reign.leader)) s a.input ≡ None → (x : State) → Did before after reign.leader x [] []
-      → x.clients.queue ≡ s.clients.queue → x.leader.origin ≡ s.leader.origin → (r.next ≡ None → end_of timer.Propose x.timers ≡ end_of timer.Propose s.timers) → Served ms pace reign (Arrives p) u before after r r
-  undisturbed none x D queue same ends = record {
+  pub undisturbed : a.rank ≡ reign.leader → taken_from (member_of ms reign.leader here) (readings_of (before.store reign.leader)) s a.input ≡ None → (x : State) → Did before after reign.leader x [] []
+      → x.clients ≡ s.clients → x.leader.origin ≡ s.leader.origin → (r.next ≡ None → end_of timer.Propose x.timers ≡ end_of timer.Propose s.timers) → Served ms pace reign (Arrives p) u before after r r
+  undisturbed rank none x D clients same ends = record {
     here = here;
     was = s;
     is = x;
     up = up;
     up_after = D.up;
+    marks = λ f. inl (ap (λ (z : Clients). slice_index_or z.taken f 0) clients);
+    routes = tt;
+    peons = λ f nf. elsewhere ms reign before after p a comes reign.leader rank x [] [] D f nf tt;
     es = [];
     messages = D.messages;
     plain = inl tt;
     version = λ _. refl;
-    turn = Kept (taken_nowhere (member_of ms reign.leader here) before reign.leader s (arrival before p) a comes none) queue (record { next = refl; latest = refl; origin = same; ends = λ e _. ends e });
+    turn = Kept (taken_nowhere (member_of ms reign.leader here) before reign.leader s (arrival before p) a comes none) (ap (λ (z : Clients). z.queue) clients) (record { next = refl; latest = refl; origin = same; ends = λ e _. ends e });
   }
 
 -- what is sent hands on no command
@@ -153,3 +175,9 @@ pub messages_hand_on_none : (out : List Sent) → AllByRecursion HandsOnNone out
 messages_hand_on_none [] all = tt
 messages_hand_on_none (sent.Message to m ∷ out) all = (all.0, messages_hand_on_none out all.1)
 messages_hand_on_none (sent.Reply to r ∷ out) all = messages_hand_on_none out all.1
+
+-- what is sent to peons about their commands are answers
+pub messages_carry : (out : List Sent) → AllByRecursion RoutesAnswer out → AllByRecursion (λ (m : Envelope). CarriesAnswer m.message.body) (messages_of out)
+messages_carry [] all = tt
+messages_carry (sent.Message to m ∷ out) all = (all.0, messages_carry out all.1)
+messages_carry (sent.Reply to r ∷ out) all = messages_carry out all.1

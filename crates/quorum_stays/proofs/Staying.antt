@@ -27,6 +27,7 @@ use Rattle.quorum_stays.proofs.Outcomes.{AtOnce, Next, Start}
 use Rattle.quorum_stays.proofs.Peering.{PeonIn}
 use Rattle.quorum_stays.proofs.Peons.{begin_comes, commit_comes, lease_comes}
 use Rattle.quorum_stays.proofs.Serving.{Goes}
+use Rattle.quorum_stays.proofs.Turns.{marked}
 use Rattle.quorum_stays.specs.Reading.{ClocksGoOn}
 use Rattle.quorum_stays.specs.Steady.{Begun, Carries, IsItem, Item, LeadsSince, Proposes, Reign, Round, Steady, item, said, to_leader, to_peon}
 use Rattle.quorum_timed.specs.Begins.{IsQuick}
@@ -67,7 +68,8 @@ module _ (ms : Monitors) (q : List Bool) (pace : Pace) (reign : Reign) (K : IsQu
       begins = λ left T e went B. (let b = B.begins in (
         record r { next = Some (record { value = b.proposed; at = u }) },
         value_begins ms q pace reign r (record t { under_way = left }) T u M.later (by_renewal ms q pace reign calm t S K u M refl) room next e went B.state B.up B.here b.clients b.timers b.tidy b.proposed b.from b.made
-            b.fits B.course b.is B.did_it B.taken B.taken_is (started (member_of ms reign.leader B.here) (shared_entries (t.world.store reign.leader)) (u + pace.clock reign.leader) (readings_of (t.world.store reign.leader)) B.state B.taken b.from b.clients b.start),
+            b.fits B.course b.is B.did_it B.taken B.taken_is (started (member_of ms reign.leader B.here) (shared_entries (t.world.store reign.leader)) (u + pace.clock reign.leader) (readings_of (t.world.store reign.leader)) B.state B.taken b.from b.clients b.start)
+            B.input B.event_is B.coming B.arrives B.rank_is (marked (member_of ms reign.leader B.here) (shared_entries (t.world.store reign.leader)) (u + pace.clock reign.leader) (readings_of (t.world.store reign.leader)) B.state ms pace reign B.taken b.clients b.timers b.marks),
         from_calm (record r { next = Some (record { value = b.proposed; at = u }) }) (omega arith) refl,
       ));
       down = calm_down;

@@ -8,7 +8,7 @@ ghost use Rattle.quorum_model.specs.Monitors.{Monitors};
 ghost use Rattle.quorum_model.specs.World.{Arrives, Client, Event, World};
 ghost use Rattle.quorum_stays.specs.Leaving.{FollowMembers};
 ghost use Rattle.quorum_stays.specs.Reading.{ClocksGoOn, IsAnswered, LeasesStand, Reads};
-ghost use Rattle.quorum_stays.specs.Serving.{Attends, IsServed, NothingWaits, Writes, answer_time};
+ghost use Rattle.quorum_stays.specs.Serving.{Attends, Counts, IsServed, NothingWaits, Writes, answer_time};
 ghost use Rattle.std.specs.List.{AllByRecursion};
 ghost use Rattle.quorum_stays.specs.Steady.{Begun, Reign, Round, Steady};
 ghost use Rattle.quorum_timed.specs.Begins.{Begins, IsQuick};
@@ -32,20 +32,34 @@ pub fn law_values_are_committed()
         → (later : Round) × Steady ms q pace reign later last × (r.version < later.version) }
 {}
 
-/// The leader of such a quorum answers each command that it is asked within `answer_time`, whatever other clients ask.
-/// The command is committed, or its service refuses it, or it is too long, or too many wait (`IsAnswer`). At first the
-/// next one of the commands that wait is proposed soon (`Attends`), and so it is at each later time.
+/// Such a quorum answers each command in time, whatever other clients ask: the leader within `answer_time` after it is
+/// asked, and a peon within two delays more. The command is committed, or its service refuses it, or it is too long, or
+/// too many wait (`IsAnswer`). At first the next one of the commands that wait at the leader is proposed soon
+/// (`Attends`), and the peon's commands are numbered so that the leader takes each (`Counts`). Both hold at each later
+/// time.
 pub fn law_serves()
     ensures attends { (ms : Monitors) (q : List Bool) (pace : Pace) (reign : Reign) (r : Round) (t last : Timed)
         (more : List (ℕ × Event)) → IsQuick pace → Steady ms q pace reign r t → Attends pace reign r t
         → Leads ms q pace t more last → ClocksGoOn q pace last.time
         → (later : Round) × Steady ms q pace reign later last × Attends pace reign later last }
-    ensures answers { (ms : Monitors) (q : List Bool) (pace : Pace) (reign : Reign) (r : Round) (t last : Timed)
+    ensures counts { (ms : Monitors) (q : List Bool) (pace : Pace) (reign : Reign) (r : Round) (f : ℕ) (t last : Timed)
+        (more : List (ℕ × Event)) → IsQuick pace → Steady ms q pace reign r t → has q f ≡ true
+        → (f ≡ reign.leader → ⊥) → Counts q reign f t → Leads ms q pace t more last → ClocksGoOn q pace last.time
+        → Counts q reign f last }
+    ensures leader { (ms : Monitors) (q : List Bool) (pace : Pace) (reign : Reign) (r : Round) (t last : Timed)
         (u : ℕ) (session : Session) (request : Request) (more : List (ℕ × Event)) → IsQuick pace
         → Steady ms q pace reign r t → Attends pace reign r t → (Reads request → ⊥)
-        → Leads ms q pace t ((u, Arrives (Client reign.leader (u + pace.clock reign.leader) session request)) ∷ more) last
+        → Leads ms q pace t
+        ((u, Arrives (Client reign.leader (u + pace.clock reign.leader) session request)) ∷ more) last
         → ClocksGoOn q pace last.time → u + answer_time pace < last.time
         → IsServed t.world last.world reign.leader session }
+    ensures peons { (ms : Monitors) (q : List Bool) (pace : Pace) (reign : Reign) (r : Round) (f : ℕ) (t last : Timed)
+        (u : ℕ) (session : Session) (request : Request) (more : List (ℕ × Event)) → IsQuick pace
+        → Steady ms q pace reign r t → Attends pace reign r t → has q f ≡ true → (f ≡ reign.leader → ⊥)
+        → Counts q reign f t → (Reads request → ⊥)
+        → Leads ms q pace t ((u, Arrives (Client f (u + pace.clock f) session request)) ∷ more) last
+        → ClocksGoOn q pace last.time → u + 2 * pace.delay + answer_time pace < last.time
+        → IsServed t.world last.world f session }
 {}
 
 /// If nobody writes in a quorum that is led so, nothing is begun, and the last version and the time of its commit stay
