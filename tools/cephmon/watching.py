@@ -17,7 +17,7 @@ KINDS = ('piece', 'probe', 'probe_reply', 'propose', 'ack', 'victory', 'collect'
 PHASES = ('unknown', 'probing', 'synchronizing', 'electing', 'collecting', 'active', 'peon')
 # The upper bound of each bucket of the histogram of syncs, in seconds. The last bucket has none.
 BOUNDS = [2**k / 1000 for k in range(15)]
-COUNTS = ('elections', 'epoch', 'monitors', 'ms', 'quorum', 'rank', 'refused', 'version')
+COUNTS = ('elections', 'epoch', 'monitors', 'ms', 'quorum', 'rank', 'refused', 'unkept', 'version')
 DISK_COUNTS = ('bytes_read', 'bytes_written', 'greatest_ms', 'length', 'reads', 'slow', 'syncs', 'total_ms', 'writes')
 
 
@@ -114,6 +114,7 @@ def metrics(of: dict[str, Any]) -> list[Metric]:
         Metric('datagrams_total', 'counter', 'Datagrams by direction and kind, without those that were sent again.',
                [({'direction': way, 'kind': kind}, '', count) for way in ('sent', 'received') for kind, count in zip(KINDS, of[way])]),
         one('refused_datagrams_total', 'counter', 'Datagrams that begin neither a message nor a piece of one.', of['refused']),
+        one('unkept_copies_total', 'counter', 'Copies of datagrams that weren\'t kept because memory was refused.', of['unkept']),
         Metric('peer_silence_seconds', 'gauge', 'For how long a monitor hasn\'t answered what it was sent.',
                [({'peer': str(rank)}, '', (of['asked_ms'][rank] or 0) / 1000) for rank in peers]),
         histogram(disks),

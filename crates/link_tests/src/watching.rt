@@ -12,7 +12,7 @@ client 7 [050102030405060708] {\"asked_ms\":[null,null,null],\"disks\":[\
     {\"buckets\":[0,0,0,0,0,0,0,0,0,0,0,0,0,0,0,0],\"bytes_read\":0,\"bytes_written\":0,\"greatest_ms\":0,\"length\":0,\"reads\":0,\"slow\":0,\"syncs\":0,\"total_ms\":0,\"writes\":0}],\
     \"elections\":0,\"epoch\":0,\"heard_ms\":[null,null,null],\"leader\":null,\"monitors\":3,\"ms\":1000,\"phase\":\"unknown\",\"quorum\":0,\"rank\":0,\
     \"received\":[0,0,0,0,0,0,0,0,0,0,0,0,0,0,0,0,0,0,0,0,0,0,0,0,0,0],\"refused\":0,\
-    \"sent\":[0,0,0,0,0,0,0,0,0,0,0,0,0,0,0,0,0,0,0,0,0,0,0,0,0,0],\"source\":null,\"version\":0}
+    \"sent\":[0,0,0,0,0,0,0,0,0,0,0,0,0,0,0,0,0,0,0,0,0,0,0,0,0,0],\"source\":null,\"unkept\":0,\"version\":0}
 ";
 
 /// A client is answered once per second. The client 1031 shares its time with the client 7. The clock goes back before the last request.
@@ -35,7 +35,7 @@ client 7 [050102030405060708] {\"asked_ms\":[null,null,null],\"disks\":[\
     {\"buckets\":[0,0,0,0,0,0,0,0,0,0,0,0,0,0,0,0],\"bytes_read\":0,\"bytes_written\":0,\"greatest_ms\":0,\"length\":0,\"reads\":0,\"slow\":0,\"syncs\":0,\"total_ms\":0,\"writes\":0}],\
     \"elections\":0,\"epoch\":0,\"heard_ms\":[null,null,null],\"leader\":null,\"monitors\":3,\"ms\":1000,\"phase\":\"unknown\",\"quorum\":0,\"rank\":0,\
     \"received\":[0,0,0,0,0,0,0,0,0,0,0,0,0,0,0,0,0,0,0,0,0,0,0,0,0,0],\"refused\":0,\
-    \"sent\":[0,0,0,0,0,0,0,0,0,0,0,0,0,0,0,0,0,0,0,0,0,0,0,0,0,0],\"source\":null,\"version\":0}
+    \"sent\":[0,0,0,0,0,0,0,0,0,0,0,0,0,0,0,0,0,0,0,0,0,0,0,0,0,0],\"source\":null,\"unkept\":0,\"version\":0}
 > next
 idle, 1 receives, 5 ms
 > next
@@ -45,7 +45,7 @@ client 8 [050102030405060708] {\"asked_ms\":[null,null,null],\"disks\":[\
     {\"buckets\":[0,0,0,0,0,0,0,0,0,0,0,0,0,0,0,0],\"bytes_read\":0,\"bytes_written\":0,\"greatest_ms\":0,\"length\":0,\"reads\":0,\"slow\":0,\"syncs\":0,\"total_ms\":0,\"writes\":0}],\
     \"elections\":0,\"epoch\":0,\"heard_ms\":[null,null,null],\"leader\":null,\"monitors\":3,\"ms\":1002,\"phase\":\"unknown\",\"quorum\":0,\"rank\":0,\
     \"received\":[0,0,0,0,0,0,0,0,0,0,0,0,0,0,0,0,0,0,0,0,0,0,0,0,0,0],\"refused\":0,\
-    \"sent\":[0,0,0,0,0,0,0,0,0,0,0,0,0,0,0,0,0,0,0,0,0,0,0,0,0,0],\"source\":null,\"version\":0}
+    \"sent\":[0,0,0,0,0,0,0,0,0,0,0,0,0,0,0,0,0,0,0,0,0,0,0,0,0,0],\"source\":null,\"unkept\":0,\"version\":0}
 > next
 idle, 1 receives, 5 ms
 > next
@@ -57,7 +57,7 @@ client 7 [050102030405060708] {\"asked_ms\":[null,null,null],\"disks\":[\
     {\"buckets\":[0,0,0,0,0,0,0,0,0,0,0,0,0,0,0,0],\"bytes_read\":0,\"bytes_written\":0,\"greatest_ms\":0,\"length\":0,\"reads\":0,\"slow\":0,\"syncs\":0,\"total_ms\":0,\"writes\":0}],\
     \"elections\":0,\"epoch\":0,\"heard_ms\":[null,null,null],\"leader\":null,\"monitors\":3,\"ms\":2000,\"phase\":\"unknown\",\"quorum\":0,\"rank\":0,\
     \"received\":[0,0,0,0,0,0,0,0,0,0,0,0,0,0,0,0,0,0,0,0,0,0,0,0,0,0],\"refused\":0,\
-    \"sent\":[0,0,0,0,0,0,0,0,0,0,0,0,0,0,0,0,0,0,0,0,0,0,0,0,0,0],\"source\":null,\"version\":0}
+    \"sent\":[0,0,0,0,0,0,0,0,0,0,0,0,0,0,0,0,0,0,0,0,0,0,0,0,0,0],\"source\":null,\"unkept\":0,\"version\":0}
 > next
 idle, 1 receives, 5 ms
 > next
@@ -67,7 +67,7 @@ client 8 [050102030405060708] {\"asked_ms\":[null,null,null],\"disks\":[\
     {\"buckets\":[0,0,0,0,0,0,0,0,0,0,0,0,0,0,0,0],\"bytes_read\":0,\"bytes_written\":0,\"greatest_ms\":0,\"length\":0,\"reads\":0,\"slow\":0,\"syncs\":0,\"total_ms\":0,\"writes\":0}],\
     \"elections\":0,\"epoch\":0,\"heard_ms\":[null,null,null],\"leader\":null,\"monitors\":3,\"ms\":2002,\"phase\":\"unknown\",\"quorum\":0,\"rank\":0,\
     \"received\":[0,0,0,0,0,0,0,0,0,0,0,0,0,0,0,0,0,0,0,0,0,0,0,0,0,0],\"refused\":0,\
-    \"sent\":[0,0,0,0,0,0,0,0,0,0,0,0,0,0,0,0,0,0,0,0,0,0,0,0,0,0],\"source\":null,\"version\":0}
+    \"sent\":[0,0,0,0,0,0,0,0,0,0,0,0,0,0,0,0,0,0,0,0,0,0,0,0,0,0],\"source\":null,\"unkept\":0,\"version\":0}
 > next
 idle, 1 receives, 5 ms
 client 7 [050102030405060708] {\"asked_ms\":[null,null,null],\"disks\":[\
@@ -75,7 +75,7 @@ client 7 [050102030405060708] {\"asked_ms\":[null,null,null],\"disks\":[\
     {\"buckets\":[0,0,0,0,0,0,0,0,0,0,0,0,0,0,0,0],\"bytes_read\":0,\"bytes_written\":0,\"greatest_ms\":0,\"length\":0,\"reads\":0,\"slow\":0,\"syncs\":0,\"total_ms\":0,\"writes\":0}],\
     \"elections\":0,\"epoch\":0,\"heard_ms\":[null,null,null],\"leader\":null,\"monitors\":3,\"ms\":5,\"phase\":\"unknown\",\"quorum\":0,\"rank\":0,\
     \"received\":[0,0,0,0,0,0,0,0,0,0,0,0,0,0,0,0,0,0,0,0,0,0,0,0,0,0],\"refused\":0,\
-    \"sent\":[0,0,0,0,0,0,0,0,0,0,0,0,0,0,0,0,0,0,0,0,0,0,0,0,0,0],\"source\":null,\"version\":0}
+    \"sent\":[0,0,0,0,0,0,0,0,0,0,0,0,0,0,0,0,0,0,0,0,0,0,0,0,0,0],\"source\":null,\"unkept\":0,\"version\":0}
 ";
 
 /// A request that is cut at each byte, is too long, or has another first byte, is not answered.
@@ -146,6 +146,6 @@ client 7 [050102030405060708] {\"asked_ms\":[null,null,null],\"disks\":[\
     {\"buckets\":[0,0,0,0,0,0,0,0,0,0,0,0,0,0,0,0],\"bytes_read\":0,\"bytes_written\":0,\"greatest_ms\":0,\"length\":0,\"reads\":0,\"slow\":0,\"syncs\":0,\"total_ms\":0,\"writes\":0}],\
     \"elections\":0,\"epoch\":4,\"heard_ms\":[null,null,null],\"leader\":0,\"monitors\":3,\"ms\":1000,\"phase\":\"collecting\",\"quorum\":3,\"rank\":0,\
     \"received\":[0,0,0,0,0,0,0,0,0,0,0,0,0,0,0,0,0,0,0,0,0,0,0,0,0,0],\"refused\":0,\
-    \"sent\":[0,0,0,0,0,1,0,0,0,0,0,0,0,0,0,0,0,0,0,0,0,0,0,0,0,0],\"source\":null,\"version\":0}
+    \"sent\":[0,0,0,0,0,1,0,0,0,0,0,0,0,0,0,0,0,0,0,0,0,0,0,0,0,0],\"source\":null,\"unkept\":0,\"version\":0}
 noted 22
 ";

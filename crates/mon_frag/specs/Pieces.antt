@@ -26,9 +26,13 @@ header boot seq total place = PIECE ∷ 0 ∷ 0 ∷ 0 ∷ u64_bytes boot ++ u64_
 abbrev pub piece : List ℕ → ℕ → ℕ → ℕ → List ℕ
 piece message boot seq place = header boot seq (length message) place ++ part_at message place
 
+-- all pieces of a message, in order
+abbrev pub cut_up : List ℕ → ℕ → ℕ → List (List ℕ)
+cut_up message boot seq = map (λ k. piece message boot seq (PART * k)) (range_with_len 0 (piece_count (length message)))
+
 -- the datagrams of a message
 abbrev pub pieces_of : List ℕ → ℕ → ℕ → List (List ℕ)
 pieces_of message boot seq =
     if nat_le (length message) DATAGRAM
     then message ∷ []
-    else map (λ k. piece message boot seq (PART * k)) (range_with_len 0 (piece_count (length message)))
+    else cut_up message boot seq

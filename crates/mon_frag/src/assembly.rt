@@ -6,7 +6,7 @@ ghost use Rattle.mon_frag.specs.Headers.{is_piece};
 ghost use Rattle.mon_frag.specs.Keeping.{Takes, taken, piece_taken, at_found, joined_with, first_of, oldest_against, is_client, is_of, same_peer, without};
 
 use crate::cutting::DATAGRAM;
-use crate::header::{Header, PART, PIECE, piece_payload, read_header};
+use crate::header::{Header, PART, is_piece, piece_payload, read_header};
 use crate::partial::{Joined, Partial};
 use crate::refused::FragRefused;
 use mon_bytes::{Bytes, OutOfMemory};
@@ -219,14 +219,5 @@ fn copied(alloc: Global, bytes: &[u8]) -> Result<Bytes, OutOfMemory>
 pub fn is_whole(datagram: &[u8]) -> bool
     ensures { result ≡ (not (nat_lt DATAGRAM (length datagram.now)) && not (is_piece datagram.now)) }
 {
-    datagram.len() <= DATAGRAM && !begins_a_piece(datagram)
-}
-
-fn begins_a_piece(datagram: &[u8]) -> bool
-    ensures { result ≡ is_piece datagram.now }
-{
-    match datagram {
-        [first, ..] => *first == PIECE,
-        [] => false,
-    }
+    datagram.len() <= DATAGRAM && !is_piece(datagram)
 }

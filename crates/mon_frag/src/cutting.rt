@@ -1,6 +1,6 @@
 ghost use Rattle.std.specs.Prelude.{◌≡◌, ◌+◌, ◌*◌, ◌≤◌, ◌<◌, ◌++◌, length, IfOk, OnOk};
 ghost use Rattle.mon_bytes.specs.declared.limits.TheConstants.{MOST_MESSAGE};
-ghost use Rattle.mon_frag.specs.Pieces.{u64_bytes, header, part_at, piece, pieces_of, piece_count};
+ghost use Rattle.mon_frag.specs.Pieces.{u64_bytes, header, part_at, piece, pieces_of, piece_count, cut_up};
 
 use crate::header::{PART, PIECE};
 use mon_bytes::{Bytes, Items, Out, OutOfMemory, write_count};
@@ -62,25 +62,34 @@ fn cut(
     Ok(Bytes::new(out.into_bytes()))
 }
 
-/// The datagrams of a message: itself, if it has at most 60,000 bytes, and else its pieces, in order. The two numbers
-/// distinguish it from the other messages of its sender.
+/// All pieces of a message, in order.
 #[tactic(auto, using(crate::proofs::Lists::made_next))]
-pub fn pieces(
-    alloc: Global,
-    message: &[u8],
-    boot: u64,
-    seq: u64,
-) -> Result<Items<Bytes>, OutOfMemory>
+fn cut_up(alloc: Global, message: &[u8], boot: u64, seq: u64) -> Result<Items<Bytes>, OutOfMemory>
     requires { length message.now ≤ MOST_MESSAGE }
-    ensures { IfOk result (λ datagrams. datagrams ≡ pieces_of message.now boot seq) }
+    ensures { IfOk result (λ datagrams. datagrams ≡ cut_up message.now boot seq) }
 {
     let mut datagrams = Items::new(alloc);
-    if message.len() <= DATAGRAM {
-        datagrams.push(Bytes::new(Vec::from_slice(alloc, message)?))?;
-        return Ok(datagrams);
-    }
     for k in 0..count_of(message.len()) {
         datagrams.push(cut(alloc, message, boot, seq, PART as usize * k)?)?;
     }
+    Ok(datagrams)
+}
+
+/// The datagrams of a message: itself, without a copy, if it has at most 60,000 bytes, and else its pieces, in order. The
+/// two numbers distinguish it from the other messages of its sender.
+pub fn pieces(
+    alloc: Global,
+    message: Bytes,
+    boot: u64,
+    seq: u64,
+) -> Result<Items<Bytes>, OutOfMemory>
+    requires { length message ≤ MOST_MESSAGE }
+    ensures { IfOk result (λ datagrams. datagrams ≡ pieces_of message boot seq) }
+{
+    if message.as_slice().len() > DATAGRAM {
+        return cut_up(alloc, message.as_slice(), boot, seq);
+    }
+    let mut datagrams = Items::new(alloc);
+    datagrams.push(message)?;
     Ok(datagrams)
 }

@@ -1,6 +1,6 @@
 ghost use Rattle.std.specs.Prelude.{◌≡◌, ◌<◌, drop, IfOk};
 ghost use Rattle.mon_frag.specs.declared.header.TheConstants.{PIECE_HEADER};
-ghost use Rattle.mon_frag.specs.Headers.{fields_of, formed, header_of};
+ghost use Rattle.mon_frag.specs.Headers.{fields_of, formed, header_of, is_piece};
 
 use crate::cutting::DATAGRAM;
 use crate::refused::FragRefused;
@@ -94,6 +94,16 @@ fn check(count: usize, header: Header) -> Result<Header, FragRefused>
         return Err(FragRefused::Form { at: 28 });
     }
     Ok(header)
+}
+
+/// Whether a datagram is a piece of a long message.
+pub fn is_piece(datagram: &[u8]) -> bool
+    ensures { result ≡ is_piece datagram.now }
+{
+    match datagram {
+        [first, ..] => *first == PIECE,
+        [] => false,
+    }
 }
 
 /// The bytes of its message that a piece has.

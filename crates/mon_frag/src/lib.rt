@@ -10,6 +10,6 @@ mod refused;
 
 pub use assembly::{Assembly, is_whole};
 pub use cutting::{DATAGRAM, pieces};
-pub use header::{Header, PART, PIECE, PIECE_HEADER, piece_payload, read_header};
+pub use header::{Header, PART, PIECE, PIECE_HEADER, is_piece, piece_payload, read_header};
 pub use law::law_whole;
 pub use refused::FragRefused;

@@ -3,7 +3,7 @@
 ghost use Rattle.std.specs.Prelude.{◌≡◌};
 ghost use Rattle.mon_link.specs.Histories.Happened.{Received, WasSent};
 ghost use Rattle.mon_link.specs.Layers.{Above, Grows};
-ghost use Rattle.mon_link.specs.Links.{CallsSend, count_after};
+ghost use Rattle.mon_link.specs.Links.{CallsSend, unseen};
 ghost use Rattle.mon_hello.specs.Greets.{AsksOnce, passed, rounds};
 ghost use Rattle.mon_hello.specs.Histories.{AnyOwn, GreetingDoes};
 
@@ -30,7 +30,6 @@ pub struct Greeting<L: Link + Drop, C: Clock + Drop, S: Say + Drop> {
     pub heard: Heard,
     /// When the next round of hellos is due, in milliseconds of the clock.
     pub due: u64,
-    pub losses: u64,
 }
 
 /// What is handed up: `Idle` in place of a hello.
@@ -57,7 +56,6 @@ impl<L: Link + Drop, C: Clock + Drop, S: Say + Drop> Greeting<L, C, S> {
         ensures own { result.own ≡ own }
         ensures heard { result.heard.answered ≡ heard.answered }
         ensures due { result.due ≡ 0 }
-        ensures losses { result.losses ≡ 0 }
     {
         Greeting {
             inner,
@@ -66,15 +64,12 @@ impl<L: Link + Drop, C: Clock + Drop, S: Say + Drop> Greeting<L, C, S> {
             own,
             heard,
             due: 0,
-            losses: 0,
         }
     }
 }
 
 impl<L: Link + Drop, C: Clock + Drop, S: Say + Drop> Link for Greeting<L, C, S> {
-    ghost use Rattle.std.specs.Prelude.{None};
-
-    ghost state = { λ r. record { observed = None; faults = (L.state r.inner).faults; losses = r.losses } };
+    ghost state = { λ r. unseen (L.state r.inner).faults };
 
     ghost history = { λ r. Above GreetingDoes AnyOwn (L.history r.inner) r.own };
 
@@ -89,7 +84,6 @@ impl<L: Link + Drop, C: Clock + Drop, S: Say + Drop> Link for Greeting<L, C, S> 
         ensures does { Grows (L.history self.old.inner)
             (λ calls. GreetingDoes self.old.own (Received wait result) calls self.new.own) (L.history self.new.inner) }
         ensures own { self.new.own ≡ self.old.own }
-        ensures losses { self.new.losses ≡ self.old.losses }
     {
         let got = self.inner.next(wait)?;
         let moment = self.clock.now();
@@ -114,12 +108,7 @@ impl<L: Link + Drop, C: Clock + Drop, S: Say + Drop> Link for Greeting<L, C, S> 
         ensures own { self.new.own ≡ self.old.own }
         ensures clock { self.new.clock ≡ self.old.clock }
         ensures due { self.new.due ≡ self.old.due }
-        ensures losses { self.new.losses ≡ count_after result self.old.losses }
     {
-        let sent = self.inner.send(to, bytes);
-        if let Err(Stop::Failed) = sent {
-            self.losses = self.losses.saturating_add(1);
-        }
-        sent
+        self.inner.send(to, bytes)
     }
 }

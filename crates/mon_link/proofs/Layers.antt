@@ -31,6 +31,12 @@ pub sent_then : (ds es : List Outgoing) (xs ys : List Happened) → Sent ds xs �
 sent_then [] es xs ys p q = subst (λ (zs : List Happened). Sent es (zs ++ ys)) (sym p) q
 sent_then (d ∷ ds) es xs ys p q = (p.0, p.1 ++ ys, ap (λ (zs : List Happened). zs ++ ys) p.2, sent_then ds es p.1 ys p.3 q)
 
+-- ---- a new layer
+
+pub above_new : {S : Type 0} (Does : S → Happened → List Happened → S → Type 0) (IsFirst : S → Type 0) (Below : List Happened → Type 0) (s : S)
+    → Below [] → IsFirst s → Above Does IsFirst Below s []
+above_new Does IsFirst Below s below first = ([], below, s, first, (refl, refl))
+
 -- ---- a call of a layer
 
 steps_on : {S : Type 0} (Does : S → Happened → List Happened → S → Type 0) (h below : List Happened) (x : Happened) (calls : List Happened) (first old new : S)

@@ -18,16 +18,15 @@ pub record Observed : Type 0 where
   pub failing_next : List ℕ
   pub failing_send : List ℕ
 
--- A link at one time: what can be seen of it, if anything; how often a receive failed; and how many datagrams it couldn't
--- send. Both counts saturate at the greatest 64-bit number.
+-- A link at one time: what can be seen of it, if anything; and how often a receive failed. The count saturates at the
+-- greatest 64-bit number.
 pub record LinkState : Type 0 where
   pub observed : Option Observed
   pub faults : ℕ
-  pub losses : ℕ
 
--- a link of which its counts alone can be seen
-abbrev pub unseen : (faults losses : ℕ) → LinkState
-unseen faults losses = record { observed = None; faults = faults; losses = losses }
+-- a link of which its count alone can be seen
+abbrev pub unseen : (faults : ℕ) → LinkState
+unseen faults = record { observed = None; faults = faults }
 
 -- a count that rises if and only if a call returns `Failed`
 abbrev pub count_after : {T : Type 0} → Result T Stop → ℕ → ℕ
@@ -65,7 +64,6 @@ pub record CallsNext (wait : ℕ) (result : Result Got Stop) (old new : LinkStat
   pub answer : IfSome old.observed (λ t. Answers result (next_answer t))
   pub observed : new.observed ≡ option_map (next_leaves wait result) old.observed
   pub faults : new.faults ≡ count_after result old.faults
-  pub losses : new.losses ≡ old.losses
 
 -- ---- what goes
 
@@ -84,4 +82,3 @@ pub record CallsSend (to : Peer) (bytes : List ℕ) (result : Result (Unit {0}) 
   pub answer : IfSome old.observed (λ t. Answers result (send_answer t))
   pub observed : new.observed ≡ option_map (send_leaves to bytes result) old.observed
   pub faults : new.faults ≡ old.faults
-  pub losses : new.losses ≡ count_after result old.losses

@@ -3,18 +3,17 @@ use Rattle.std.specs.Prelude.{◌≡◌, ℕ, List, [], Some}
 use Rattle.mon_link.specs.Histories.{Happened, Leads}
 use Rattle.mon_link.specs.Links.{Observed, LinkState}
 
--- what can be seen, and its faults and losses so far
+-- what can be seen, and its faults so far
 pub record MemoryTalk : Type 0 where
   pub observed : Observed
   pub faults : ℕ
-  pub losses : ℕ
 
 abbrev pub state_of : MemoryTalk → LinkState
-state_of l = record { observed = Some l.observed; faults = l.faults; losses = l.losses }
+state_of l = record { observed = Some l.observed; faults = l.faults }
 
 -- no call was made of the link yet
 abbrev pub IsNew : MemoryTalk → Type 0
-IsNew l = (l.observed.sent ≡ []) × (l.observed.waits ≡ []) × (l.faults ≡ 0) × (l.losses ≡ 0)
+IsNew l = (l.observed.sent ≡ []) × (l.observed.waits ≡ []) × (l.faults ≡ 0)
 
 -- these calls led from a new link, which gives what it gives and fails where it fails, to this one
 abbrev pub LedTo : MemoryTalk → List Happened → Type 0

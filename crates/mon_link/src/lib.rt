@@ -6,6 +6,7 @@ mod clients;
 mod clock;
 mod edge;
 mod link;
+mod lives;
 mod memory;
 mod memory_link;
 mod outside;
@@ -16,7 +17,8 @@ mod whole;
 
 pub use clock::{Clock, ListClock};
 pub use edge::{StdinSource, StdoutSink};
-pub use link::{Got, Link, Outgoing, Peer};
+pub use link::{Got, Keeps, Link, Outgoing, Peer};
+pub use lives::{Lives, NoLife};
 pub use memory::{MemorySink, MemorySource};
 pub use memory_link::MemoryLink;
 pub use outside::{Sink, Source};

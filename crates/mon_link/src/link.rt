@@ -1,4 +1,4 @@
-ghost use Rattle.std.specs.Prelude.{List};
+ghost use Rattle.std.specs.Prelude.{◌≡◌, ℕ, List};
 ghost use Rattle.mon_link.specs.Histories.{Happened, GoesOn};
 ghost use Rattle.mon_link.specs.Histories.Happened.{Received, WasSent};
 ghost use Rattle.mon_link.specs.Links.{LinkState, CallsNext, CallsSend};
@@ -32,8 +32,8 @@ pub struct Outgoing {
 
 /// Datagrams that come and go. Any of them may be lost on its way, come twice, or come late.
 pub trait Link {
-    /// What is still to come on the link, and what it was asked to send, if they can be seen; and how many receives and
-    /// how many sends failed so far.
+    /// What is still to come on the link, and what it was asked to send, if they can be seen; and how many receives
+    /// failed so far.
     ghost state: { Self → LinkState };
 
     /// The lists of calls, oldest first, that can have led to the link as it is.
@@ -45,8 +45,18 @@ pub trait Link {
         ensures calls { CallsNext wait result (state self.old) (state self.new) }
         ensures goes_on { GoesOn (history self.old) (Received wait result) (history self.new) };
 
-    /// Sends a datagram. One that couldn't be sent is counted as a loss, and as no fault.
+    /// Sends a datagram. One that couldn't be sent is lost, and isn't counted as a fault.
     fn send(&mut self, to: Peer, bytes: &[u8]) -> Result<(), Stop>
         ensures calls { CallsSend to bytes.now result (state self.old) (state self.new) }
         ensures goes_on { GoesOn (history self.old) (WasSent to bytes.now result) (history self.new) };
+}
+
+/// What keeps copies of the datagrams that it was given to send.
+pub trait Keeps {
+    /// How many copies weren't kept because there was no memory for them.
+    ghost unkept: { Self → ℕ };
+
+    /// How many copies weren't kept because there was no memory for them.
+    fn unkept(&self) -> u64
+        ensures { result ≡ unkept self.now };
 }

@@ -2,7 +2,7 @@ ghost use Rattle.std.specs.Prelude.{◌≡◌, []};
 ghost use Rattle.mon_link.specs.Links.{CallsNext, CallsSend};
 ghost use Rattle.mon_link.specs.MemoryLinks.{LedTo, state_of};
 
-use crate::link::{Got, Link, Outgoing, Peer};
+use crate::link::{Got, Keeps, Link, Outgoing, Peer};
 use crate::outside::raised;
 use mon_bytes::Bytes;
 use mon_types::Stop;
@@ -21,7 +21,6 @@ pub struct MemoryLink {
     failing_next: Vec<u64>,
     failing_send: Vec<u64>,
     faults: u64,
-    losses: u64,
 }
 
 impl Model for MemoryLink {
@@ -39,7 +38,6 @@ impl Model for MemoryLink {
         failing_send = l.failing_send.items;
       };
       faults = l.faults;
-      losses = l.losses;
     } };
 }
 
@@ -55,7 +53,6 @@ impl MemoryLink {
         ensures { result ≡ record {
           observed = record { left = got.items; sent = []; waits = []; failing_next = failing_next.items; failing_send = failing_send.items };
           faults = 0;
-          losses = 0;
         } }
     {
         MemoryLink {
@@ -66,7 +63,6 @@ impl MemoryLink {
             failing_next,
             failing_send,
             faults: 0,
-            losses: 0,
         }
     }
 
@@ -119,9 +115,17 @@ impl Link for MemoryLink {
             return Err(Stop::OutOfMemory);
         }
         if fails {
-            self.losses = raised(self.losses);
             return Err(Stop::Failed);
         }
         Ok(())
+    }
+}
+
+impl Keeps for MemoryLink {
+    ghost unkept = { λ l. 0 };
+
+    /// It keeps no copies to send them again.
+    fn unkept(&self) -> u64 {
+        0
     }
 }

@@ -1,6 +1,6 @@
 //! Datagrams of the system. Contracts see nothing of what is received or sent, only whether a call failed.
 
-ghost use Rattle.std.specs.Prelude.{◌≡◌, IsTrue, None, Some, ◌≤◌, IfOk, option_map, vec_len};
+ghost use Rattle.std.specs.Prelude.{◌≡◌, ℕ, IsTrue, None, Some, ◌≤◌, IfOk, option_map, vec_len};
 ghost use Rattle.mon_link.specs.Clients.{Recognizes, KnowsSender, is_datagram};
 ghost use Rattle.mon_link.specs.Histories.{Leads};
 ghost use Rattle.mon_link.specs.Links.{CallsNext, CallsSend, unseen};
@@ -64,7 +64,6 @@ pub struct UdpLink<R: Net + Copy> {
     failure: Option<Error>,
     passing: Passing,
     faults: u64,
-    losses: u64,
 }
 
 impl<R: Net + Copy> UdpLink<R> {
@@ -74,7 +73,6 @@ impl<R: Net + Copy> UdpLink<R> {
         ensures addresses { result.addresses ≡ addresses }
         ensures failure { result.failure ≡ None }
         ensures faults { result.faults ≡ 0 }
-        ensures losses { result.losses ≡ 0 }
     {
         UdpLink::of(rt, Some(own), addresses)
     }
@@ -85,7 +83,6 @@ impl<R: Net + Copy> UdpLink<R> {
         ensures addresses { result.addresses ≡ addresses }
         ensures failure { result.failure ≡ None }
         ensures faults { result.faults ≡ 0 }
-        ensures losses { result.losses ≡ 0 }
     {
         UdpLink::of(rt, None, addresses)
     }
@@ -95,7 +92,6 @@ impl<R: Net + Copy> UdpLink<R> {
         ensures addresses { result.addresses ≡ addresses }
         ensures failure { result.failure ≡ None }
         ensures faults { result.faults ≡ 0 }
-        ensures losses { result.losses ≡ 0 }
     {
         let alloc = *addresses.allocator();
         UdpLink {
@@ -108,7 +104,6 @@ impl<R: Net + Copy> UdpLink<R> {
             failure: None,
             passing: Passing::new(),
             faults: 0,
-            losses: 0,
         }
     }
 
@@ -137,9 +132,10 @@ impl<R: Net + Copy> UdpLink<R> {
     /// keeps for it, if that is less than one message of the greatest length takes. If the socket can't be bound,
     /// nothing is returned, and the next call reports why.
     pub fn short_room(&mut self) -> Option<u32>
+        ensures own { self.new.own ≡ self.old.own }
+        ensures addresses { self.new.addresses ≡ self.old.addresses }
         ensures failure { self.new.failure ≡ self.old.failure }
         ensures faults { self.new.faults ≡ self.old.faults }
-        ensures losses { self.new.losses ≡ self.old.losses }
     {
         if self.open().is_err() {
             return None;
@@ -154,10 +150,11 @@ impl<R: Net + Copy> UdpLink<R> {
 
     /// Binds the socket, unless it is bound. None of its calls waits by itself.
     fn open(&mut self) -> io::Result<()>
+        ensures own { self.new.own ≡ self.old.own }
+        ensures addresses { self.new.addresses ≡ self.old.addresses }
         ensures clients { self.new.clients ≡ self.old.clients }
         ensures failure { self.new.failure ≡ self.old.failure }
         ensures faults { self.new.faults ≡ self.old.faults }
-        ensures losses { self.new.losses ≡ self.old.losses }
     {
         if self.socket.is_none() {
             let here = self.here()?;
@@ -173,7 +170,6 @@ impl<R: Net + Copy> UdpLink<R> {
     fn make_room(&mut self) -> Result<(), OutOfMemory>
         ensures clients { self.new.clients ≡ self.old.clients }
         ensures faults { self.new.faults ≡ self.old.faults }
-        ensures losses { self.new.losses ≡ self.old.losses }
     {
         if self.room.is_empty() {
             self.room = vec![in *self.addresses.allocator(); 0u8; ROOM]?;
@@ -185,7 +181,6 @@ impl<R: Net + Copy> UdpLink<R> {
     fn receive(&mut self, wait: u64) -> io::Result<(usize, SocketAddr)>
         ensures clients { self.new.clients ≡ self.old.clients }
         ensures faults { self.new.faults ≡ self.old.faults }
-        ensures losses { self.new.losses ≡ self.old.losses }
         ensures bound { IfOk result (λ r. r.0 ≤ vec_len self.new.room) }
     {
         self.open()?;
@@ -215,7 +210,6 @@ impl<R: Net + Copy> UdpLink<R> {
     fn passes(&mut self, said: &Error) -> bool
         ensures clients { self.new.clients ≡ self.old.clients }
         ensures faults { self.new.faults ≡ self.old.faults }
-        ensures losses { self.new.losses ≡ self.old.losses }
     {
         is_passing(said) && self.passing.admit()
     }
@@ -225,7 +219,6 @@ impl<R: Net + Copy> UdpLink<R> {
         ensures sender { IfOk result (λ peer. Recognizes peer sender self.old.clients self.new.clients) }
         ensures passing { self.new.passing ≡ self.old.passing }
         ensures faults { self.new.faults ≡ self.old.faults }
-        ensures losses { self.new.losses ≡ self.old.losses }
     {
         for r in 0..15 {
             if let Some(rank) = Rank::new(r)
@@ -239,7 +232,6 @@ impl<R: Net + Copy> UdpLink<R> {
 
     fn put(&mut self, to: Peer, bytes: &[u8]) -> io::Result<usize>
         ensures faults { self.new.faults ≡ self.old.faults }
-        ensures losses { self.new.losses ≡ self.old.losses }
     {
         self.open()?;
         let address = match to {
@@ -323,13 +315,13 @@ fn is_passing(said: &Error) -> bool {
 }
 
 impl<R: Net + Copy> Link for UdpLink<R> {
-    ghost state = { λ l. unseen l.faults l.losses };
+    ghost state = { λ l. unseen l.faults };
 
-    /// Of what came and went nothing is known but how much of it failed.
-    ghost history = { λ l h. Leads h (unseen 0 0) (unseen l.faults l.losses) };
+    /// Of what came and went nothing is known but how many receives failed. Other calls may have been made before.
+    ghost history = { λ l h. (before : ℕ) × Leads h (unseen before) (unseen l.faults) };
 
     fn next(&mut self, wait: u64) -> Result<Got, Stop>
-        ensures calls { CallsNext wait result (unseen self.old.faults self.old.losses) (unseen self.new.faults self.new.losses) }
+        ensures calls { CallsNext wait result (unseen self.old.faults) (unseen self.new.faults) }
         ensures sender { IfOk result (λ got. KnowsSender got self.old.clients self.new.clients) }
         ensures passing { IfOk result (λ got. IsTrue (is_datagram got) → self.new.passing.count ≡ 0) }
     {
@@ -364,15 +356,11 @@ impl<R: Net + Copy> Link for UdpLink<R> {
     }
 
     fn send(&mut self, to: Peer, bytes: &[u8]) -> Result<(), Stop>
-        ensures calls { CallsSend to bytes.now result (unseen self.old.faults self.old.losses)
-            (unseen self.new.faults self.new.losses) }
+        ensures calls { CallsSend to bytes.now result (unseen self.old.faults) (unseen self.new.faults) }
     {
         match self.put(to, bytes) {
             Ok(count) if count == bytes.len() => Ok(()),
-            _ => {
-                self.losses = raised(self.losses);
-                Err(Stop::Failed)
-            }
+            _ => Err(Stop::Failed),
         }
     }
 }

@@ -69,31 +69,23 @@ last_foreign tag wait old new t = by t.gave t.asks t.opens
 
 -- ---- what is counted
 
-record SameCounts (last : Result Got Stop) (old new : LinkState) : Type 0 where
-  faults : new.faults ≡ count_after last old.faults
-  losses : new.losses ≡ old.losses
+abbrev Counts : (last : Result Got Stop) → (old new : LinkState) → Type 0
+Counts last old new = new.faults ≡ count_after last old.faults
 
 is_got : (tag : ℕ) (answer : Result Got Stop) (count : ℕ) → is_foreign tag answer ≡ true → count_after answer count ≡ count
 is_got tag (Ok got) count foreign = refl
 is_got tag (Err e) count foreign = absurd cc
 
-counts : (most tag wait : ℕ) (last : Result Got Stop) (old new : LinkState) → AsksPast most tag wait last old new → SameCounts last old new
+counts : (most tag wait : ℕ) (last : Result Got Stop) (old new : LinkState) → AsksPast most tag wait last old new → Counts last old new
 unfolding AsksPast
-counts zero tag wait last old new p = record { faults = p.faults; losses = p.losses }
+counts zero tag wait last old new p = p.faults
 counts (suc most) tag wait last old new p = by (is_foreign tag p.0) refl p.3 (counts most tag 0 last p.1 new)
   where
-    by : (b : Bool) → is_foreign tag p.0 ≡ b → Unless b (AsksPast most tag 0) p.0 last p.1 new → (AsksPast most tag 0 last p.1 new → SameCounts last p.1 new) → SameCounts last old new
+    by : (b : Bool) → is_foreign tag p.0 ≡ b → Unless b (AsksPast most tag 0) p.0 last p.1 new → (AsksPast most tag 0 last p.1 new → Counts last p.1 new) → Counts last old new
     by true foreign rest next =
-        let n = next rest in
-        record {
-          faults = n.faults ∙ ap (count_after last) (p.2.faults ∙ is_got tag p.0 old.faults foreign);
-          losses = n.losses ∙ p.2.losses;
-        }
+        next rest ∙ ap (count_after last) (p.2.faults ∙ is_got tag p.0 old.faults foreign)
     by false foreign rest next =
-        record {
-          faults = ap (λ (s : LinkState). s.faults) rest.1 ∙ p.2.faults ∙ ap (λ x. count_after x old.faults) (sym rest.0);
-          losses = ap (λ (s : LinkState). s.losses) rest.1 ∙ p.2.losses;
-        }
+        ap (λ (s : LinkState). s.faults) rest.1 ∙ p.2.faults ∙ ap (λ x. count_after x old.faults) (sym rest.0)
 
 same_count : (tag : ℕ) (gave result : Result Got Stop) (count : ℕ) → HandsOn tag gave result → count_after gave count ≡ count_after result count
 same_count tag (Ok got) result count (inl is) = rw is refl
@@ -102,7 +94,4 @@ same_count tag (Ok got) result count (inr none) = rw none.0 refl
 same_count tag (Err e) result count (inr none) = absurd none.1
 
 pub unframes_faults : (tag wait : ℕ) (result : Result Got Stop) (old new : LinkState) → Unframes tag wait result old new → new.faults ≡ count_after result old.faults
-unframes_faults tag wait result old new u = (counts _ tag wait u.gave old new u.asks).faults ∙ same_count tag u.gave result old.faults u.hands
-
-pub unframes_losses : (tag wait : ℕ) (result : Result Got Stop) (old new : LinkState) → Unframes tag wait result old new → new.losses ≡ old.losses
-unframes_losses tag wait result old new u = (counts _ tag wait u.gave old new u.asks).losses
+unframes_faults tag wait result old new u = counts _ tag wait u.gave old new u.asks ∙ same_count tag u.gave result old.faults u.hands

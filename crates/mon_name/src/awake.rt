@@ -1,6 +1,7 @@
 ghost use Rattle.std.specs.Prelude.{◌≡◌, true, false, None, Ok};
 ghost use Rattle.mon_link.specs.Histories.Happened.{Received, WasSent};
 ghost use Rattle.mon_link.specs.Layers.{Above, Grows};
+ghost use Rattle.mon_link.specs.Links.{unseen};
 ghost use Rattle.mon_link.specs.declared.link.Got.TheVariants.{Closed};
 ghost use Rattle.mon_name.specs.Awake.{NextAwake, SendAwake};
 ghost use Rattle.mon_name.specs.Histories.{AwakeDoes, NotStood};
@@ -29,6 +30,14 @@ impl<L: Link + Drop, C: Clock + Drop> Awake<L, C> {
         }
     }
 
+    /// Opens the link again, as a new one that may stand still for `most` milliseconds.
+    pub fn reopen(&mut self, clock: C, most: u64)
+        ensures inner { self.new.inner ≡ self.old.inner }
+        ensures gaps { self.new.gaps ≡ record { left = C.left clock; most = most; last = None; stood = false } }
+    {
+        self.gaps = Gaps::new(clock, most);
+    }
+
     /// Whether a gap was seen: the monitor stood still for longer than `most` milliseconds.
     pub fn stood(&self) -> bool
         ensures { result ≡ self.now.gaps.stood }
@@ -38,11 +47,7 @@ impl<L: Link + Drop, C: Clock + Drop> Awake<L, C> {
 }
 
 impl<L: Link + Drop, C: Clock + Drop> Link for Awake<L, C> {
-    ghost state = { λ r. record {
-      observed = None;
-      faults = (L.state r.inner).faults;
-      losses = (L.state r.inner).losses;
-    } };
+    ghost state = { λ r. unseen (L.state r.inner).faults };
 
     ghost history = { λ r. Above AwakeDoes NotStood (L.history r.inner) r.gaps };
 

@@ -1,6 +1,6 @@
 //! The number of a life: of one process of a monitor, whatever became of its store.
 
-ghost use Rattle.std.specs.Prelude.{◌≡◌, ◌<◌, ◌^◌};
+ghost use Rattle.std.specs.Prelude.{◌≡◌, ◌<◌, ◌^◌, IfOk};
 ghost use Rattle.mon_name.specs.Numbers.{life_of};
 
 use mon_types::{GREATEST, Number};
@@ -31,7 +31,9 @@ fn nanos<R: Clock>(rt: &R) -> io::Result<[u8; 8]> {
 
 /// The number of a new life: 62 random bits, or the time in nanoseconds if the system has no randomness. An error if it
 /// has no time either.
-pub fn new_life<R: RandomSource + Clock>(rt: &R) -> io::Result<Life> {
+pub fn new_life<R: RandomSource + Clock>(rt: &R) -> io::Result<Life>
+    ensures { IfOk result (λ life. life < 2 ^ 62) }
+{
     let mut drawn = [0; 8];
     match rt.fill_bytes(&mut drawn) {
         Ok(()) => Ok(life_of(drawn)),

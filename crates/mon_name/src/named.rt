@@ -1,7 +1,7 @@
 ghost use Rattle.std.specs.Prelude.{◌≡◌};
 ghost use Rattle.mon_link.specs.Histories.Happened.{Received, WasSent};
 ghost use Rattle.mon_link.specs.Layers.{Above, Grows};
-ghost use Rattle.mon_link.specs.Links.{CallsSend};
+ghost use Rattle.mon_link.specs.Links.{CallsSend, unseen};
 ghost use Rattle.mon_link.specs.declared.link.Got.TheVariants.{Datagram};
 ghost use Rattle.mon_link.specs.declared.link.Peer.TheVariants.{Client, Monitor};
 ghost use Rattle.mon_name.specs.Histories.{AnyNames, IsAskedOnce, IsAskedPast, IsAskedToSend, NamedDoes, names};
@@ -10,8 +10,9 @@ ghost use Rattle.mon_name.specs.Naming.{Opens, Takes, Unframes, wired};
 
 use crate::frame::{framed_for, unframed};
 use crate::life::Life;
-use crate::renumber::{is_piece, renumbered};
+use crate::renumber::renumbered;
 use mon_bytes::{Bytes, OutOfMemory};
+use mon_frag::is_piece;
 use mon_link::{Got, Link, Peer};
 use mon_types::{Rank, Stop};
 use std::alloc::Global;
@@ -130,13 +131,7 @@ impl<L: Link + Drop> Named<L> {
 }
 
 impl<L: Link + Drop> Link for Named<L> {
-    ghost use Rattle.std.specs.Prelude.{None};
-
-    ghost state = { λ r. record {
-      observed = None;
-      faults = (L.state r.inner).faults;
-      losses = (L.state r.inner).losses;
-    } };
+    ghost state = { λ r. unseen (L.state r.inner).faults };
 
     ghost history = { λ r. Above NamedDoes AnyNames (L.history r.inner) (names r.tag r.life) };
 

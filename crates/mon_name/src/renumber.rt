@@ -1,23 +1,10 @@
 ghost use Rattle.std.specs.Prelude.{◌≡◌, ◌++◌, IfOk, OnOk, take, drop};
-ghost use Rattle.mon_frag.specs.Headers.{is_piece};
 ghost use Rattle.mon_name.specs.Numbers.{renumbered};
 
 use crate::life::Life;
 use mon_bytes::{Bytes, Out, OutOfMemory};
+use mon_frag::is_piece;
 use std::alloc::Global;
-
-/// The byte with which a piece of a long message begins.
-const PIECE: u8 = 2;
-
-/// Whether a datagram is a piece of a long message.
-pub(crate) fn is_piece(datagram: &[u8]) -> bool
-    ensures { result ≡ is_piece datagram.now }
-{
-    match datagram.first() {
-        Some(mark) => *mark == PIECE,
-        None => false,
-    }
-}
 
 /// The bytes of a piece before its sender's boot.
 #[tactic(auto, using(std::proofs::lemmas::List::take_min))]

@@ -71,23 +71,23 @@ fn send_letter<L: Link>(
     link: &mut L,
     boot: u64,
     next: &mut u64,
-    letter: &Outgoing,
+    letter: Outgoing,
 ) -> Result<(), NodeEnd>
-    requires short { length letter.now.bytes ≤ MOST_MESSAGE }
+    requires short { length letter.bytes ≤ MOST_MESSAGE }
     requires next { next.old ≤ 2 ^ 62 + 1 }
-    ensures posts { Posts (datagrams_of boot next.old letter.now) result
+    ensures posts { Posts (datagrams_of boot next.old letter) result
         (link_now L.state L.history link.old) (link_now L.state L.history link.new) }
-    ensures behind { OnOk result (next.new ≡ next_after_message next.old (length letter.now.bytes)) }
+    ensures behind { OnOk result (next.new ≡ next_after_message next.old (length letter.bytes)) }
     ensures most { OnOk result (next.new ≤ 2 ^ 62 + 1) }
-    ensures spent { IfErr result (IsSpent (next_after_message next.old (length letter.now.bytes))) }
-    ensures unsent { 2 ^ 62 + 1 < next_after_message next.old (length letter.now.bytes)
+    ensures spent { IfErr result (IsSpent (next_after_message next.old (length letter.bytes))) }
+    ensures unsent { 2 ^ 62 + 1 < next_after_message next.old (length letter.bytes)
         → (L.state link.new ≡ L.state link.old)
         × ((h : List Happened) → L.history link.old h → L.history link.new h) }
 {
-    let bytes = letter.bytes.as_slice();
-    let number = numbered(next, bytes.len())?;
+    let Outgoing { to, bytes } = letter;
+    let number = numbered(next, bytes.as_slice().len())?;
     let datagrams = pieces(alloc, bytes, boot, number)?;
-    send_each(link, &letter.to, datagrams.as_slice())?;
+    send_each(link, &to, datagrams.as_slice())?;
     Ok(())
 }
 
@@ -170,7 +170,7 @@ pub(crate) fn send_all<L: Link>(
     let boot = kv.boot_count();
     for sent in out.into_vec() {
         let letter = letter(alloc, me, epoch, sent)?;
-        send_letter(alloc, link, boot, next, &letter)?;
+        send_letter(alloc, link, boot, next, letter)?;
     }
     Ok(())
 }

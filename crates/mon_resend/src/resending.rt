@@ -5,17 +5,17 @@ ghost use Rattle.mon_resend.specs.Copied.{AreOf, AsksOnce, datagram};
 ghost use Rattle.mon_resend.specs.Histories.{NothingKept, ResendingDoes};
 ghost use Rattle.mon_resend.specs.Sending.{Receives, Sends, SendsEach, isnt_handed_up, may_go, outs, run_after, with_got};
 ghost use Rattle.mon_resend.specs.Shelves.{due_copies, due_copy_at};
-ghost use Rattle.mon_resend.specs.World.{all_due_copies, all_passed, box_of, fresh, is_sent_now, sent};
+ghost use Rattle.mon_resend.specs.World.{all_due_copies, all_passed, box_of, fresh, is_sent_now, sent, unkept_of};
 ghost use Rattle.mon_link.specs.Clocks.{after};
 ghost use Rattle.mon_link.specs.Histories.{GoesOn};
 ghost use Rattle.mon_link.specs.Histories.Happened.{Received, WasSent};
 ghost use Rattle.mon_link.specs.Layers.{Above, Grows, Sent};
-ghost use Rattle.mon_link.specs.Links.{CallsSend, count_after};
+ghost use Rattle.mon_link.specs.Links.{CallsSend, unseen};
 ghost use Rattle.mon_link.specs.declared.link.Peer.TheVariants.{Monitor};
 
 use crate::copies::Copies;
 use crate::outbox::Answer;
-use mon_link::{Clock, Got, Link, Peer};
+use mon_link::{Clock, Got, Keeps, Link, Peer};
 use mon_types::{Rank, Stop};
 use std::alloc::Global;
 
@@ -28,7 +28,6 @@ pub struct Resending<L: Link + Drop, C: Clock + Drop> {
     pub inner: L,
     pub clock: C,
     pub copies: Copies,
-    pub losses: u64,
     pub run: u64,
     alloc: Global,
 }
@@ -38,16 +37,24 @@ impl<L: Link + Drop, C: Clock + Drop> Resending<L, C> {
     pub fn new(alloc: Global, inner: L, clock: C) -> Resending<L, C>
         ensures inner { result.inner ≡ inner }
         ensures copies { result.copies ≡ fresh }
-        ensures losses { result.losses ≡ 0 }
     {
         Resending {
             inner,
             clock,
             copies: Copies::new(alloc),
-            losses: 0,
             run: 0,
             alloc,
         }
+    }
+
+    /// Drops all copies, as a new link over the same one.
+    pub fn forget(&mut self)
+        ensures inner { self.new.inner ≡ self.old.inner }
+        ensures clock { self.new.clock ≡ self.old.clock }
+        ensures copies { self.new.copies ≡ fresh }
+    {
+        self.copies = Copies::new(self.alloc);
+        self.run = 0;
     }
 
     /// Sends one of the copies for a monitor, if it is due. A failure of the link below is ignored.
@@ -55,7 +62,7 @@ impl<L: Link + Drop, C: Clock + Drop> Resending<L, C> {
         requires { place < 15 }
         ensures sends { SendsEach (due_copy_at again now (slice_get (box_of place self.old.copies).shelf at)) (L.state self.old.inner) (L.state self.new.inner) }
         ensures grows { Grows (L.history self.old.inner) (Sent (due_copy_at again now (slice_get (box_of place self.old.copies).shelf at))) (L.history self.new.inner) }
-        ensures others { (self.new.copies ≡ self.old.copies) × (self.new.losses ≡ self.old.losses) × (self.new.run ≡ self.old.run) }
+        ensures others { (self.new.copies ≡ self.old.copies) × (self.new.run ≡ self.old.run) }
     {
         let Some(kept) = self.copies.kept(place).get(at) else {
             return;
@@ -71,7 +78,7 @@ impl<L: Link + Drop, C: Clock + Drop> Resending<L, C> {
         requires { place < 15 }
         ensures sends { SendsEach (due_copies again now (box_of place self.old.copies).shelf) (L.state self.old.inner) (L.state self.new.inner) }
         ensures grows { Grows (L.history self.old.inner) (Sent (due_copies again now (box_of place self.old.copies).shelf)) (L.history self.new.inner) }
-        ensures others { (self.new.copies ≡ self.old.copies) × (self.new.losses ≡ self.old.losses) × (self.new.run ≡ self.old.run) }
+        ensures others { (self.new.copies ≡ self.old.copies) × (self.new.run ≡ self.old.run) }
     {
         for at in 0..self.copies.kept(place).len() {
             self.repeat_one(place, at, again, now);
@@ -83,7 +90,7 @@ impl<L: Link + Drop, C: Clock + Drop> Resending<L, C> {
         ensures sends { SendsEach (all_due_copies again now self.old.copies) (L.state self.old.inner) (L.state self.new.inner) }
         ensures grows { Grows (L.history self.old.inner) (Sent (all_due_copies again now self.old.copies)) (L.history self.new.inner) }
         ensures kept { self.new.copies ≡ all_passed again now self.old.copies }
-        ensures others { (self.new.losses ≡ self.old.losses) × (self.new.run ≡ self.old.run) }
+        ensures run { self.new.run ≡ self.old.run }
     {
         for place in 0..15 {
             self.repeat_at(place, again, now);
@@ -95,13 +102,8 @@ impl<L: Link + Drop, C: Clock + Drop> Resending<L, C> {
         ensures sends { CallsSend to bytes.now result (L.state self.old.inner) (L.state self.new.inner) }
         ensures goes_on { GoesOn (L.history self.old.inner) (WasSent to bytes.now result) (L.history self.new.inner) }
         ensures kept { self.new.copies ≡ self.old.copies }
-        ensures losses { self.new.losses ≡ count_after result self.old.losses }
     {
-        let sent = self.inner.send(to, bytes);
-        if let Err(Stop::Failed) = sent {
-            self.losses = self.losses.saturating_add(1);
-        }
-        sent
+        self.inner.send(to, bytes)
     }
 
     /// Counts consecutive datagrams. Returns whether messages may be sent again: if the link below gave no datagram, or
@@ -146,9 +148,7 @@ impl<L: Link + Drop, C: Clock + Drop> Resending<L, C> {
 }
 
 impl<L: Link + Drop, C: Clock + Drop> Link for Resending<L, C> {
-    ghost use Rattle.std.specs.Prelude.{None};
-
-    ghost state = { λ r. record { observed = None; faults = (L.state r.inner).faults; losses = r.losses } };
+    ghost state = { λ r. unseen (L.state r.inner).faults };
 
     ghost history = { λ r. Above ResendingDoes NothingKept (L.history r.inner) r.copies };
 
@@ -160,7 +160,6 @@ impl<L: Link + Drop, C: Clock + Drop> Link for Resending<L, C> {
         ensures kept { AreOf (outs self.old.copies) (outs self.new.copies) }
         ensures does { Grows (L.history self.old.inner)
             (λ calls. ResendingDoes self.old.copies (Received wait result) calls self.new.copies) (L.history self.new.inner) }
-        ensures losses { self.new.losses ≡ self.old.losses }
     {
         let before = self.clock.now().get();
         let rest = self.copies.next_wait(before, wait);
@@ -184,7 +183,6 @@ impl<L: Link + Drop, C: Clock + Drop> Link for Resending<L, C> {
         ensures kept { AreOf (outs self.old.copies ++ datagram to bytes.now ∷ []) (outs self.new.copies) }
         ensures does { Grows (L.history self.old.inner)
             (λ calls. ResendingDoes self.old.copies (WasSent to bytes.now result) calls self.new.copies) (L.history self.new.inner) }
-        ensures losses { self.new.losses ≡ count_after result self.old.losses }
     {
         match to {
             Peer::Monitor(rank) => {
@@ -196,5 +194,13 @@ impl<L: Link + Drop, C: Clock + Drop> Link for Resending<L, C> {
             }
             Peer::Client(number) => self.passes(Peer::Client(number), bytes),
         }
+    }
+}
+
+impl<L: Link + Drop, C: Clock + Drop> Keeps for Resending<L, C> {
+    ghost unkept = { λ r. unkept_of r.copies };
+
+    fn unkept(&self) -> u64 {
+        self.copies.unkept()
     }
 }

@@ -52,9 +52,10 @@ after_send (Ok x) = Ok tt
 after_send (Err Failed) = Ok tt
 after_send (Err OutOfMemory) = Err OutOfMemory
 
--- what the monitor answers: what is noted, and what was counted of its disks
-unfoldable pub answer : Member → Notes → (id : ℕ) → (a b : DiskTimes) → List ℕ
-answer m n id a b = answer_text id (compact_text (report_data (record { member = m; notes = n; a = a; b = b })))
+-- what the monitor answers: what is noted, what was counted of its disks, and how many copies weren't kept
+unfoldable pub answer : Member → Notes → (id : ℕ) → (a b : DiskTimes) → (unkept : ℕ) → List ℕ
+answer m n id a b unkept =
+    answer_text id (compact_text (report_data (record { member = m; notes = n; a = a; b = b; unkept = unkept })))
 
 -- a link was asked for nothing but to send this to a client
 abbrev pub SendsTo : (client : ℕ) → List ℕ → (went : Result (Unit {0}) Stop) → (old new : LinkState) → Type 0
@@ -62,10 +63,10 @@ SendsTo client bytes went old new =
     (answered : Result (Unit {0}) Stop) × CallsSend (Client client) bytes answered old new × (went ≡ after_send answered)
 
 -- A link was asked for nothing but to send the answer to the client that asked.
-abbrev pub SendsAnswer : Option Asker → Member → Notes → (went : Result (Unit {0}) Stop) → (old new : LinkState) → Type 0
-SendsAnswer None m n went old new = (went ≡ Ok tt) × (new ≡ old)
-SendsAnswer (Some asker) m n went old new =
-    (a : DiskTimes) × (b : DiskTimes) × SendsTo asker.client (answer m n asker.id a b) went old new
+abbrev pub SendsAnswer : Option Asker → Member → Notes → (unkept : ℕ) → (went : Result (Unit {0}) Stop) → (old new : LinkState) → Type 0
+SendsAnswer None m n unkept went old new = (went ≡ Ok tt) × (new ≡ old)
+SendsAnswer (Some asker) m n unkept went old new =
+    (a : DiskTimes) × (b : DiskTimes) × SendsTo asker.client (answer m n asker.id a b unkept) went old new
 
 -- ---- a call of `next`
 
@@ -91,7 +92,8 @@ pub record Answers (m : Member) (clock : Option Readings) (got : Got) (result : 
   pub notes : after.notes ≡ notes_got now (passed got) before.notes
   pub untils : after.untils ≡ untils_after now (asker got) before.untils
   pub went : Result (Unit {0}) Stop
-  pub sends : SendsAnswer (admitted now before.untils (asker got)) m after.notes went old new
+  pub unkept : ℕ
+  pub sends : SendsAnswer (admitted now before.untils (asker got)) m after.notes unkept went old new
       ⊎ (IsSome (admitted now before.untils (asker got)) × (went ≡ Err OutOfMemory) × (new ≡ old))
   pub hands : result ≡ handed got went
 

@@ -30,7 +30,7 @@ SentTo client bytes went calls =
 abbrev pub AnswerIsSent : Option Asker → WatchState → (went : Result (Unit {0}) Stop) → List Happened → Type 0
 AnswerIsSent None s went calls = (went ≡ Ok tt) × (calls ≡ [])
 AnswerIsSent (Some asker) s went calls =
-    ((a : DiskTimes) × (b : DiskTimes) × SentTo asker.client (answer s.member s.notes asker.id a b) went calls)
+    ((a : DiskTimes) × (b : DiskTimes) × (unkept : ℕ) × SentTo asker.client (answer s.member s.notes asker.id a b unkept) went calls)
     ⊎ ((went ≡ Err OutOfMemory) × (calls ≡ []))
 
 -- The link below gave `got`. It is noted, and an answer is sent to a client that asked, if it is answered now.

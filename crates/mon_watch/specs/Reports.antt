@@ -85,11 +85,12 @@ with_disks a b ms = put (codes "disks") (array (item (disk_data a) (item (disk_d
 
 abbrev pub with_all : Report → Members → Members
 with_all r ms =
-    with_disks r.a r.b
+    put (codes "unkept") (count r.unkept)
+    (with_disks r.a r.b
     (with_traffic r.notes.traffic
     (with_seen r.notes.seen
     (with_contacts r.notes.now (take r.member.monitors r.notes.seen.contacts)
-    (with_member r.member r.notes.now ms))))
+    (with_member r.member r.notes.now ms)))))
 
 abbrev pub report_data : Report → Data
 report_data r = object (with_all r no_members)

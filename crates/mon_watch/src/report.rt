@@ -17,13 +17,14 @@ use mon_wire::Phase;
 use serde_json::{Map, Value};
 use std::alloc::Global;
 
-/// What is known of a monitor, and of its two disks.
+/// What is known of a monitor, and of its two disks; and how many copies of datagrams its link didn't keep.
 #[derive(Clone, Copy)]
 pub struct Report {
     pub member: Member,
     pub notes: Notes,
     pub a: DiskTimes,
     pub b: DiskTimes,
+    pub unkept: u64,
 }
 
 fn phase_name(phase: Phase) -> &'static str
@@ -243,7 +244,8 @@ fn add_all(
     add_contacts(alloc, members, notes.now, known)?;
     add_seen(alloc, members, &notes.seen)?;
     add_traffic(alloc, members, &notes.traffic)?;
-    add_disks(alloc, members, report)
+    add_disks(alloc, members, report)?;
+    add(alloc, members, "unkept", Value::from(report.unkept))
 }
 
 /// The object of a report.

@@ -1,9 +1,8 @@
 ghost use Rattle.std.specs.Prelude.{◌≡◌, ◌≤◌, IfSome};
-ghost use Rattle.mon_frag.specs.Headers.{is_piece};
 ghost use Rattle.mon_watch.specs.Traffic.{counted_at, no_traffic, place, with_received, with_sent};
 
 use mon_decode::kind_byte;
-use mon_frag::PIECE;
+use mon_frag::is_piece;
 use mon_wire::Kind;
 
 /// How many datagrams were sent and received: those that name a kind at its byte, and pieces of long messages at 0.
@@ -13,16 +12,6 @@ pub struct Traffic {
     pub sent: [u64; 26],
     pub received: [u64; 26],
     pub refused: u64,
-}
-
-/// Whether a datagram is a piece of a long message.
-fn is_piece(bytes: &[u8]) -> bool
-    ensures { result ≡ is_piece bytes.now }
-{
-    match bytes.first() {
-        Some(mark) => *mark == PIECE,
-        None => false,
-    }
 }
 
 fn place(bytes: &[u8], kind: Option<Kind>) -> Option<usize>

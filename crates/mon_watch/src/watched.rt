@@ -3,7 +3,7 @@
 ghost use Rattle.std.specs.Prelude.{◌≡◌, ◌⊎◌, Some, Err, IfErr, IfOk, IsSome};
 ghost use Rattle.mon_link.specs.Histories.Happened.{Received, WasSent};
 ghost use Rattle.mon_link.specs.Layers.{Above, Grows};
-ghost use Rattle.mon_link.specs.Links.{CallsSend, count_after};
+ghost use Rattle.mon_link.specs.Links.{CallsSend, unseen};
 ghost use Rattle.mon_types.specs.declared.names.Stop.TheVariants.{OutOfMemory as no_memory};
 ghost use Rattle.mon_watch.specs.Answering.{AsksOnce, SendsAnswer, SendsTo, admitted, after_send, answer, asked_by, asker, noted, passed, untils_after};
 ghost use Rattle.mon_watch.specs.Histories.{AnswerIsSent, NothingNoted, SentTo, WatchedDoes, watching};
@@ -17,7 +17,7 @@ use crate::request::{Asker, answer_of, is_watch, read_status_request};
 use crate::times::DiskTimes;
 use answer_times::AnswerTimes;
 use mon_bytes::{Bytes, OutOfMemory};
-use mon_link::{Clock, Got, Link, Peer};
+use mon_link::{Clock, Got, Keeps, Link, Peer};
 use mon_types::{Member, Moment, Stop};
 use std::alloc::Global;
 use std::cell::Cell;
@@ -38,12 +38,11 @@ pub struct Watch<S: LineReceiver + Drop> {
 /// A link that passes on what its monitor sends and gets, except datagrams of the watch. It notes the headers of these
 /// messages, writes lines about what they show, and answers clients that ask for it, each at most once in a second.
 #[derive(Drop)]
-pub struct Watched<L: Link + Drop, C: Clock + Drop, S: LineReceiver + Drop> {
+pub struct Watched<L: Link + Keeps + Drop, C: Clock + Drop, S: LineReceiver + Drop> {
     pub inner: L,
     pub clock: C,
     pub watch: Watch<S>,
     pub notes: Notes,
-    pub losses: u64,
     said: Said,
 }
 
@@ -99,13 +98,14 @@ fn after_send(sent: Result<(), Stop>) -> Result<(), Stop>
 /// The datagram that answers the request of this number.
 #[tactic(auto, unfolding(crate::specs::Answering::answer))]
 fn answer_to(alloc: Global, id: u64, report: &Report) -> Result<Bytes, OutOfMemory>
-    ensures { IfOk result (λ bytes. bytes ≡ answer report.now.member report.now.notes id report.now.a report.now.b) }
+    ensures { IfOk result (λ bytes. bytes ≡
+        answer report.now.member report.now.notes id report.now.a report.now.b report.now.unkept) }
 {
     let text = report_text(alloc, report)?;
     answer_of(alloc, id, text.as_bytes())
 }
 
-impl<L: Link + Drop, C: Clock + Drop, S: LineReceiver + Drop> Watched<L, C, S> {
+impl<L: Link + Keeps + Drop, C: Clock + Drop, S: LineReceiver + Drop> Watched<L, C, S> {
     /// A link over `inner` that has noted nothing yet.
     pub fn new(inner: L, clock: C, watch: Watch<S>) -> Watched<L, C, S>
         ensures inner { result.inner ≡ inner }
@@ -113,23 +113,32 @@ impl<L: Link + Drop, C: Clock + Drop, S: LineReceiver + Drop> Watched<L, C, S> {
         ensures member { result.watch.member ≡ watch.member }
         ensures answered { result.watch.answered ≡ watch.answered }
         ensures notes { result.notes ≡ no_notes }
-        ensures losses { result.losses ≡ 0 }
     {
         Watched {
             inner,
             clock,
             watch,
             notes: Notes::new(),
-            losses: 0,
             said: Said::new(),
         }
+    }
+
+    /// Drops all notes, as a new link over the same one.
+    pub fn forget(&mut self)
+        ensures inner { self.new.inner ≡ self.old.inner }
+        ensures clock { self.new.clock ≡ self.old.clock }
+        ensures watch { self.new.watch ≡ self.old.watch }
+        ensures notes { self.new.notes ≡ no_notes }
+    {
+        self.notes = Notes::new();
+        self.said = Said::new();
     }
 
     /// The client, if one asked that is answered now.
     fn admits(&mut self, asker: Option<Asker>, now: Moment) -> Option<Asker>
         ensures admitted { result ≡ admitted now self.old.watch.answered asker }
         ensures after { self.new.watch.answered ≡ untils_after now asker self.old.watch.answered }
-        ensures kept { (self.new.notes ≡ self.old.notes) × (self.new.watch.member ≡ self.old.watch.member) × (self.new.losses ≡ self.old.losses) }
+        ensures kept { (self.new.notes ≡ self.old.notes) × (self.new.watch.member ≡ self.old.watch.member) }
         ensures below { self.new.inner ≡ self.old.inner }
     {
         let asker = asker?;
@@ -144,7 +153,7 @@ impl<L: Link + Drop, C: Clock + Drop, S: LineReceiver + Drop> Watched<L, C, S> {
     fn sends_to(&mut self, client: u32, bytes: &[u8]) -> Result<(), Stop>
         ensures sends { SendsTo client bytes.now result (L.state self.old.inner) (L.state self.new.inner) }
         ensures grows { Grows (L.history self.old.inner) (SentTo client bytes.now result) (L.history self.new.inner) }
-        ensures kept { (self.new.notes ≡ self.old.notes) × (self.new.watch.member ≡ self.old.watch.member) × (self.new.losses ≡ self.old.losses) }
+        ensures kept { (self.new.notes ≡ self.old.notes) × (self.new.watch.member ≡ self.old.watch.member) }
         ensures answered { self.new.watch.answered ≡ self.old.watch.answered }
         ensures memory { IfErr result (λ e. e ≡ no_memory) }
         ensures faults { (L.state self.new.inner).faults ≡ (L.state self.old.inner).faults }
@@ -154,11 +163,12 @@ impl<L: Link + Drop, C: Clock + Drop, S: LineReceiver + Drop> Watched<L, C, S> {
 
     /// Sends a report to the client that asked.
     fn answers(&mut self, asker: Asker) -> Result<(), Stop>
-        ensures sends { SendsAnswer (Some asker) self.old.watch.member self.old.notes result (L.state self.old.inner) (L.state self.new.inner)
+        ensures sends { SendsAnswer (Some asker) self.old.watch.member self.old.notes (L.unkept self.old.inner) result
+            (L.state self.old.inner) (L.state self.new.inner)
             ⊎ ((result ≡ Err no_memory) × (L.state self.new.inner ≡ L.state self.old.inner)) }
         ensures grows { Grows (L.history self.old.inner)
             (AnswerIsSent (Some asker) (watching self.old.watch.member self.old.notes) result) (L.history self.new.inner) }
-        ensures kept { (self.new.notes ≡ self.old.notes) × (self.new.watch.member ≡ self.old.watch.member) × (self.new.losses ≡ self.old.losses) }
+        ensures kept { (self.new.notes ≡ self.old.notes) × (self.new.watch.member ≡ self.old.watch.member) }
         ensures answered { self.new.watch.answered ≡ self.old.watch.answered }
         ensures memory { IfErr result (λ e. e ≡ no_memory) }
         ensures faults { (L.state self.new.inner).faults ≡ (L.state self.old.inner).faults }
@@ -168,6 +178,7 @@ impl<L: Link + Drop, C: Clock + Drop, S: LineReceiver + Drop> Watched<L, C, S> {
             notes: self.notes,
             a: self.watch.a.get(),
             b: self.watch.b.get(),
+            unkept: self.inner.unkept(),
         };
         let alloc = self.watch.alloc;
         let Ok(datagram) = answer_to(alloc, asker.id, &report) else {
@@ -178,11 +189,12 @@ impl<L: Link + Drop, C: Clock + Drop, S: LineReceiver + Drop> Watched<L, C, S> {
 
     /// Sends a report, if a client asked.
     fn answers_if(&mut self, asker: Option<Asker>) -> Result<(), Stop>
-        ensures sends { SendsAnswer asker self.old.watch.member self.old.notes result (L.state self.old.inner) (L.state self.new.inner)
+        ensures sends { SendsAnswer asker self.old.watch.member self.old.notes (L.unkept self.old.inner) result
+            (L.state self.old.inner) (L.state self.new.inner)
             ⊎ (IsSome asker × (result ≡ Err no_memory) × (L.state self.new.inner ≡ L.state self.old.inner)) }
         ensures grows { Grows (L.history self.old.inner)
             (AnswerIsSent asker (watching self.old.watch.member self.old.notes) result) (L.history self.new.inner) }
-        ensures kept { (self.new.notes ≡ self.old.notes) × (self.new.watch.member ≡ self.old.watch.member) × (self.new.losses ≡ self.old.losses) }
+        ensures kept { (self.new.notes ≡ self.old.notes) × (self.new.watch.member ≡ self.old.watch.member) }
         ensures answered { self.new.watch.answered ≡ self.old.watch.answered }
         ensures memory { IfErr result (λ e. e ≡ no_memory) }
         ensures faults { (L.state self.new.inner).faults ≡ (L.state self.old.inner).faults }
@@ -194,10 +206,8 @@ impl<L: Link + Drop, C: Clock + Drop, S: LineReceiver + Drop> Watched<L, C, S> {
     }
 }
 
-impl<L: Link + Drop, C: Clock + Drop, S: LineReceiver + Drop> Link for Watched<L, C, S> {
-    ghost use Rattle.std.specs.Prelude.{None};
-
-    ghost state = { λ r. record { observed = None; faults = (L.state r.inner).faults; losses = r.losses } };
+impl<L: Link + Keeps + Drop, C: Clock + Drop, S: LineReceiver + Drop> Link for Watched<L, C, S> {
+    ghost state = { λ r. unseen (L.state r.inner).faults };
 
     ghost history = { λ r. Above WatchedDoes NothingNoted (L.history r.inner) (watching r.watch.member r.notes) };
 
@@ -211,7 +221,6 @@ impl<L: Link + Drop, C: Clock + Drop, S: LineReceiver + Drop> Link for Watched<L
             (λ calls. WatchedDoes (watching self.old.watch.member self.old.notes) (Received wait result) calls
             (watching self.new.watch.member self.new.notes)) (L.history self.new.inner) }
         ensures member { self.new.watch.member ≡ self.old.watch.member }
-        ensures losses { self.new.losses ≡ self.old.losses }
     {
         let got = self.inner.next(wait)?;
         let moment = self.clock.now();
@@ -238,15 +247,11 @@ impl<L: Link + Drop, C: Clock + Drop, S: LineReceiver + Drop> Link for Watched<L
             (watching self.new.watch.member self.new.notes)) (L.history self.new.inner) }
         ensures member { self.new.watch.member ≡ self.old.watch.member }
         ensures answered { self.new.watch.answered ≡ self.old.watch.answered }
-        ensures losses { self.new.losses ≡ count_after result self.old.losses }
     {
         let shows = self.notes.sends(self.watch.member.rank, &to, bytes);
         let sent = self.inner.send(to, bytes);
         if shows {
             self.said.changes(&mut self.watch, &self.notes);
-        }
-        if let Err(Stop::Failed) = sent {
-            self.losses = self.losses.saturating_add(1);
         }
         sent
     }

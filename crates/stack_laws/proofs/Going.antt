@@ -91,9 +91,10 @@ pub record IsWatchAnswer (member : Member) (below : List Happened) (d : Outgoing
   pub notes : Notes
   pub a : DiskTimes
   pub b : DiskTimes
+  pub unkept : ℕ
   pub came : Came below (Datagram (Client client) request)
   pub asks : request_of request ≡ Ok id
-  pub is : d ≡ datagram (Client client) (answer member notes id a b)
+  pub is : d ≡ datagram (Client client) (answer member notes id a b unkept)
 
 abbrev pub IsWatched : Member → (above below : List Happened) → Outgoing → Type 0
 IsWatched member above below d = IsOneOf (sent above) d ⊎ IsWatchAnswer member below d
@@ -106,6 +107,7 @@ answer_right member xs ys d w = record {
   notes = w.notes;
   a = w.a;
   b = w.b;
+  unkept = w.unkept;
   came = came_right xs ys (Datagram (Client w.client) w.request) w.came;
   asks = w.asks;
   is = w.is;
@@ -119,6 +121,7 @@ answer_left member xs ys d w = record {
   notes = w.notes;
   a = w.a;
   b = w.b;
+  unkept = w.unkept;
   came = came_left xs ys (Datagram (Client w.client) w.request) w.came;
   asks = w.asks;
   is = w.is;
@@ -150,9 +153,10 @@ module _ (member : Member) (t : watching.WatchState) (same : t.member ≡ member
     notes = t.notes;
     a = sent_it.0;
     b = sent_it.1;
+    unkept = sent_it.2;
     came = came;
     asks = asks;
-    is = elim (one_sent rest _ d sent_it.2.1 m) [ inl is ↦ is ∙ ap (λ (me : Member). datagram (Client c) (answer me t.notes id sent_it.0 sent_it.1)) same | inr none ↦ absurd none ];
+    is = elim (one_sent rest _ d sent_it.3.1 m) [ inl is ↦ is ∙ ap (λ (me : Member). datagram (Client c) (answer me t.notes id sent_it.0 sent_it.1 sent_it.2)) same | inr none ↦ absurd none ];
   }
   answered c request id went came asks true (inr none) = absurd (none_sent rest d none.1 m)
   answered c request id went came asks false none = absurd (none_sent rest d none.1 m)

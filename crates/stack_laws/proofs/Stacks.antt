@@ -123,6 +123,7 @@ module _ (w0 w : watching.WatchState) (c0 c : Copies) (a0 a : Gaps) (n0 n : nami
     notes = s.notes;
     a = s.a;
     b = s.b;
+    unkept = s.unkept;
     came = from_copies (Datagram (Client s.client) s.request) s.came tt;
     asks = s.asks;
     is = e ∙ ap (λ (y : Outgoing). on_wire n.tag n.life y) s.is;

@@ -65,9 +65,10 @@ pub record IsStatus (member : Member) (life : ℕ) (below : List Happened) (d : 
   pub notes : Notes
   pub a : DiskTimes
   pub b : DiskTimes
+  pub unkept : ℕ
   pub came : Came below (Datagram (Client client) request)
   pub asks : request_of request ≡ Ok id
-  pub is : d ≡ outgoing (Client client) (renumbered life (answer member notes id a b))
+  pub is : d ≡ outgoing (Client client) (renumbered life (answer member notes id a b unkept))
 
 -- a hello to another monitor
 pub record IsHello (own : Own) (d : Outgoing) : Type 0 where

@@ -1,7 +1,9 @@
 //! The law of the links of a monitor.
 
-ghost use Rattle.std.specs.Prelude.{List};
+ghost use Rattle.std.specs.Prelude.{◌≡◌, List, [], false};
 ghost use Rattle.mon_link.specs.Histories.{Happened};
+ghost use Rattle.mon_resend.specs.World.{fresh};
+ghost use Rattle.mon_watch.specs.Traffic.{no_notes};
 ghost use Rattle.stack_laws.specs.Stack.{Stack};
 
 use mon_hello::{Greeting, Say};
@@ -29,4 +31,19 @@ pub fn law_stack<
         → (below : List Happened) × L.history link.now.inner.inner.inner.inner.inner below
         × Stack link.now.watch.member link.now.inner.inner.inner.inner.own link.now.inner.inner.inner.tag
         link.now.inner.inner.inner.life h below }
+{}
+
+/// A monitor's links that are new have the empty history, if the link below has it.
+pub fn law_new_stack<
+    L: Link + Drop,
+    C: Clock + Drop,
+    B: Clock + Drop,
+    G: Clock + Drop,
+    W: Clock + Drop,
+    S: LineReceiver + Drop,
+    T: Say + Drop,
+>(link: &Watched<Resending<Awake<Named<Greeting<L, G, T>>, B>, C>, W, S>)
+    ensures { L.history link.now.inner.inner.inner.inner.inner [] → link.now.notes ≡ no_notes
+        → link.now.inner.copies ≡ fresh → link.now.inner.inner.gaps.stood ≡ false
+        → ⟦<Watched<Resending<Awake<Named<Greeting<L, G, T>>, B>, C>, W, S> as Link>⟧.history link.now [] }
 {}

@@ -3,4 +3,4 @@
 
 mod law;
 
-pub use law::law_stack;
+pub use law::{law_new_stack, law_stack};

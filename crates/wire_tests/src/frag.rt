@@ -28,7 +28,7 @@ fn piece(alloc: Global, message: &[u8], seq: u64, k: usize, count: usize) -> Res
     if message.len() > 1_048_576 {
         return Err("too long".into());
     }
-    let pieces = pieces(alloc, message, 1, seq)?;
+    let pieces = pieces(alloc, Bytes::new(Vec::from_slice(alloc, message)?), 1, seq)?;
     let piece = nth(alloc, pieces.as_slice(), k, count);
     drop(pieces);
     piece

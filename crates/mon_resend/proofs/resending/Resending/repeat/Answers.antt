@@ -22,6 +22,5 @@ loop-place-preserved g c =
       sends = subst (λ l. SendsEach l (g.L.Link.state c.args.self.now.inner) (g.L.Link.state c.repeat_at.new.self.inner)) (sym (all_next c.args.again c.args.now boxes place))
           (sends_then (flat_map (λ b. due_copies c.args.again c.args.now b.shelf) (take place boxes)) (due_copies c.args.again c.args.now (box_of place c.args.self.now.copies).shelf) _ _ _ c.loop-place.invariant.sends one);
       copies = c.repeat_at.ensures.others.0 ∙ c.loop-place.invariant.copies;
-      losses = c.repeat_at.ensures.others.1 ∙ c.loop-place.invariant.losses;
-      run = c.repeat_at.ensures.others.2 ∙ c.loop-place.invariant.run;
+      run = c.repeat_at.ensures.others.1 ∙ c.loop-place.invariant.run;
     }

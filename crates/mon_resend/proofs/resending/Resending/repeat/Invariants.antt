@@ -10,6 +10,5 @@ invariant-loop-place g l = record {
   sends : SendsEach (flat_map (λ b. due_copies l.again l.now b.shelf) (take l.place l.fn.self.copies.boxes)) (g.L.Link.state l.fn.self.inner) (g.L.Link.state l.self.inner);
   grows : Grows (g.L.Link.history l.fn.self.inner) (Sent (flat_map (λ b. due_copies l.again l.now b.shelf) (take l.place l.fn.self.copies.boxes))) (g.L.Link.history l.self.inner);
   copies : l.self.copies ≡ l.fn.self.copies;
-  losses : l.self.losses ≡ l.fn.self.losses;
   run : l.self.run ≡ l.fn.self.run;
 }

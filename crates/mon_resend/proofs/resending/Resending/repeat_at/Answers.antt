@@ -20,6 +20,5 @@ loop-at-preserved g c =
       sends = subst (λ l. SendsEach l (g.L.Link.state c.args.self.now.inner) (g.L.Link.state c.repeat_one.new.self.inner)) (sym (due_copies_next c.args.again c.args.now shelf c.loop-at.at (omega (arith, ap length c.kept-at-end.ensures))))
           (sends_then (due_copies c.args.again c.args.now (take c.loop-at.at shelf)) (due_copy_at c.args.again c.args.now (slice_get shelf c.loop-at.at)) _ _ _ c.loop-at.invariant.sends one);
       copies = c.repeat_one.ensures.others.0 ∙ c.loop-at.invariant.copies;
-      losses = c.repeat_one.ensures.others.1 ∙ c.loop-at.invariant.losses;
-      run = c.repeat_one.ensures.others.2 ∙ c.loop-at.invariant.run;
+      run = c.repeat_one.ensures.others.1 ∙ c.loop-at.invariant.run;
     }

@@ -10,6 +10,5 @@ invariant-loop-at g l = record {
   sends : SendsEach (due_copies l.again l.now (take l.at (box_of l.place l.fn.self.copies).shelf)) (g.L.Link.state l.fn.self.inner) (g.L.Link.state l.self.inner);
   grows : Grows (g.L.Link.history l.fn.self.inner) (Sent (due_copies l.again l.now (take l.at (box_of l.place l.fn.self.copies).shelf))) (g.L.Link.history l.self.inner);
   copies : l.self.copies ≡ l.fn.self.copies;
-  losses : l.self.losses ≡ l.fn.self.losses;
   run : l.self.run ≡ l.fn.self.run;
 }

@@ -38,7 +38,7 @@ returns-then-known-clause-exactly g c =
     (c.repeat.ensures.kept ∙ ap (λ cs. all_passed c.note_arrival-again.result now cs) after ∙ ap (λ b. all_passed b now (with_got c.note-known.result.has_memory came now c.args.self.now.copies)) c.note_arrival-again.ensures.may)
     (subst (λ s. SendsEach (all_due_copies (may_go came c.args.self.now.run) now (with_got c.note-known.result.has_memory came now c.args.self.now.copies)) s (g.L.Link.state c.repeat.new.self.inner)) link
     (subst (λ b. SendsEach (all_due_copies b now (with_got c.note-known.result.has_memory came now c.args.self.now.copies)) (g.L.Link.state c.note-known.new.self.inner) (g.L.Link.state c.repeat.new.self.inner)) c.note_arrival-again.ensures.may goes))
-    (c.repeat.ensures.others.1 ∙ ap (λ s. s.run) c.note-known.ensures.kept ∙ ap (λ s. s.run) c.note_arrival-again.ensures.run)
+    (c.repeat.ensures.run ∙ ap (λ s. s.run) c.note-known.ensures.kept ∙ ap (λ s. s.run) c.note_arrival-again.ensures.run)
 
 pub returns-then-known-clause-asks : goal.returns-then-known-clause-asks
 returns-then-known-clause-asks g c = asks_once _ _ _ _ _ _ _ _ _ (returns-then-known-clause-exactly g c)
@@ -65,7 +65,7 @@ returns-clause-exactly g c =
     (c.repeat.ensures.kept ∙ ap (λ cs. all_passed c.note_arrival-again.result now cs) after ∙ ap (λ b. all_passed b now (with_got c.note-known.result.has_memory came now c.args.self.now.copies)) c.note_arrival-again.ensures.may)
     (subst (λ s. SendsEach (all_due_copies (may_go came c.args.self.now.run) now (with_got c.note-known.result.has_memory came now c.args.self.now.copies)) s (g.L.Link.state c.repeat.new.self.inner)) link
     (subst (λ b. SendsEach (all_due_copies b now (with_got c.note-known.result.has_memory came now c.args.self.now.copies)) (g.L.Link.state c.note-known.new.self.inner) (g.L.Link.state c.repeat.new.self.inner)) c.note_arrival-again.ensures.may goes))
-    (c.repeat.ensures.others.1 ∙ ap (λ s. s.run) c.note-known.ensures.kept ∙ ap (λ s. s.run) c.note_arrival-again.ensures.run)
+    (c.repeat.ensures.run ∙ ap (λ s. s.run) c.note-known.ensures.kept ∙ ap (λ s. s.run) c.note_arrival-again.ensures.run)
 
 pub returns-clause-asks : goal.returns-clause-asks
 returns-clause-asks g c = asks_once _ _ _ _ _ _ _ _ _ (returns-clause-exactly g c)

@@ -25,6 +25,7 @@ returns-in-Err-clause-asks g c =
         notes = search rules;
         untils = search rules;
         went = Err c.in-Err.stop;
+        unkept = g.L.Keeps.unkept c.next.new.self;
         sends = search rules;
         hands = refl;
       };
