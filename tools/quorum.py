@@ -1,6 +1,7 @@
 """Monitors on this machine: each is a process, and all keep their files in one folder."""
 from __future__ import annotations
 
+import itertools
 import os
 import random
 import signal
@@ -13,6 +14,8 @@ from cephmon import Client, NotServed
 
 TOP = os.path.join(os.path.dirname(os.path.abspath(__file__)), '..')
 MOST_TURNS = str(2**62)
+# Seconds within which a monitor must answer after its start. A free machine takes some tenths.
+STARTED = 300
 
 
 def built_program() -> str:
@@ -22,14 +25,25 @@ def built_program() -> str:
     return os.path.join(TOP, 'out', 'cephmon')
 
 
-# The ports that `free_ports` returned before. A port may be bound long after it was returned.
+# The ports that `free_ports` returned. Whoever has one may not use it yet, or again later.
 GIVEN: set[int] = set()
 
 
+def own_ports() -> range:
+    """Ports that the system doesn't assign by itself, so that one stays free while its monitor is down."""
+    try:
+        with open('/proc/sys/net/ipv4/ip_local_port_range', encoding='ascii') as file:
+            first, last = map(int, file.read().split())
+    except (OSError, ValueError):
+        first, last = 32_768, 60_999
+    return max(range(10_000, first), range(last + 1, 65_536), range(10_000, 10_000), key=len) or range(10_000, 65_536)
+
+
 def free_ports(count: int) -> list[int]:
-    """Free ports of 127.0.0.1, each returned once. They are below those that the system assigns by itself, so a port stays free while its monitor is down."""
-    ports = random.sample(range(10_000, 32_000), 10 * count)
-    found = [port for port in ports if port not in GIVEN and is_free(port) and is_free(port, socket.SOCK_STREAM)][:count]
+    """Ports of 127.0.0.1 that are free for datagrams and for connections, and that this process wasn't given before."""
+    ports = own_ports()
+    each = (port for port in random.sample(ports, len(ports)) if port not in GIVEN and is_free(port) and is_free(port, socket.SOCK_STREAM))
+    found = list(itertools.islice(each, count))
     GIVEN.update(found)
     return found
 
@@ -42,6 +56,16 @@ def is_free(port: int, kind: socket.SocketKind = socket.SOCK_DGRAM) -> bool:
         except OSError:
             return False
     return True
+
+
+def answers(addresses: list[tuple[str, int]], rank: int) -> bool:
+    """Whether a monitor answers a request, if only by a refusal."""
+    with Client(addresses, monitor=rank, once=True) as client:
+        try:
+            client.show('kv')
+        except NotServed as why:
+            return not why.silent()
+        return True
 
 
 class Quorum:
@@ -76,8 +100,12 @@ class Quorum:
         self.running[rank] = subprocess.Popen(self.arguments(rank), stdin=subprocess.DEVNULL, env={'CEPHMON_LOG': 'off', **os.environ})
 
     def start_all(self):
+        """Starts all monitors, and waits until each answers or has ended."""
         for rank in self.ranks():
             self.start(rank)
+        end = time.monotonic() + STARTED
+        while time.monotonic() < end and not all(process.poll() is not None or answers(self.addresses, rank) for rank, process in self.running.items()):
+            time.sleep(0.02)
 
     def kill(self, rank: int):
         """Kills a monitor with SIGKILL. If it had ended by itself, that is an error."""
