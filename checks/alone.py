@@ -2,21 +2,14 @@
 import contextlib
 import subprocess
 
-import checking  # noqa: F401, adds the folders of the next two
-from cephmon import Client, NotServed
-from quorum import MOST_TURNS, free_ports
+from checking import PATIENT, until
+from cephmon import Client
+from quorum import MOST_TURNS, answers, free_ports
 
 
 def await_monitor(port):
     """Waits until the monitor answers anything, so that no change is sent twice."""
-    with Client([('127.0.0.1', port)], timeout=0.2, once=True) as client:
-        for _ in range(300):
-            try:
-                client.show('kv')
-                return
-            except NotServed as refused:
-                if not refused.silent():
-                    return
+    until(lambda: answers([('127.0.0.1', port)], 0), lambda found: found, 'the monitor answers')
 
 
 @contextlib.contextmanager
@@ -26,7 +19,7 @@ def serving(program, files):
     running = subprocess.Popen([program.path, 'node', '0', '1', 'classic', f'127.0.0.1:{port}', *files, MOST_TURNS], stdin=subprocess.DEVNULL)
     try:
         await_monitor(port)
-        with Client([('127.0.0.1', port)], timeout=60, patience=60) as client:
+        with Client([('127.0.0.1', port)], **PATIENT) as client:
             yield client, f'127.0.0.1:{port}'
     finally:
         running.kill()

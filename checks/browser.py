@@ -9,14 +9,13 @@ import subprocess
 import tempfile
 import time
 
-from checking import Failed, Skipped
+from checking import LONG, Failed, Skipped
 
 NAMES = 'chromium', 'chromium-browser', 'google-chrome', 'google-chrome-stable'
 FLAGS = ['--headless=new', '--no-sandbox', '--disable-gpu', '--disable-dev-shm-usage', '--no-first-run', '--hide-scrollbars', '--disable-extensions',
          '--disable-background-networking', '--disable-component-update', '--disable-sync', '--remote-debugging-pipe']
 # Keys that aren't letters, with their codes.
 CODES = {'ArrowLeft': 37, 'ArrowUp': 38, 'ArrowRight': 39, 'ArrowDown': 40, 'PageUp': 33, 'PageDown': 34, 'End': 35, 'Home': 36, 'Escape': 27, ' ': 32}
-SECONDS = 20
 
 
 class Browser:
@@ -52,7 +51,7 @@ class Browser:
     def __exit__(self, *_):
         self.running.terminate()
         try:
-            self.running.wait(timeout=10)
+            self.running.wait(timeout=LONG)
         except subprocess.TimeoutExpired:
             self.running.kill()
             self.running.wait()
@@ -102,7 +101,7 @@ class Browser:
             raise Failed(f'{expression}: {found["exceptionDetails"].get("exception", {}).get("description")}')
         return found['result'].get('value')
 
-    def until(self, expression: str, seconds: float = SECONDS):
+    def until(self, expression: str, seconds: float = LONG):
         """Waits until an expression holds in the page."""
         end = time.monotonic() + seconds
         while not self.of_page(expression):

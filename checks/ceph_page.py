@@ -11,17 +11,11 @@ from checking import Failed, equal
 
 SCENARIO = 'pacific_stopped_leader'
 WIDTHS = (390, 640, 1024, 1920)
-# How long a page may take to be drawn, in seconds.
-PATIENCE = 120
 
 
 def opened(browser: Browser, path: str):
     browser.call('Page.navigate', url=f'file://{path}')
-    end = time.monotonic() + PATIENCE
-    while browser.of_page('document.readyState') != 'complete' or not browser.of_page('!!document.querySelector("#lanes svg")'):
-        if time.monotonic() > end:
-            raise Failed('the page is never drawn')
-        time.sleep(0.1)
+    browser.until('document.readyState === "complete" && !!document.querySelector("#lanes svg")')
 
 
 def is_sound(browser: Browser):

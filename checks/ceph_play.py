@@ -5,7 +5,6 @@ import json
 import os
 import re
 import subprocess
-import time
 from tempfile import TemporaryDirectory
 
 from browser import Browser
@@ -26,7 +25,6 @@ ENDS = {
 }
 REFUSED = {'pacific_default_levels': 'a schedule needs debug_mon', 'pacific_alone': 'has no such quorum'}
 SCENARIO, PLACE = 'pacific_uncommitted', '21:08:20'
-PATIENCE = 120
 
 
 def phases(lines: list[str]) -> list[str]:
@@ -77,11 +75,7 @@ def begins_there():
         equal(begun, schedule(paths(SCENARIO), None, PLACE).lines)
         with Browser() as browser:
             browser.call('Page.navigate', url=f'file://{path}')
-            end = time.monotonic() + PATIENCE
-            while not browser.of_page('typeof state !== "undefined" && !!state && state.count > 0'):
-                if time.monotonic() > end:
-                    raise Failed('the page never shows the schedule')
-                time.sleep(0.2)
+            browser.until('typeof state !== "undefined" && !!state && state.count > 0')
             equal(browser.of_page('state.monitors.map(it => it.up ? it.phase : "down")'), ['down', 'electing', 'electing'])
             equal(browser.of_page('(act("start", {rank: 0}), state.monitors[0].up)'), True)
             equal(browser.errors, [])

@@ -12,11 +12,21 @@ import shutil
 import subprocess
 import sys
 import tempfile
+import time
 import traceback
+from typing import Callable, TypeVar
 
 TOP = os.path.dirname(os.path.dirname(os.path.abspath(__file__)))
 EXAMPLES, TOOLS = os.path.join(TOP, 'examples'), os.path.join(TOP, 'tools')
 sys.path[:0] = [TOOLS, os.path.join(TOP, 'bench')]
+# What the caller's environment says of a quorum is no part of a check.
+for variable in [name for name in os.environ if name.startswith('CEPHMON_')]:
+    del os.environ[variable]
+# Seconds within which anything must have happened. A free machine takes a small part of them, and a loaded one may take most.
+LONG = 300
+# How clients ask, as arguments of Client and of the command. The seconds of a try are so many that no change is asked for twice because a machine is slow.
+PATIENT = {'timeout': LONG, 'patience': 30}
+PATIENTLY = ['--timeout', str(LONG), '--patience', '30']
 # Lines that `node` and `follow` write on standard error because of the machine or of other monitors: the pattern of each line. Lines of a `node` begin with
 # the milliseconds since its start.
 ROOM = rb'(?:\d+ ms: )?link: room for \d+ bytes, less than a long message takes: raise net\.core\.rmem_max\n'
@@ -36,6 +46,30 @@ def needs(tool: str):
     """Skips the check if this machine doesn't have a tool."""
     if shutil.which(tool) is None:
         raise Skipped(f'there is no {tool}')
+
+
+def faults_of_unit(unit: str) -> list[str]:
+    """What systemd finds in a unit. It also reads units of this machine, whose faults are no part of a check."""
+    needs('systemd-analyze')
+    done = subprocess.run(['systemd-analyze', 'verify', unit], stdin=subprocess.DEVNULL, stdout=subprocess.PIPE, stderr=subprocess.STDOUT)
+    lines = done.stdout.decode().splitlines()
+    found = [line for line in lines if 'cephmon' in line]
+    if done.returncode and not found:
+        raise Skipped(f'systemd-analyze ends with {done.returncode}, and says {lines[:1]}')
+    return found
+
+
+Found = TypeVar('Found')
+
+
+def until(look: Callable[[], Found], holds: Callable[[Found], bool], what: str = '') -> Found:
+    """Looks again and again until what is found is as it should be, and returns that. Fails if it isn't in time."""
+    end = time.monotonic() + LONG
+    while not holds(found := look()):
+        if time.monotonic() > end:
+            raise Failed(f'{what}: ' * bool(what) + f'after {LONG} s still {shortened(found)}')
+        time.sleep(0.05)
+    return found
 
 
 def without_asides(errors: bytes) -> bytes:
@@ -108,13 +142,13 @@ class Program:
 
     def run(self, *words, schedule=b'', **how) -> Ended:
         """Runs the program on these arguments and this standard input."""
-        done = subprocess.run([self.path, *words], input=schedule, stdout=subprocess.PIPE, stderr=subprocess.PIPE, timeout=120, **how)
+        done = subprocess.run([self.path, *words], input=schedule, stdout=subprocess.PIPE, stderr=subprocess.PIPE, timeout=LONG, **how)
         has_socket = words[:1] in (('node',), ('follow',))
         return Ended(done.returncode, done.stdout, without_asides(done.stderr) if has_socket else done.stderr)
 
-    def ended(self, running: subprocess.Popen, seconds: float) -> Ended:
+    def ended(self, running: subprocess.Popen) -> Ended:
         """Waits until a `node` or a `follow` that was started before ends. Fails if it doesn't in time."""
-        output, errors = running.communicate(timeout=seconds)
+        output, errors = running.communicate(timeout=LONG)
         return Ended(running.returncode, output or b'', without_asides(errors))
 
     def replay(self, schedule: bytes) -> bytes:

@@ -6,17 +6,24 @@ import os
 import subprocess
 import threading
 
-from checking import TOOLS, Failed, equal
-from cephmon import dumps
-
-# Seconds for one try, so that a slow disk doesn't make the client ask for a change again.
-PATIENCE = 10
+from checking import LONG, PATIENT, PATIENTLY, TOOLS, Failed, equal, until
+from cephmon import NotServed, dumps
 
 
 def command(*words, answer: bytes = b''):
     """Runs the client on these arguments. Returns its status, standard output and standard error."""
-    done = subprocess.run([os.path.join(TOOLS, 'client.py'), *words], timeout=60, input=answer, stdout=subprocess.PIPE, stderr=subprocess.PIPE)
+    done = subprocess.run([os.path.join(TOOLS, 'client.py'), *PATIENTLY, *words], timeout=2 * LONG, input=answer, stdout=subprocess.PIPE, stderr=subprocess.PIPE)
     return done.returncode, done.stdout.decode(), done.stderr.decode()
+
+
+def is_empty(quorum) -> bool:
+    """Whether a quorum serves in which nothing was ever written."""
+    with quorum.client(timeout=1) as client:
+        try:
+            client.show('kv')
+        except NotServed as why:
+            return 'NotReadable' in why.outcomes.values()
+        return False
 
 
 class Dumping:
@@ -27,6 +34,7 @@ class Dumping:
         self.places = [','.join(f'{host}:{port}' for host, port in it.addresses) for it in (quorum, empty)]
         self.file = self.path('first')
         self.writes('first')
+        until(lambda: is_empty(empty), lambda found: found)
 
     def path(self, name: str) -> str:
         return os.path.join(self.folder, name)
@@ -44,7 +52,7 @@ class Dumping:
 
     def writes(self, name: str):
         """Writes some keys and texts, and a dump of them."""
-        with self.quorum.client(patience=PATIENCE) as client:
+        with self.quorum.client(**PATIENT) as client:
             client.set('words', 'grün, "and"\nmore')
             for text in ('before the dump', 'grün'):
                 client.log(text)
@@ -53,7 +61,7 @@ class Dumping:
     def writes_a_dump(self):
         self.file = self.path('dump')
         status, output, errors = self.writes('dump')
-        with self.quorum.client(patience=PATIENCE) as client:
+        with self.quorum.client(**PATIENT) as client:
             kv, log = (client.show(service, json.loads(output)['paxos']) for service in ('kv', 'log'))
         equal((status, errors, json.loads(output)), (0, '', {'file': self.file, 'paxos': kv['paxos'], 'keys': len(kv['map']), 'texts': len(log['map'])}))
         equal(dumps.read(self.file), dumps.Dump(None, kv['paxos'], *({name: it[name] for name in ('version', 'map')} for it in (kv, log))))
@@ -65,13 +73,13 @@ class Dumping:
         ended = threading.Event()
 
         def writes():
-            with self.quorum.client(patience=PATIENCE) as writer:
+            with self.quorum.client(**PATIENT) as writer:
                 number = 0
                 while not ended.is_set():
                     number += 1
                     writer.set('number', str(number))
                     writer.log(str(number))
-        with self.quorum.client(patience=PATIENCE) as client:
+        with self.quorum.client(**PATIENT) as client:
             client.set('number', '0')
             client.log('0')
             writing = threading.Thread(target=writes)
@@ -105,7 +113,7 @@ class Dumping:
     def loads_into_an_empty_quorum(self):
         """Nothing is written without a yes. A load that ended early is completed, and one more writes nothing."""
         dump = dumps.read(self.file)
-        with self.empty.client(patience=PATIENCE) as client:
+        with self.empty.client(**PATIENT) as client:
             status, output, errors = self.load(answer=b'y\n')
             equal((status, output, 'nothing was written' in errors), (1, '', True), errors)
             key = min(dump.keys)
@@ -120,7 +128,7 @@ class Dumping:
 
     def merges_by_keys(self):
         dump = dumps.read(self.file)
-        with self.empty.client(patience=PATIENCE) as client:
+        with self.empty.client(**PATIENT) as client:
             client.set('own', 'stays')
             client.set(min(dump.keys), 'another value')
             client.log('stays, too')

@@ -1,14 +1,14 @@
 """A stranger on a network, without a key of the tunnel. checks/network calls it within a network namespace of its own.
 
-usage: checks/stranger.py record INTERFACE SECONDS FILE    writes each frame that passes, with its length in 4 bytes before it
+usage: checks/stranger.py record INTERFACE FILE            writes each frame that passes, with its length in 4 bytes before it, until standard input ends
        checks/stranger.py repeat INTERFACE FILE            sends these frames again
        checks/stranger.py forge FROM TO NAME MONITORS RANK EPOCH
                                                            sends a call for an election, as the monitor of this rank would, from one HOST:PORT to another
 """
+import select
 import socket
 import struct
 import sys
-import time
 
 import checking  # noqa: F401, adds the folder of the next one
 from cephmon.wire import framed, number_field, tag_of
@@ -16,19 +16,14 @@ from cephmon.wire import framed, number_field, tag_of
 ALL_FRAMES, PROPOSE = 3, 3
 
 
-def record(interface, seconds, path):
+def record(interface, path):
     with socket.socket(socket.AF_PACKET, socket.SOCK_RAW, socket.htons(ALL_FRAMES)) as link, open(path, 'wb') as file:
         link.bind((interface, 0))
         # Promiscuous mode receives all frames of the wire.
         link.setsockopt(263, 1, struct.pack('iHH8s', socket.if_nametoindex(interface), 1, 0, b''))
         print('recording', flush=True)
-        end = time.monotonic() + float(seconds)
-        while (left := end - time.monotonic()) > 0:
-            link.settimeout(left)
-            try:
-                frame = link.recv(65_536)
-            except OSError:
-                continue
+        while link in (ready := select.select([link, sys.stdin], [], [])[0]) or not ready:
+            frame = link.recv(65_536)
             file.write(struct.pack('<I', len(frame)) + frame)
 
 
