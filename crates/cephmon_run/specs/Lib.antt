@@ -1,4 +1,5 @@
 pub mod Further
+pub mod Lives
 pub mod Node
 pub mod Outside
 pub mod Replay

@@ -3,11 +3,13 @@
 #![tactic(auto)]
 
 mod further;
+mod living;
 mod node;
 mod replay;
 mod running;
 mod summary;
 
+pub use living::run_lives;
 pub use node::Ended;
 pub use run_status::Status;
 pub use running::run;
