@@ -19,7 +19,7 @@ from typing import NamedTuple
 from cephmon.client import Client, ended_at
 from cephmon.contenders import LOOK, PATIENCE, PERIOD, Contender, Keeper, Lost, Replica, left, removed, won
 from cephmon.errors import Done, Error, NotKnown, NotServed
-from cephmon.wire import key_field
+from cephmon.wire import key_field, text_field
 
 # Seconds in which keys are removed if nothing depends on it, and among how many free tasks a worker chooses that lost a race for one.
 QUIETLY, CHOICES = 5.0, 8
@@ -152,7 +152,8 @@ class Election:
     """An election among clients. The leader's token is a fencing token."""
 
     def __init__(self, client: Client, name: str, value: str, *, period: float = PERIOD, patience: int = PATIENCE):
-        """`value` is what others read of the leader, such as its address."""
+        """`value` is what others read of the leader, such as its address. Raises ValueError if it has no encoding."""
+        text_field(value)
         self.client, self.value, self.place = client.copy(), value, prefix_of('election', name)
         self.lock = Lock(client, name, period=period, patience=patience, prefix=f'{self.place}candidate/')
 
@@ -161,7 +162,7 @@ class Election:
         token = self.lock.acquire(timeout)
         try:
             self.publish(token, self.value)
-        except Error:
+        except BaseException:
             self.lock.release()
             raise
         return token
