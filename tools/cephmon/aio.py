@@ -161,7 +161,17 @@ class AsyncClient:
             elif isinstance(step, Rest):
                 await asyncio.sleep(max(0.0, step.until - time.monotonic()))
             else:
-                try:
-                    heard = await asyncio.wait_for(queue.get(), max(0.0, step.until - time.monotonic()))
-                except asyncio.TimeoutError:
-                    pass
+                heard = await next_of(queue, step.until)
+
+
+async def next_of(queue: asyncio.Queue[Heard], until: float) -> Heard | None:
+    """What a queue has next, if it has anything in time. Before Python 3.12 `asyncio.wait_for` loses a cancellation that comes together with a result, and the
+    request would go on."""
+    if not queue.empty():
+        return queue.get_nowait()
+    getting = asyncio.ensure_future(queue.get())
+    try:
+        done, _ = await asyncio.wait({getting}, timeout=max(0.0, until - time.monotonic()))
+        return getting.result() if done else None
+    finally:
+        getting.cancel()

@@ -14,8 +14,9 @@ WATCH, WATCH_PATH = '/etcdserverpb.Watch/Watch', '/watch'
 PREFIXES = '/v3', '/v3beta', '/v3alpha'
 # The paths of the JSON form of calls that are refused, and what `no_form` takes of each.
 REFUSED = {
-    '/kv/txn': ('etcdserverpb.KV', 'Txn'), '/kv/compaction': ('etcdserverpb.KV', 'Compact'),
-    **{f'/{service.lower()}/': (f'etcdserverpb.{service}', '') for service in NO_FORM if service not in ('Txn', 'Compact')},
+    '/kv/txn': ('etcdserverpb.KV', 'Txn'), '/kv/compaction': ('etcdserverpb.KV', 'Compact'), '/kv/lease/': ('etcdserverpb.Lease', ''),
+    '/maintenance/transfer-leadership': ('etcdserverpb.Maintenance', 'MoveLeader'),
+    **{f'/{service.lower()}/': (f'etcdserverpb.{service}', '') for service in NO_FORM if service not in ('Txn', 'Compact', 'MoveLeader')},
 }
 
 

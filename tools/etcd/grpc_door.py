@@ -9,6 +9,7 @@ import grpc  # type: ignore[import]
 import grpc.aio  # type: ignore[import]
 
 from etcd.calls import WATCH, Call, calls, ends
+from etcd.ending import ended
 from etcd.gate import Gate
 from etcd.messages import CLASSES
 from etcd.refusals import Refusal, no_form
@@ -68,9 +69,7 @@ class Door(grpc.GenericRpcHandler):  # type: ignore[misc]
         try:
             await asyncio.wait(tasks, return_when=asyncio.FIRST_COMPLETED)
         finally:
-            for task in tasks:
-                task.cancel()
-            await asyncio.gather(*tasks, return_exceptions=True)
+            await ended(*tasks)
 
 
 async def take_all(stream: Stream, requests: Any) -> None:

@@ -8,6 +8,7 @@ from http import HTTPStatus
 from typing import Any, NamedTuple
 
 from etcd.calls import PREFIXES, REFUSED, WATCH_PATH, Call, calls, ends
+from etcd.ending import ended
 from etcd.gate import Gate
 from etcd.messages import from_json, to_json
 from etcd.refusals import Refusal, no_form
@@ -134,9 +135,7 @@ class JsonDoor:
         try:
             await asyncio.wait(tasks, return_when=asyncio.FIRST_COMPLETED)
         finally:
-            for task in tasks:
-                task.cancel()
-            await asyncio.gather(*tasks, return_exceptions=True)
+            await ended(*tasks)
 
 
 def message_of(name: str, body: bytes) -> Any:

@@ -24,6 +24,7 @@ BAD_PASSWORD, NO_AUTHENTICATION = 'etcdserver: authentication failed, invalid us
 NO_FORM = {
     'Txn': 'a quorum has no transactions: there is no conditional write, and each change is of one key. docs/RECIPES.md has locks and counters without one',
     'Compact': 'the history is not compacted on demand: the gateway keeps the newest events, and forgets the others by itself',
+    'MoveLeader': 'the monitors elect their leader by the rule of their elections: it is not moved',
     'Lease': 'a quorum has no leases: a key stays until it is removed',
     'Lock': 'a quorum has no leases, and so not these locks: docs/RECIPES.md has one without leases',
     'Election': 'a quorum has no leases, and so not these elections: docs/RECIPES.md has one without leases',

@@ -6,10 +6,11 @@ import hashlib
 import secrets
 import time
 from typing import Any, Awaitable, Callable, Optional
-from weakref import WeakValueDictionary
 
 from cephmon import AsyncClient, Error, NotKnown, Refused
+from cephmon.operations import removal, setting
 from cephmon.wire import key_field, text_field
+from etcd.changing import Changes, Running
 from etcd.messages import new
 from etcd.monitors import leading
 from etcd.refusals import MAY_BE_MADE, NO_KEY, Refusal, no_form, of_error, within
@@ -21,8 +22,6 @@ TIMEOUT = 30.0
 AGAIN = 3.0
 # Seconds for which a call waits for the first map.
 BEGIN = 5.0
-# The changes that are asked for at the same time. A leader has room for 64 that wait, of all clients.
-TOGETHER = 32
 # The release of etcd whose calls these are.
 RELEASE = '3.4.0'
 SORTED: dict[int, Callable[[tuple[bytes, Entry]], Any]] = {
@@ -73,12 +72,16 @@ class Markers:
         self.running: Optional[asyncio.Task[None]] = None
         self.next: Optional[asyncio.Task[None]] = None
 
-    async def passed(self, end: float) -> None:
-        """Waits until the replica has each change that was acknowledged before this call."""
+    def asked(self) -> asyncio.Task[None]:
+        """The next marker, which is asked for now if it isn't yet."""
         if self.next is None:
             self.next = asyncio.ensure_future(self.mark(self.running))
             self.next.add_done_callback(lambda task: task.cancelled() or task.exception())
-        await within(end - time.monotonic(), asyncio.shield(self.next), 'a fresh read needs a change, which no quorum has made in time')
+        return self.next
+
+    async def passed(self, end: float) -> None:
+        """Waits until the replica has each change that was acknowledged before this call."""
+        await within(end - time.monotonic(), asyncio.shield(self.asked()), 'a fresh read needs a change, which no quorum has made in time')
 
     async def mark(self, before: asyncio.Task[None] | None) -> None:
         if before:
@@ -86,7 +89,7 @@ class Markers:
         self.running, self.next = self.next, None
         after, value = self.store.revision, secrets.token_hex(8).encode()
         try:
-            paxos = await self.change(lambda client, seconds: client.set(self.key, value, timeout=seconds), time.monotonic() + TIMEOUT)
+            paxos = await self.change(setting(self.key, value), time.monotonic() + TIMEOUT, [])
         except Refusal as why:
             raise Refusal('UNAVAILABLE' if why.status == 'DEADLINE_EXCEEDED' else why.status, f'a fresh read has to set a key: {why.text}') from None
         await within(TIMEOUT, self.store.found(after, self.key, value, paxos), NOT_SEEN)
@@ -97,8 +100,7 @@ class Gateway:
 
     def __init__(self, client: AsyncClient, store: Store, urls: list[str], name: str):
         self.client, self.store, self.urls, self.name = client, store, urls, name
-        self.room = asyncio.Semaphore(TOGETHER)
-        self.locks: WeakValueDictionary[bytes, asyncio.Lock] = WeakValueDictionary()
+        self.changes = Changes(client)
         self.markers = Markers(store, self.change, name)
         quorum = repr((client.asker.settings.name, client.asker.settings.addresses)).encode()
         self.cluster = int.from_bytes(hashlib.sha256(quorum).digest()[:8], 'big') >> 1
@@ -109,24 +111,20 @@ class Gateway:
                    revision=self.store.revision if revision is None else revision)
 
     async def ready(self, end: float) -> None:
+        """Waits for the first map. A quorum in which nothing was ever changed shows none, so a marker is its first change."""
         if not self.store.begun.is_set():
+            self.markers.asked()
             try:
                 await asyncio.wait_for(self.store.begun.wait(), max(0.001, min(BEGIN, end - time.monotonic())))
             except asyncio.TimeoutError:
                 raise Refusal('UNAVAILABLE', f'no map of the monitors yet: {self.store.trouble}') from None
 
-    async def change(self, made: Callable[[AsyncClient, float], Awaitable[int]], end: float) -> int:
+    async def change(self, message: bytes, end: float, running: Running) -> int:
         """Has a change made, and returns its version of the log of all changes."""
-        async with self.room:
-            seconds = end - time.monotonic()
-            if seconds <= 0:
-                raise Refusal('UNAVAILABLE', 'nothing was changed: too many calls wait')
-            try:
-                return await made(self.client, seconds)
-            except ValueError as why:
-                raise Refusal('INVALID_ARGUMENT', str(why)) from None
-            except Error as error:
-                raise of_error(error, '; '.join(strangers(self.client))) from None
+        try:
+            return await self.changes.made(message, end, running)
+        except Error as error:
+            raise of_error(error, '; '.join(strangers(self.client))) from None
 
     async def prefer_leader(self) -> None:
         """Has the leader asked first, without end: it has each change before the other monitors have it."""
@@ -164,9 +162,9 @@ class Gateway:
         if request.ignore_value or request.ignore_lease:
             raise Refusal('UNIMPLEMENTED', 'a quorum has no change of a key that keeps its value, and no leases')
         await self.ready(end)
-        async with self.lock(key):
+        async with self.changes.alone(key) as running:
             after = self.store.revision
-            paxos = await self.change(lambda client, seconds: client.set(key, value, timeout=seconds), end)
+            paxos = await self.change(setting(key, value), end, running)
             event = await within(end - time.monotonic(), self.store.found(after, key, value, paxos), NOT_SEEN)
         answer = new('PutResponse', header=self.header(event.revision if event else None))
         if request.prev_kv and event and event.before:
@@ -196,11 +194,11 @@ class Gateway:
 
     async def removed(self, key: bytes, end: float) -> Event | None:
         """Removes a key. The result is None if there was none."""
-        async with self.lock(key):
+        async with self.changes.alone(key) as running:
             while True:
                 after = self.store.revision
                 try:
-                    paxos = await self.change(lambda client, seconds: removal(client, key, seconds), end)
+                    paxos = await self.removal(key, end, running)
                 except NoKey:
                     await self.markers.passed(end)
                     if key not in self.store.keys:
@@ -209,12 +207,18 @@ class Gateway:
                 event = await within(end - time.monotonic(), self.store.found(after, key, None, paxos), NOT_SEEN)
                 return event or Event(self.store.revision, key, None, None)
 
-    def lock(self, key: bytes) -> asyncio.Lock:
-        """The lock of a key: changes of it are made one after the other."""
-        found = self.locks.get(key)
-        if found is None:
-            found = self.locks[key] = asyncio.Lock()
-        return found
+    async def removal(self, key: bytes, end: float, running: Running) -> int:
+        """Has a key removed. Raises NoKey if there was none, and no try removed it."""
+        try:
+            return await self.changes.made(removal(key), end, running)
+        except Refused as why:
+            if why.kind == 'NoSuch' and not isinstance(why, NotKnown):
+                raise NoKey from None
+            if why.kind == 'NoSuch':
+                raise Refusal('DEADLINE_EXCEEDED', f'{MAY_BE_MADE}: there is no such key now, and a try of the removal had no answer') from None
+            raise of_error(why, '') from None
+        except Error as why:
+            raise of_error(why, '; '.join(strangers(self.client))) from None
 
     # ---- the quorum
 
@@ -239,14 +243,3 @@ class Gateway:
 
 class NoKey(Exception):
     """There was no key to remove, and no try of it was made."""
-
-
-async def removal(client: AsyncClient, key: bytes, seconds: float) -> int:
-    try:
-        return await client.remove(key, timeout=seconds)
-    except Refused as why:
-        if why.kind == 'NoSuch' and not isinstance(why, NotKnown):
-            raise NoKey from None
-        if why.kind == 'NoSuch':
-            raise Refusal('DEADLINE_EXCEEDED', f'{MAY_BE_MADE}: there is no such key now, and a try of the removal had no answer') from None
-        raise
