@@ -3,16 +3,24 @@ checks/lossy and checks/stale_leader use it, with the clients and the judge of b
 from __future__ import annotations
 
 import argparse
+import collections
 import multiprocessing
 import os
+import random
+import signal
 import sys
 import tempfile
+import time
 
 TOP = os.path.join(os.path.dirname(os.path.abspath(__file__)), '..', '..')
 sys.path[:0] = [os.path.join(TOP, 'tools'), os.path.join(TOP, 'bench')]
 from load import Judge, Load  # noqa: E402
 from network import Network  # noqa: E402
 from quorum import MOST_TURNS, Quorum, built_program  # noqa: E402
+
+
+# The faults of monitors and their network, and the most seconds of one.
+OF_MONITORS, LASTS = ('kill_monitor', 'stop_monitor', 'cut', 'lose'), 8.0
 
 
 class Apart(Quorum):
@@ -39,6 +47,43 @@ class Apart(Quorum):
         ports = [own if rank == other else self.network.ports[rank][other] for other in self.ranks()]
         arguments[5] = ','.join(f'127.0.0.1:{port}' for port in ports)
         return arguments
+
+
+class Faults:
+    """What goes wrong with monitors and their network, one thing after the other, and how often each was made."""
+
+    def __init__(self, quorum: Apart, chance: random.Random):
+        self.quorum, self.chance, self.made = quorum, chance, collections.Counter()
+
+    def rank(self) -> int:
+        return self.chance.choice(list(self.quorum.ranks()))
+
+    def kill_monitor(self):
+        rank = self.rank()
+        self.quorum.kill(rank)
+        time.sleep(self.chance.uniform(0, 2))
+        self.quorum.start(rank)
+
+    def stop_monitor(self):
+        process = self.quorum.running[self.rank()]
+        process.send_signal(signal.SIGSTOP)
+        time.sleep(self.chance.uniform(0.5, 4))
+        process.send_signal(signal.SIGCONT)
+
+    def cut(self):
+        self.quorum.network.part({self.rank()})
+        time.sleep(self.chance.uniform(1, LASTS))
+        self.quorum.network.heal()
+
+    def lose(self):
+        self.quorum.network.each(loss=0.05, doubled=0.05, late=0.05, late_by=0.5)
+        time.sleep(LASTS)
+        self.quorum.network.heal()
+
+    def make(self, name: str):
+        """Makes the fault of this name, and returns after its end."""
+        self.made[name] += 1
+        getattr(self, name)()
 
 
 def arguments(about: str, seconds: float, **more):
