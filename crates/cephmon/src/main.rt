@@ -3,14 +3,18 @@
 
 mod words;
 
+ghost use Rattle.std.specs.Prelude.{◌≡◌, ◌⊎◌};
+ghost use Rattle.cephmon_links.specs.Devices.{AreAsked};
+ghost use Rattle.cephmon_links.specs.declared.devices.Devices.{Devices as DeviceSet};
+ghost use Rattle.cephmon.specs.Program.{IsWithoutDevices, LivesOver, Runs, RunsOn};
+
 use crate::words::words_of;
 use cephmon_links::{
-    Channel, CountedDisk, Devices, FIRST_STANDSTILL, FileDisks, MonitorLink, NoDevices, devices_of,
-    lives, new_life, print, print_of, report_room, report_standstill, room_line, socket_of,
+    Channel, CountedDisk, Devices, FileDisks, MonitorLives, NoDevices, devices_of, print, print_of,
 };
-use cephmon_run::{Ended, Status, run};
-use mon_link::{Clock, Link, RunClock, StdinSource, StdoutSink, UdpLink};
-use mon_watch::Watched;
+use cephmon_run::{Ended, Status, run, run_lives};
+use mon_disk::Disk;
+use mon_link::{Link, Lives, RunClock, StdinSource, StdoutSink, UdpLink};
 use std::process::ExitCode;
 
 fn main(rt: HostRuntime) -> ExitCode {
@@ -23,7 +27,12 @@ fn main(rt: HostRuntime) -> ExitCode {
 }
 
 /// Does what the arguments ask for, on the streams, files, sockets and the clock of the system.
-fn run_words(rt: &HostRuntime, words: &[String]) -> Status {
+fn run_words(rt: &HostRuntime, words: &[String]) -> Status
+    ensures runs { ((devices : DeviceSet) × AreAsked words.now devices
+        × RunsOn ⟦<CountedDisk as Disk>⟧.state ⟦<MonitorLives as Link>⟧.state
+        ⟦<MonitorLives as Link>⟧.history ⟦<MonitorLives as Lives>⟧.stood words.now devices.disks devices.channel result)
+        ⊎ IsWithoutDevices result }
+{
     match devices_of(rt, words) {
         Ok(devices) => run_on_devices(rt, words, devices),
         Err(why) => status_without(why),
@@ -31,7 +40,9 @@ fn run_words(rt: &HostRuntime, words: &[String]) -> Status {
 }
 
 /// How the program ends without devices.
-fn status_without(why: NoDevices) -> Status {
+fn status_without(why: NoDevices) -> Status
+    ensures { IsWithoutDevices result }
+{
     match why {
         NoDevices::Name => Status::Words,
         NoDevices::NoLife => Status::LinkFault,
@@ -39,14 +50,17 @@ fn status_without(why: NoDevices) -> Status {
     }
 }
 
-/// Does what the arguments ask for, on the devices that they name.
+/// Does what the arguments ask for, on these devices.
 // Each arm hands its link on as a whole: a link that goes out of scope in an arm is proved part by part there.
-fn run_on_devices(rt: &HostRuntime, words: &[String], devices: Devices) -> Status {
+fn run_on_devices(rt: &HostRuntime, words: &[String], devices: Devices) -> Status
+    ensures runs { RunsOn ⟦<CountedDisk as Disk>⟧.state ⟦<MonitorLives as Link>⟧.state
+        ⟦<MonitorLives as Link>⟧.history ⟦<MonitorLives as Lives>⟧.stood words.now devices.disks devices.channel result }
+{
     let Devices { disks, channel } = devices;
     match channel {
         Channel::Monitor(link) => run_as_monitor(rt, words, disks, link),
-        Channel::Client(link) => run_as_client(rt, words, disks, link),
-        Channel::Unused(link) => run_alone(rt, words, disks, link),
+        Channel::Client(link) => run_over(rt, words, disks, link),
+        Channel::Unused(link) => run_over(rt, words, disks, link),
     }
 }
 
@@ -55,100 +69,63 @@ fn run_as_monitor(
     rt: &HostRuntime,
     words: &[String],
     disks: FileDisks,
-    mut link: MonitorLink,
-) -> Status {
-    report_room(&mut link);
-    let mut most = FIRST_STANDSTILL;
-    let mut ended = ended_over(rt, words, disks, &mut link);
-    for _ in 0..u64::MAX {
-        if !link.inner.inner.stood() {
-            break;
-        }
-        let lived = link.clock.now().get();
-        most = report_standstill(&mut link.watch.lines, rt.alloc(), most, lived);
-        let Ok(life) = new_life(rt) else {
-            ended.status = Status::LinkFault;
-            break;
-        };
-        let Ended { disks, .. } = ended;
-        let Watched { inner, watch, .. } = link;
-        link = lives(rt, inner.inner.inner.inner, life, most, watch);
-        ended = ended_over(rt, words, disks, &mut link);
-    }
-    print_link_failure(rt, socket_of(&mut link));
-    drop(link);
-    status_of(rt, ended)
-}
-
-/// Follows as a client over this link.
-fn run_as_client(
-    rt: &HostRuntime,
-    words: &[String],
-    disks: FileDisks,
-    mut link: UdpLink<HostRuntime>,
-) -> Status {
-    print_short_room(rt, &mut link);
-    let status = run_over(rt, words, disks, &mut link);
-    print_link_failure(rt, &link);
-    drop(link);
-    status
-}
-
-/// Does a task that needs no link. The task makes no call of this one.
-fn run_alone(
-    rt: &HostRuntime,
-    words: &[String],
-    disks: FileDisks,
-    mut link: UdpLink<HostRuntime>,
-) -> Status {
-    let status = run_over(rt, words, disks, &mut link);
-    print_link_failure(rt, &link);
-    drop(link);
-    status
-}
-
-/// Does what the arguments ask for over this link.
-fn ended_over<L: Link>(
-    rt: &HostRuntime,
-    words: &[String],
-    disks: FileDisks,
-    link: &mut L,
-) -> Ended<CountedDisk> {
+    mut link: MonitorLives,
+) -> Status
+    ensures lives { LivesOver ⟦<CountedDisk as Disk>⟧.state ⟦<MonitorLives as Link>⟧.state
+        ⟦<MonitorLives as Link>⟧.history ⟦<MonitorLives as Lives>⟧.stood words.now disks link result }
+{
     let mut source = StdinSource::new(rt);
     let mut sink = StdoutSink::new(rt);
     let mut clock = RunClock::new(rt);
-    run(
+    let ended = run_lives(
         rt.alloc(),
         words,
         &mut source,
         &mut sink,
         disks,
-        link,
+        &mut link,
         &mut clock,
-    )
+    );
+    print_link_failure(rt, link.socket());
+    drop(link);
+    status_of(rt, ended)
+}
+
+/// Does what the arguments ask for over this link. A task that needs no link makes no call of it.
+fn run_over(
+    rt: &HostRuntime,
+    words: &[String],
+    disks: FileDisks,
+    mut link: UdpLink<HostRuntime>,
+) -> Status
+    ensures runs { Runs ⟦<CountedDisk as Disk>⟧.state ⟦<MonitorLives as Link>⟧.state
+        ⟦<MonitorLives as Link>⟧.history ⟦<MonitorLives as Lives>⟧.stood words.now disks (⟦<UdpLink<HostRuntime> as Link>⟧.state link) result }
+{
+    let mut source = StdinSource::new(rt);
+    let mut sink = StdoutSink::new(rt);
+    let mut clock = RunClock::new(rt);
+    let ended = run(
+        rt.alloc(),
+        words,
+        &mut source,
+        &mut sink,
+        disks,
+        &mut link,
+        &mut clock,
+    );
+    print_link_failure(rt, &link);
+    drop(link);
+    status_of(rt, ended)
 }
 
 /// Says on standard error which disks failed. Returns how the program ends.
-fn status_of(rt: &HostRuntime, ended: Ended<CountedDisk>) -> Status {
+fn status_of(rt: &HostRuntime, ended: Ended<CountedDisk>) -> Status
+    ensures { result ≡ ended.status }
+{
     print_disk_failures(rt, &ended.disks);
     let status = ended.status;
     drop(ended);
     status
-}
-
-/// Does what the arguments ask for over this link, and says on standard error which disks failed.
-fn run_over<L: Link>(rt: &HostRuntime, words: &[String], disks: FileDisks, link: &mut L) -> Status {
-    let ended = ended_over(rt, words, disks, link);
-    status_of(rt, ended)
-}
-
-/// Prints on standard error, before a client follows, if its socket has too little room for a long message.
-fn print_short_room(rt: &HostRuntime, link: &mut UdpLink<HostRuntime>) {
-    if let Some(room) = link.short_room() {
-        if let Ok(line) = room_line(rt.alloc(), room) {
-            print(rt, &line);
-        }
-    }
 }
 
 /// Prints on standard error, for each disk, the error that the system gave to its first call that failed.

@@ -1,5 +1,5 @@
 -- The devices of each task: whose files, whose address and whose peers they have.
-use Rattle.std.specs.Prelude.{◌≡◌, ◌⊎◌, ℕ, List, [], None, Some, String, string_bytes}
+use Rattle.std.specs.Prelude.{◌≡◌, ◌⊎◌, ℕ, false, List, [], None, Some, String, string_bytes}
 use Rattle.std.specs.declared.alloc.Global.{Global}
 use Rattle.election_rules.specs.declared.rule.Rule.{Rule}
 use Rattle.mon_link.specs.declared.udp.Address.{Address}
@@ -13,7 +13,7 @@ use Rattle.task_words.specs.declared.task.Task.TheVariants as task
 use Rattle.cephmon_links.specs.declared.devices.Channel.{Channel}
 use Rattle.cephmon_links.specs.declared.devices.Channel.TheVariants as channel
 use Rattle.cephmon_links.specs.declared.devices.Devices.{Devices}
-use Rattle.cephmon_links.specs.declared.naming.TheConstants.{FIRST_STANDSTILL}
+use Rattle.cephmon_links.specs.declared.living.TheConstants.{FIRST_STANDSTILL}
 
 -- disk a is in the file of this name, and disk b in that one
 abbrev pub HaveFiles : (a b : List ℕ) → Devices → Type 0
@@ -22,14 +22,16 @@ HaveFiles a b d = (string_bytes d.disks.a.inner.path ≡ a) × (string_bytes d.d
 -- The link of a monitor: its socket is at the address of its own rank, among the addresses of all. It says that it is this
 -- member of that quorum, and takes what has the quorum's tag. It is the link of a first life.
 abbrev pub IsMonitorOf : Member → Rule → List Address → Channel → Type 0
-IsMonitorOf m rule addresses (channel.Monitor link) =
+IsMonitorOf m rule addresses (channel.Monitor lives) =
+    let link = lives.link in
     let named = link.inner.inner.inner in
     let greeting = named.inner in
     (greeting.inner.own ≡ Some m.rank) × (greeting.inner.addresses.items ≡ addresses)
     × (greeting.own.member ≡ m) × (greeting.own.hello.rank ≡ m.rank) × (greeting.own.hello.addresses ≡ addresses)
     × (greeting.own.hello.identity.monitors ≡ m.monitors) × (greeting.own.hello.identity.rule ≡ rule)
     × (named.tag ≡ tag_of greeting.own.hello.identity)
-    × (link.inner.inner.gaps.most ≡ FIRST_STANDSTILL) × (link.inner.copies ≡ fresh)
+    × (link.inner.inner.gaps.most ≡ FIRST_STANDSTILL) × (link.inner.inner.gaps.stood ≡ false)
+    × (link.inner.copies ≡ fresh)
     × (link.watch.member ≡ m) × (link.notes ≡ no_notes)
 IsMonitorOf m rule addresses (channel.Client link) = ⊥
 IsMonitorOf m rule addresses (channel.Unused link) = ⊥

@@ -3,8 +3,10 @@
 ghost use Rattle.std.specs.Prelude.{◌≡◌, [], IfOk, string_bytes};
 ghost use Rattle.cephmon_links.specs.Devices.{AreAsked, AreFor, AreUnused, HaveFiles, IsClientOf, IsMonitorOf, IsUnused};
 
-use crate::naming::{FIRST_STANDSTILL, MonitorLink, greeting, lives, new_life};
+use crate::living::MonitorLives;
+use crate::naming::{greeting, new_life, room_line};
 use crate::refused::NoDevices;
+use crate::standard_error::print;
 use crate::watching::{Times, lines_of, share, watch};
 use election_rules::Rule;
 use mon_bytes::{Items, Text};
@@ -25,7 +27,7 @@ pub type FileDisks = NodeDisks<CountedDisk>;
 #[derive(Drop)]
 pub enum Channel {
     /// The link of a monitor, which names its quorum and sends some datagrams again.
-    Monitor(MonitorLink),
+    Monitor(MonitorLives),
     /// The link of a client, on a port that the system chooses.
     Client(UdpLink<HostRuntime>),
     /// A link that is never called.
@@ -105,13 +107,27 @@ fn monitor_channel(
     let lines = lines_of(rt)?;
     let watch = watch(rt, member, times, share(&lines)?)?;
     let link = greeting(rt, member, rule, addresses, lines)?;
-    Ok(Channel::Monitor(lives(rt, link, life, FIRST_STANDSTILL, watch)))
+    Ok(Channel::Monitor(MonitorLives::first(rt, link, life, watch)))
 }
 
 fn client_channel(rt: &HostRuntime, addresses: Vec<Address>) -> Channel
     ensures { IsClientOf addresses.items result }
 {
-    Channel::Client(UdpLink::client(rt, addresses))
+    let mut link = UdpLink::client(rt, addresses);
+    print_short_room(rt, &mut link);
+    Channel::Client(link)
+}
+
+/// Prints on standard error if the socket of a client has too little room for a long message.
+fn print_short_room(rt: &HostRuntime, link: &mut UdpLink<HostRuntime>)
+    ensures own { link.new.own ≡ link.old.own }
+    ensures addresses { link.new.addresses ≡ link.old.addresses }
+{
+    if let Some(room) = link.short_room()
+        && let Ok(line) = room_line(rt.alloc(), room)
+    {
+        print(rt, &line);
+    }
 }
 
 fn no_channel(rt: &HostRuntime) -> Channel

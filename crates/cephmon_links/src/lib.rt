@@ -3,15 +3,14 @@
 #![tactic(auto)]
 
 mod devices;
+mod living;
 mod naming;
 mod refused;
 mod standard_error;
 mod watching;
 
 pub use devices::{Channel, CountedDisk, Devices, FileDisks, devices_of};
-pub use naming::{
-    FIRST_STANDSTILL, MonitorLink, lives, new_life, report_room, report_standstill, room_line,
-    socket_of,
-};
+pub use living::{FIRST_STANDSTILL, MonitorLives};
+pub use naming::MonitorLink;
 pub use refused::NoDevices;
 pub use standard_error::{print, print_of};

@@ -1,23 +1,22 @@
 //! The link of a monitor: it names its quorum, numbers its life, and is closed after its machine stood still.
 
-ghost use Rattle.std.specs.Prelude.{◌≡◌, Some, IfOk};
+ghost use Rattle.std.specs.Prelude.{◌≡◌, ◌<◌, ◌^◌, Some, IfOk};
 ghost use Rattle.mon_hello.specs.Formats.{tag_of};
-ghost use Rattle.mon_resend.specs.World.{fresh};
-ghost use Rattle.mon_watch.specs.Traffic.{no_notes};
 ghost use Rattle.cephmon_links.specs.Lives.{next_most};
 
 use crate::devices::peers;
+use crate::living::FIRST_STANDSTILL;
 use crate::refused::NoDevices;
 use crate::standard_error::print_of;
 use crate::watching::Lines;
 use election_rules::Rule;
 use mon_bytes::{Items, OutOfMemory};
 use mon_hello::{Greeting, Heard, MOST_QUORUM_NAME, Own, QuorumName};
-use mon_link::{Address, Clock, RunClock, UdpLink};
+use mon_link::{Address, RunClock, UdpLink};
 use mon_name::{Awake, BootClock, Life, Named, framed};
 use mon_resend::Resending;
 use mon_types::Member;
-use mon_watch::{LineReceiver, Watch, Watched};
+use mon_watch::{LineReceiver, Watched};
 use std::alloc::{AllocError, Global};
 use std::env::{Env, FillError};
 use std::fmt::Write;
@@ -28,9 +27,7 @@ const QUORUM: &str = "CEPHMON_QUORUM";
 /// Why a name is refused.
 const REFUSED_NAME: &str = "more than 255 bytes, or not UTF-8";
 
-/// For how many milliseconds the machine may stand still in the first life of a monitor, and in any life at most.
-pub const FIRST_STANDSTILL: u64 = 10_000;
-
+/// For how many milliseconds the machine may stand still in any life at most.
 pub(crate) const MOST_STANDSTILL: u64 = 120_000;
 
 /// A socket whose monitors greet one another.
@@ -69,7 +66,9 @@ fn named_quorum(rt: &HostRuntime) -> Result<QuorumName, NoDevices> {
 }
 
 /// The number of a new life. If the system gives neither random bits nor the time, that is reported on standard error.
-pub fn new_life(rt: &HostRuntime) -> Result<Life, NoDevices> {
+pub(crate) fn new_life(rt: &HostRuntime) -> Result<Life, NoDevices>
+    ensures { IfOk result (λ life. life < 2 ^ 62) }
+{
     match mon_name::new_life(rt) {
         Ok(life) => Ok(life),
         Err(said) => {
@@ -107,13 +106,14 @@ fn heard(rt: &HostRuntime, monitors: u8, tag: u64) -> Result<Heard, OutOfMemory>
     Heard::new(rt.alloc(), monitors, frame)
 }
 
-/// The socket of a monitor, over which the monitors greet one another.
-pub fn greeting(
+/// The socket of a monitor, over which the monitors greet one another. It reports if it has too little room for a long
+/// message.
+pub(crate) fn greeting(
     rt: &HostRuntime,
     member: Member,
     rule: Rule,
     addresses: &Items<Address>,
-    lines: Lines,
+    mut lines: Lines,
 ) -> Result<GreetingLink, NoDevices>
     ensures socket { IfOk result (λ link. link.inner.own ≡ Some member.rank) }
     ensures peers { IfOk result (λ link. link.inner.addresses.items ≡ addresses.now) }
@@ -135,37 +135,9 @@ pub fn greeting(
         drop(heard);
         return Err(NoDevices::OutOfMemory);
     };
-    let socket = UdpLink::named(rt, rank, addresses);
+    let mut socket = UdpLink::named(rt, rank, addresses);
+    report_room(rt.alloc(), &mut socket, &mut lines);
     Ok(Greeting::new(socket, RunClock::new(rt), lines, own, heard))
-}
-
-/// The link of a new life over a socket. It is closed after the machine stood still for more than `most` milliseconds,
-/// and it is watched.
-pub fn lives(
-    rt: &HostRuntime,
-    link: GreetingLink,
-    life: Life,
-    most: u64,
-    watch: Watch<Lines>,
-) -> MonitorLink
-    ensures below { result.inner.inner.inner.inner ≡ link }
-    ensures tag { result.inner.inner.inner.tag ≡ link.own.tag }
-    ensures life { result.inner.inner.inner.life ≡ life }
-    ensures most { result.inner.inner.gaps.most ≡ most }
-    ensures copies { result.inner.copies ≡ fresh }
-    ensures member { result.watch.member ≡ watch.member }
-    ensures notes { result.notes ≡ no_notes }
-{
-    let tag = link.own.tag;
-    let named = Named::new(link, tag, life, rt.alloc());
-    let awake = Awake::new(named, BootClock::new(), most);
-    let resending = Resending::new(rt.alloc(), awake, RunClock::new(rt));
-    Watched::new(resending, RunClock::new(rt), watch)
-}
-
-/// The socket of a link.
-pub fn socket_of(link: &mut MonitorLink) -> &mut UdpLink<HostRuntime> {
-    &mut link.inner.inner.inner.inner.inner
 }
 
 /// The bound on a standstill in the next life, in milliseconds, after a life with the bound `most` that lasted `lived`
@@ -192,7 +164,7 @@ fn standstill_line(alloc: Global, most: u64, next: u64) -> Result<String, AllocE
 }
 
 /// Reports that the machine stood still. Returns the bound on a standstill in the next life, in milliseconds.
-pub fn report_standstill(lines: &mut Lines, alloc: Global, most: u64, lived: u64) -> u64
+pub(crate) fn report_standstill(lines: &mut Lines, alloc: Global, most: u64, lived: u64) -> u64
     ensures { result ≡ next_most most lived }
 {
     let next = next_most(most, lived);
@@ -204,7 +176,7 @@ pub fn report_standstill(lines: &mut Lines, alloc: Global, most: u64, lived: u64
 
 /// The line that a socket has room for this many bytes, which is too little for a long message. Returns an error if memory
 /// runs out.
-pub fn room_line(alloc: Global, room: u32) -> Result<String, AllocError> {
+pub(crate) fn room_line(alloc: Global, room: u32) -> Result<String, AllocError> {
     let mut line = String::new(alloc);
     write!(
         line,
@@ -213,12 +185,14 @@ pub fn room_line(alloc: Global, room: u32) -> Result<String, AllocError> {
     Ok(line)
 }
 
-/// Reports, before a monitor serves, if its socket has too little room for a long message.
-pub fn report_room(link: &mut MonitorLink) {
-    let room = socket_of(link).short_room();
-    if let Some(room) = room
-        && let Ok(line) = room_line(link.watch.alloc, room)
+/// Reports if a socket has too little room for a long message.
+fn report_room(alloc: Global, socket: &mut UdpLink<HostRuntime>, lines: &mut Lines)
+    ensures own { socket.new.own ≡ socket.old.own }
+    ensures addresses { socket.new.addresses ≡ socket.old.addresses }
+{
+    if let Some(room) = socket.short_room()
+        && let Ok(line) = room_line(alloc, room)
     {
-        link.watch.lines.take_line(line.as_str());
+        lines.take_line(line.as_str());
     }
 }
