@@ -1,0 +1,3 @@
+pub mod Entries
+pub mod Recorders
+pub mod Tapes
