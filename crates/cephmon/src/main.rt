@@ -10,7 +10,8 @@ ghost use Rattle.cephmon.specs.Program.{IsWithoutDevices, LivesOver, Runs, RunsO
 
 use crate::words::words_of;
 use cephmon_links::{
-    Channel, CountedDisk, Devices, FileDisks, MonitorLives, NoDevices, devices_of, print, print_of,
+    Channel, CountedDisk, Devices, FileDisks, MonitorClock, NoDevices, RecordedLives, devices_of,
+    print, print_of,
 };
 use cephmon_run::{Ended, Status, run, run_lives};
 use mon_disk::Disk;
@@ -29,8 +30,8 @@ fn main(rt: HostRuntime) -> ExitCode {
 /// Does what the arguments ask for, on the streams, files, sockets and the clock of the system.
 fn run_words(rt: &HostRuntime, words: &[String]) -> Status
     ensures runs { ((devices : DeviceSet) × AreAsked words.now devices
-        × RunsOn ⟦<CountedDisk as Disk>⟧.state ⟦<MonitorLives as Link>⟧.state
-        ⟦<MonitorLives as Link>⟧.history ⟦<MonitorLives as Lives>⟧.stood words.now devices.disks devices.channel result)
+        × RunsOn ⟦<CountedDisk as Disk>⟧.state ⟦<RecordedLives as Link>⟧.state
+        ⟦<RecordedLives as Link>⟧.history ⟦<RecordedLives as Lives>⟧.stood words.now devices.disks devices.channel result)
         ⊎ IsWithoutDevices result }
 {
     match devices_of(rt, words) {
@@ -53,12 +54,12 @@ fn status_without(why: NoDevices) -> Status
 /// Does what the arguments ask for, on these devices.
 // Each arm hands its link on as a whole: a link that goes out of scope in an arm is proved part by part there.
 fn run_on_devices(rt: &HostRuntime, words: &[String], devices: Devices) -> Status
-    ensures runs { RunsOn ⟦<CountedDisk as Disk>⟧.state ⟦<MonitorLives as Link>⟧.state
-        ⟦<MonitorLives as Link>⟧.history ⟦<MonitorLives as Lives>⟧.stood words.now devices.disks devices.channel result }
+    ensures runs { RunsOn ⟦<CountedDisk as Disk>⟧.state ⟦<RecordedLives as Link>⟧.state
+        ⟦<RecordedLives as Link>⟧.history ⟦<RecordedLives as Lives>⟧.stood words.now devices.disks devices.channel result }
 {
     let Devices { disks, channel } = devices;
     match channel {
-        Channel::Monitor(link) => run_as_monitor(rt, words, disks, link),
+        Channel::Monitor { link, clock } => run_as_monitor(rt, words, disks, link, clock),
         Channel::Client(link) => run_over(rt, words, disks, link),
         Channel::Unused(link) => run_over(rt, words, disks, link),
     }
@@ -69,14 +70,14 @@ fn run_as_monitor(
     rt: &HostRuntime,
     words: &[String],
     disks: FileDisks,
-    mut link: MonitorLives,
+    mut link: RecordedLives,
+    mut clock: MonitorClock,
 ) -> Status
-    ensures lives { LivesOver ⟦<CountedDisk as Disk>⟧.state ⟦<MonitorLives as Link>⟧.state
-        ⟦<MonitorLives as Link>⟧.history ⟦<MonitorLives as Lives>⟧.stood words.now disks link result }
+    ensures lives { LivesOver ⟦<CountedDisk as Disk>⟧.state ⟦<RecordedLives as Link>⟧.state
+        ⟦<RecordedLives as Link>⟧.history ⟦<RecordedLives as Lives>⟧.stood words.now disks link result }
 {
     let mut source = StdinSource::new(rt);
     let mut sink = StdoutSink::new(rt);
-    let mut clock = RunClock::new(rt);
     let ended = run_lives(
         rt.alloc(),
         words,
@@ -86,7 +87,8 @@ fn run_as_monitor(
         &mut link,
         &mut clock,
     );
-    print_link_failure(rt, link.socket());
+    link.ends(ended.status.number());
+    print_link_failure(rt, link.inner.socket());
     drop(link);
     status_of(rt, ended)
 }
@@ -98,8 +100,8 @@ fn run_over(
     disks: FileDisks,
     mut link: UdpLink<HostRuntime>,
 ) -> Status
-    ensures runs { Runs ⟦<CountedDisk as Disk>⟧.state ⟦<MonitorLives as Link>⟧.state
-        ⟦<MonitorLives as Link>⟧.history ⟦<MonitorLives as Lives>⟧.stood words.now disks (⟦<UdpLink<HostRuntime> as Link>⟧.state link) result }
+    ensures runs { Runs ⟦<CountedDisk as Disk>⟧.state ⟦<RecordedLives as Link>⟧.state
+        ⟦<RecordedLives as Link>⟧.history ⟦<RecordedLives as Lives>⟧.stood words.now disks (⟦<UdpLink<HostRuntime> as Link>⟧.state link) result }
 {
     let mut source = StdinSource::new(rt);
     let mut sink = StdoutSink::new(rt);

@@ -7,13 +7,20 @@ use Rattle.mon_types.specs.declared.member.Member.{Member}
 use Rattle.mon_hello.specs.Formats.{tag_of}
 use Rattle.mon_resend.specs.World.{fresh}
 use Rattle.mon_watch.specs.Traffic.{no_notes}
+use Rattle.mon_record.specs.declared.link.Recording.{Recording}
 use Rattle.task_words.specs.Task.{AsksFor, AsksForNone}
 use Rattle.task_words.specs.declared.task.Task.{Task}
 use Rattle.task_words.specs.declared.task.Task.TheVariants as task
 use Rattle.cephmon_links.specs.declared.devices.Channel.{Channel}
 use Rattle.cephmon_links.specs.declared.devices.Channel.TheVariants as channel
 use Rattle.cephmon_links.specs.declared.devices.Devices.{Devices}
+use Rattle.cephmon_links.specs.declared.living.MonitorLives.{MonitorLives}
 use Rattle.cephmon_links.specs.declared.living.TheConstants.{FIRST_STANDSTILL}
+use Rattle.cephmon_links.specs.declared.recording.RecordFiles.{RecordFiles}
+
+-- the lives of a monitor, of which a record may be kept
+abbrev pub RecordedLives : Type 0
+RecordedLives = Recording MonitorLives RecordFiles
 
 -- disk a is in the file of this name, and disk b in that one
 abbrev pub HaveFiles : (a b : List ℕ) → Devices → Type 0
@@ -22,8 +29,8 @@ HaveFiles a b d = (string_bytes d.disks.a.inner.path ≡ a) × (string_bytes d.d
 -- The link of a monitor: its socket is at the address of its own rank, among the addresses of all. It says that it is this
 -- member of that quorum, and takes what has the quorum's tag. It is the link of a first life.
 abbrev pub IsMonitorOf : Member → Rule → List Address → Channel → Type 0
-IsMonitorOf m rule addresses (channel.Monitor lives) =
-    let link = lives.link in
+IsMonitorOf m rule addresses (channel.Monitor recorded clock) =
+    let link = recorded.inner.link in
     let named = link.inner.inner.inner in
     let greeting = named.inner in
     (greeting.inner.own ≡ Some m.rank) × (greeting.inner.addresses.items ≡ addresses)
@@ -39,12 +46,12 @@ IsMonitorOf m rule addresses (channel.Unused link) = ⊥
 -- the link of a client, which has no rank, to these addresses
 abbrev pub IsClientOf : List Address → Channel → Type 0
 IsClientOf addresses (channel.Client link) = (link.own ≡ None) × (link.addresses.items ≡ addresses)
-IsClientOf addresses (channel.Monitor link) = ⊥
+IsClientOf addresses (channel.Monitor link clock) = ⊥
 IsClientOf addresses (channel.Unused link) = ⊥
 
 abbrev pub IsUnused : Channel → Type 0
 IsUnused (channel.Unused link) = Unit {0}
-IsUnused (channel.Monitor link) = ⊥
+IsUnused (channel.Monitor link clock) = ⊥
 IsUnused (channel.Client link) = ⊥
 
 -- the devices of a command on the store in two files

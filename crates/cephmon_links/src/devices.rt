@@ -5,6 +5,7 @@ ghost use Rattle.cephmon_links.specs.Devices.{AreAsked, AreFor, AreUnused, HaveF
 
 use crate::living::MonitorLives;
 use crate::naming::{greeting, new_life, room_line};
+use crate::recording::{MonitorClock, Recorded, RecordedLives, begun, record_of};
 use crate::refused::NoDevices;
 use crate::standard_error::print;
 use crate::watching::{Times, lines_of, share, watch};
@@ -12,6 +13,7 @@ use election_rules::Rule;
 use mon_bytes::{Items, Text};
 use mon_disk::{FileDisk, NodeDisks};
 use mon_link::{Address, RunClock, UdpLink};
+use mon_record::Recording;
 use mon_types::{Member, Rank};
 use mon_watch::Timed;
 use std::alloc::Global;
@@ -27,7 +29,10 @@ pub type FileDisks = NodeDisks<CountedDisk>;
 #[derive(Drop)]
 pub enum Channel {
     /// The link of a monitor, which names its quorum and sends some datagrams again.
-    Monitor(MonitorLives),
+    Monitor {
+        link: RecordedLives,
+        clock: MonitorClock,
+    },
     /// The link of a client, on a port that the system chooses.
     Client(UdpLink<HostRuntime>),
     /// A link that is never called.
@@ -100,6 +105,7 @@ fn monitor_channel(
     rule: Rule,
     addresses: &Items<Address>,
     times: Times,
+    recorded: Recorded,
 ) -> Result<Channel, NoDevices>
     ensures { IfOk result (IsMonitorOf member rule addresses.now) }
 {
@@ -107,7 +113,13 @@ fn monitor_channel(
     let lines = lines_of(rt)?;
     let watch = watch(rt, member, times, share(&lines)?)?;
     let link = greeting(rt, member, rule, addresses, lines)?;
-    Ok(Channel::Monitor(MonitorLives::first(rt, link, life, watch)))
+    let Recorded { recorder, clock } = recorded;
+    let recorder = begun(recorder, link.own.tag, life);
+    let lives = MonitorLives::first(rt, link, life, watch);
+    Ok(Channel::Monitor {
+        link: Recording::new(lives, recorder),
+        clock,
+    })
 }
 
 fn client_channel(rt: &HostRuntime, addresses: Vec<Address>) -> Channel
@@ -152,7 +164,8 @@ fn monitor_devices(
     let a = path(rt.alloc(), disk_a)?;
     let b = path(rt.alloc(), disk_b)?;
     let times = Times::new(rt)?;
-    let channel = monitor_channel(rt, member, rule, addresses, times.share()?)?;
+    let recorded = record_of(rt, member, rule, disk_a, disk_b)?;
+    let channel = monitor_channel(rt, member, rule, addresses, times.share()?, recorded)?;
     let disks = counted_disks(rt, a, b, times);
     Ok(Devices { disks, channel })
 }

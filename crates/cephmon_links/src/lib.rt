@@ -5,6 +5,7 @@
 mod devices;
 mod living;
 mod naming;
+mod recording;
 mod refused;
 mod standard_error;
 mod watching;
@@ -12,5 +13,6 @@ mod watching;
 pub use devices::{Channel, CountedDisk, Devices, FileDisks, devices_of};
 pub use living::{FIRST_STANDSTILL, MonitorLives};
 pub use naming::MonitorLink;
+pub use recording::{MonitorClock, RecordFiles, RecordedLives};
 pub use refused::NoDevices;
 pub use standard_error::{print, print_of};
