@@ -188,18 +188,10 @@ class Writer(Spelling):
 
     def ends(self, node: Expression, scope: Scope, lines: Lines) -> None:
         """Writes statements that return the value of an expression."""
-        if isinstance(node, nodes.If):
-            self.ends_if(node, scope, lines)
-        elif isinstance(node, nodes.Let):
-            self.ends_let(node, scope, lines)
-        elif isinstance(node, nodes.Do):
-            self.ends_do(node, scope, lines)
-        elif isinstance(node, nodes.Elim):
-            self.ends_elim(node, scope, lines)
-        elif isinstance(node, nodes.Operator) and node.sign == '>>=':
-            self.ends_then(node, scope, lines)
-        else:
-            self.give(self.expression(node, scope, lines), lines)
+        self.ENDS.get(type(node), type(self).ends_plainly)(self, node, scope, lines)
+
+    def ends_plainly(self, node: Expression, scope: Scope, lines: Lines) -> None:
+        self.give(self.expression(node, scope, lines), lines)
 
     def ends_if(self, node: nodes.If, scope: Scope, lines: Lines) -> None:
         self.begin_if(self.expression(node.test, scope, lines), lines)
@@ -230,7 +222,10 @@ class Writer(Spelling):
         self.assign(text, self.argument(result, 0), lines)
         return {**scope, name: Local(text)}
 
-    def ends_then(self, node: nodes.Operator, scope: Scope, lines: Lines) -> None:
+    def ends_operator(self, node: nodes.Operator, scope: Scope, lines: Lines) -> None:
+        if node.sign != '>>=':
+            self.ends_plainly(node, scope, lines)
+            return
         inner = self.step("it'", self.expression(node.left, scope, lines), scope, lines)
         self.ends(nodes.Apply(node.line, node.right, (nodes.Name(node.line, "it'"),)), inner, lines)
 
@@ -438,6 +433,10 @@ class Writer(Spelling):
         nodes.Number: of_number, nodes.Text: of_text, nodes.Nil: of_nil, nodes.Pair: of_pair, nodes.Name: of_name, nodes.Dot: of_dot,
         nodes.Apply: of_apply, nodes.Lambda: of_lambda, nodes.If: of_if, nodes.Let: apart, nodes.Do: apart, nodes.Elim: apart,
         nodes.Record: of_record, nodes.Operator: of_operator,
+    }
+    # The forms that need statements. In FORMS such a form is `apart`.
+    ENDS: Dict[type, Callable[..., None]] = {
+        nodes.If: ends_if, nodes.Let: ends_let, nodes.Do: ends_do, nodes.Elim: ends_elim, nodes.Operator: ends_operator,
     }
     SIGNS: Dict[str, 'Callable[[Writer, str, str], str]'] = {
         '&&': lambda self, a, b: self.both([a, b]), '||': lambda self, a, b: self.either(a, b), '==': lambda self, a, b: self.equal(a, b),
