@@ -61,10 +61,20 @@ def exercise(name: str, folder: str) -> dict[str, Any]:
     return {**found._asdict(), 'needs': [[said, pattern(it)] for said, it in found.needs], 'never': [[said, pattern(it)] for said, it in found.never]}
 
 
+def scenario_names() -> list[str]:
+    """The scenarios of this repository that a page can have. One with `fill` has thousands of events: too many for a page, and it takes half a minute."""
+    names = sorted(name[:-len('.scenario')] for name in os.listdir(SCENARIOS) if name.endswith('.scenario'))
+    return [name for name in names if ' fill ' not in scenario_text(name)]
+
+
+def scenario_text(name: str) -> str:
+    with open(os.path.join(SCENARIOS, name + '.scenario'), encoding='utf-8') as file:
+        return file.read()
+
+
 def scenario(name: str) -> list[str]:
     """The schedule of a scenario of this repository."""
-    with open(os.path.join(SCENARIOS, name + '.scenario'), 'rb') as file:
-        return read_schedule(file.read())[0]
+    return read_schedule(scenario_text(name).encode())[0]
 
 
 def tour() -> dict[str, Any]:
@@ -83,12 +93,12 @@ def tour() -> dict[str, Any]:
 def data(begin: Beginning) -> dict[str, Any]:
     """What the scripts of the page read."""
     all_rules = [*rules.RULES, *([begin.rule] if begin.rule and begin.rule.name not in {it.name for it in rules.RULES} else [])]
-    true, names = definitions(None), sorted(name[:-len('.scenario')] for name in os.listdir(SCENARIOS) if name.endswith('.scenario'))
+    true = definitions(None)
     return {
         'definitions': true, 'calls': bundled.calls_text(CALLS), 'changed': {rule.name: changed(rule, true) for rule in all_rules},
         'rules': [{'name': rule.name, 'changed': rule.changed, 'true': rule.true, 'why': rule.why} for rule in all_rules],
         'exercises': {name: exercise(name, begin.folder) for name in exercises.names(begin.folder)},
-        'scenarios': {name: scenario(name) for name in names},
+        'scenarios': {name: scenario(name) for name in scenario_names()},
         'paragraphs': {row: words.paragraph_of(row) for row in words.ROWS}, 'tests': words.TESTS,
         'clauses': [clause._asdict() for clause in safety.CLAUSES], 'says': safety.SAYS,
         'begin': {'lines': begin.lines, 'rule': begin.rule and begin.rule.name, 'exercise': begin.exercise, 'isTour': begin.is_tour},
