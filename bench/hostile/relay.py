@@ -2,7 +2,7 @@
 from __future__ import annotations
 
 import random
-import select
+import selectors
 import socket
 import threading
 import time
@@ -10,6 +10,8 @@ import time
 from quorum import free_ports
 
 Address = tuple[str, int]
+# Seconds without a datagram after which a client is forgotten.
+IDLE = 60.0
 
 
 class Relay(threading.Thread):
@@ -21,9 +23,14 @@ class Relay(threading.Thread):
         self.loss, self.chance, self.asked, self.ends = loss, random.Random(seed), [], threading.Event()
         self.ports = free_ports(len(addresses))
         self.monitors = {self.bound(port): address for port, address in zip(self.ports, addresses)}
-        # The socket at which a monitor replies to a client, by the socket of the monitor's port and the client; and these two by that socket.
+        # The socket at which a monitor replies to a client, by the socket of the monitor's port and the client; these two by that socket; and when it was
+        # used.
         self.replies: dict[tuple[socket.socket, Address], socket.socket] = {}
         self.clients: dict[socket.socket, tuple[socket.socket, Address]] = {}
+        self.used: dict[socket.socket, float] = {}
+        self.selector = selectors.DefaultSelector()
+        for here in self.monitors:
+            self.selector.register(here, selectors.EVENT_READ)
         self.start()
 
     @staticmethod
@@ -35,20 +42,36 @@ class Relay(threading.Thread):
 
     def run(self):
         while not self.ends.is_set():
-            for here in select.select([*self.monitors, *self.clients], [], [], 0.2)[0]:
-                datagram, peer = here.recvfrom(65_536)
-                if here in self.monitors:
-                    self.asked.append(time.monotonic())
-                    self.hand(self.reply(here, peer), datagram, self.monitors[here])
-                else:
-                    there, client = self.clients[here]
-                    self.hand(there, datagram, client)
+            for key, _ in self.selector.select(0.2):
+                self.take(key.fileobj)
+
+    def take(self, here: socket.socket):
+        if here not in self.monitors and here not in self.clients:
+            return
+        datagram, peer = here.recvfrom(65_536)
+        if here in self.monitors:
+            self.asked.append(time.monotonic())
+            self.hand(self.reply(here, peer), datagram, self.monitors[here])
+        else:
+            there, client = self.clients[here]
+            self.hand(there, datagram, client)
 
     def reply(self, here: socket.socket, client: Address) -> socket.socket:
         if (here, client) not in self.replies:
+            self.forget()
             found = self.replies[here, client] = self.bound(0)
             self.clients[found] = here, client
-        return self.replies[here, client]
+            self.selector.register(found, selectors.EVENT_READ)
+        found = self.replies[here, client]
+        self.used[found] = time.monotonic()
+        return found
+
+    def forget(self):
+        """Closes the sockets of clients that are silent: a program that asks from a new port each time would use up all descriptors."""
+        for found in [found for found, used in self.used.items() if used < time.monotonic() - IDLE]:
+            self.selector.unregister(found)
+            del self.replies[self.clients.pop(found)], self.used[found]
+            found.close()
 
     def hand(self, there: socket.socket, datagram: bytes, to: Address):
         if self.chance.random() >= self.loss:
