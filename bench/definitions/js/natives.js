@@ -2,23 +2,29 @@
 'use strict';
 
 const $FAULTY = $error($single('Faulty'));
-const $MOST_TRANSACTION = 4194304;
+const $MOST_TRANSACTION = 4194304, $MOST_NUMBER = 2n ** 62n;
 
 class $Reader {
   constructor(octets) { this.octets = octets; this.at = 0; }
 
-  take(count, isSo = () => true) {
+  take(count) {
     const field = this.octets.slice(this.at, this.at + count);
-    if (field.length < count || !isSo(field)) throw new $Refusal();
+    if (field.length < count) throw new $Refusal();
     this.at += count;
     return field;
   }
 
-  unsigned(size, least = 0, most = 2n ** 64n) {
-    return $little(this.take(size, field => least <= $little(field) && $little(field) <= most));
+  unsigned(size, least = 0, most = Infinity) {
+    const number = $little(this.take(size));
+    if (!(least <= number && number <= most)) throw new $Refusal();
+    return number;
   }
 
-  word(most) { return this.take(this.unsigned(1, 1, most), field => /^[\x21-\x7e]*$/.test(field)); }
+  word(most) {
+    const field = this.take(this.unsigned(1, 1, most));
+    if (!/^[\x21-\x7e]*$/.test(field)) throw new $Refusal();
+    return field;
+  }
 
   counted() { return this.take(this.unsigned(4)); }
 
@@ -66,11 +72,12 @@ function $changeTextOf(change) {
 }
 
 function mon_tx__Text__text(changes) {
-  if (!$texts.has(changes)) {
-    const form = $items(changes).some(change => change.name === 'EraseRange') ? 2 : 1;
-    $texts.set(changes, String.fromCharCode(form) + $littleOctets(4, changes.length) + $items(changes).map($changeTextOf).join(''));
+  let text = $texts.get(changes);
+  if (text === undefined) {
+    const items = $items(changes), form = items.some(change => change.name === 'EraseRange') ? 2 : 1;
+    $texts.set(changes, text = String.fromCharCode(form) + $littleOctets(4, changes.length) + items.map($changeTextOf).join(''));
   }
-  return $texts.get(changes);
+  return text;
 }
 
 function $changeIn(reader, form) {
@@ -78,8 +85,8 @@ function $changeIn(reader, form) {
   if (kind === 1) return $made('Put', [prefix, reader.word(255), reader.counted()]);
   if (kind === 2) return $made('Erase', [prefix, reader.word(255)]);
   if (kind === 3) return $made('ErasePrefix', [prefix]);
-  const first = reader.unsigned(8, 0, 2n ** 62n);
-  return $made('EraseRange', [prefix, first, reader.unsigned(8, $sum(first, 1), 2n ** 62n)]);
+  const first = reader.unsigned(8, 0, $MOST_NUMBER);
+  return $made('EraseRange', [prefix, first, reader.unsigned(8, $sum(first, 1), $MOST_NUMBER)]);
 }
 
 function $changesIn(reader) {
@@ -165,7 +172,7 @@ const mon_tx__Map__number_bytes = number => $littleOctets(8, number);
 function mon_tx__Map__number_in(cell) {
   if (cell.args.length === 0 || cell.args[0].length !== 8) return 0;
   const number = $little($octets(cell.args[0]));
-  return number <= 2n ** 62n ? number : 0;
+  return typeof number === 'number' || number <= $MOST_NUMBER ? number : 0;
 }
 
 

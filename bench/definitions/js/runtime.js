@@ -280,8 +280,27 @@ const $sameEntries = (a, b) => a.length === b.length && a.every(([key, value], p
 
 const $caches = [];
 
+// A function of at most three arguments that keeps its last values. A search among a few costs less than maps.
+function $keptFew(most, f) {
+  let values = [];
+  $caches.push(() => { values = []; });
+  return (a, b, c) => {
+    for (let place = values.length - 1; place >= 0; place--) {
+      const it = values[place];
+      if (it.a === a && it.b === b && it.c === c) return it.value;
+    }
+    const value = f(a, b, c);
+    if (values.length === most) values.shift();
+    values.push({a, b, c, value});
+    return value;
+  };
+}
+
+const $FEW = 8;
+
 // A function that keeps this number of values by the identity of its arguments.
 function $kept(most, f) {
+  if (most <= $FEW && f.length <= 3) return $keptFew(most, f);
   let values = new Map(), count = 0;
   $caches.push(() => { [values, count] = [new Map(), 0]; });
   const room = () => { if (++count > most) [values, count] = [new Map(), 1]; };
