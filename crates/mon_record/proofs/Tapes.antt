@@ -1,7 +1,7 @@
 -- The lengths of entries, and what is left of bytes that wait.
-use Rattle.std.proofs.Common.{◌≡◌, ◌==◌, false, ◌≤◌, ◌<◌, ℕ, zero, suc, ◌+◌, ◌-◌, List, [], ◌∷◌, ◌++◌, length, take, drop, refl, sym, ap, ◌∙◌, arith, length-append, length-drop, length-take}
+use Rattle.std.proofs.Common.{◌≡◌, ◌==◌, false, ◌≤◌, ◌<◌, ℕ, zero, suc, ◌+◌, ◌-◌, List, [], ◌∷◌, ◌++◌, length, take, drop, sym, ap, ◌∙◌, arith, length-append, length-drop}
 use Rattle.std.proofs.lemmas.Bool.Decides.{nat_tests}
-use Rattle.std.proofs.lemmas.List.{drop-take, drop_all, take-append-le}
+use Rattle.std.proofs.lemmas.List.{drop-take, take-append-le}
 use Rattle.mon_bytes.specs.Forms.{u32_bytes}
 use Rattle.mon_frag.specs.Pieces.{u64_bytes}
 use Rattle.mon_bytes.proofs.Forms.{length-u32_bytes}
@@ -38,7 +38,3 @@ turned n e room p q =
     let e_is : e ≡ n + (e - n) = omega (arith, p) in
     take-append-le (e - n) (drop n room) (take n room) (omega (arith, q, length-drop n room))
     ∙ sym (ap (λ k. drop n (take k room)) e_is ∙ drop-take n (e - n) room)
-
--- nothing is left after all
-pub all_dropped : (e : ℕ) (room : List ℕ) → take 0 room ≡ drop e (take e room)
-all_dropped e room = sym (drop_all e (take e room) (omega (arith, length-take e room)))

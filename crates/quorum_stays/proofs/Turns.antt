@@ -178,9 +178,6 @@ module _ (ms : Monitors) (q : List Bool) (pace : Pace) (reign : Reign) (r : Roun
   size none = let F : LeadsSince reign q (r.latest + pace.clock reign.leader) s = subst (λ (o : Option Begun). Leads ms.count q pace reign r o s) none L in F.kinds
 
   module _ (before after : World) (event : ℕ) (m : Store) (taken : Option Origin) (clients : Clients) (timers : Timers) (out : List Sent) (replied : after.replied ≡ before.replied ++ replies_of event reign.leader m out) where
-    abbrev new : State
-    new = record s { clients = clients; timers = timers }
-
     answers : (o : Origin) (x : Reply) → IsAnswer x → out ≡ answer_to me (epoch_of w) o x ∷ [] → Answers ms reign before after (messages_of out) o
     answers o x k is =
         let same : out ≡ answer_to me reign.epoch o x ∷ [] = is ∙ ap (λ (e : ℕ). answer_to me e o x ∷ []) epoch in

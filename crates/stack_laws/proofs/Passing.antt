@@ -15,11 +15,6 @@ received_then [] ys = refl
 received_then (Received wait answer ∷ xs) ys = ap (λ (rs : List (Result Got Stop)). answer ∷ rs) (received_then xs ys)
 received_then (WasSent to bytes answer ∷ xs) ys = received_then xs ys
 
-pub sent_then : (xs ys : List Happened) → sent (xs ++ ys) ≡ sent xs ++ sent ys
-sent_then [] ys = refl
-sent_then (Received wait answer ∷ xs) ys = sent_then xs ys
-sent_then (WasSent to bytes answer ∷ xs) ys = ap (λ (ds : List Outgoing). record { to = to; bytes = bytes } ∷ ds) (sent_then xs ys)
-
 pub came_left : (xs ys : List Happened) (got : Got) → Came xs got → Came (xs ++ ys) got
 came_left xs ys got c = subst (λ (rs : List (Result Got Stop)). IsOneOf rs (Ok got)) (sym (received_then xs ys)) (one_left (received xs) (received ys) (Ok got) c)
 
