@@ -14,6 +14,8 @@ _cephmon_words() {
 _cephmon() {
     local word=${COMP_WORDS[COMP_CWORD]} before=${COMP_WORDS[COMP_CWORD - 1]} command
     COMPREPLY=()
+    # what begins with a hyphen is an option, also where a file or a service may stand
+    [[ $word != -* ]] || before=
     case $before in
     --config | --program | --file | --folder | dump | load | backup | map | quorum) compopt -o default 2>/dev/null; mapfile -t COMPREPLY < <(compgen -f -- "$word") ;;
     show | since | watch | follow) mapfile -t COMPREPLY < <(compgen -W 'kv log' -- "$word") ;;
