@@ -7,7 +7,7 @@ const OVERDUE = 1000;
 // How far a mark may be moved along its line from where it belongs, nearest first.
 const SHIFTS = [0, .08, -.08, .16, -.16, .24, -.24, .32, -.32];
 // The sizes of monitors: the width and height of a box, and how many letters of the phase it has.
-const SIZES = {plain: {wide: 116, high: 44, letters: 20}, narrow: {wide: 98, high: 40, letters: 20}, crowd: {wide: 84, high: 24, letters: 9}, both: {wide: 46, high: 22, letters: 4}};
+const SIZES = {plain: {wide: 116, high: 44, letters: 20}, narrow: {wide: 108, high: 40, letters: 20}, crowd: {wide: 84, high: 24, letters: 9}, both: {wide: 46, high: 22, letters: 4}};
 
 function arenaSize() {
   const {width, height} = at('arena').getBoundingClientRect();

@@ -1,11 +1,13 @@
 // A game with the protocol: a run by the definitions that goes on by single acts, and can go back to any of them at once.
 //
-// The state before each act is kept, so going back replays nothing. The acts so far are a schedule. To drop or to delay a message has no line there: the
-// message is never delivered, or delivered later.
+// The state before each act is kept, so going back replays nothing. The acts so far are a schedule. To drop or to delay a message and to wait have no line
+// there: the message is never delivered, or delivered later, and what follows has later times.
 'use strict';
 
 // The most milliseconds of work and the most events of one call while time runs by itself.
 const WORK = 60, MOST_AT_ONCE = 40;
+// The most milliseconds of one wait: an hour and a half.
+const MOST_WAIT = 5400000;
 // After this number of events the caches of the definitions are emptied.
 const FORGET_AFTER = 300;
 
@@ -100,7 +102,7 @@ class Game {
       ask: () => this.take(`client ${rank} ${now} ${client} ${Math.max(0, ...this.requests(client).map(([id]) => id)) + 1} ${asked.command}`),
       again: () => this.askAgain(rank, client, now),
       drop: () => this.hold('drop', number, 0), delay: () => this.hold('delay', number, asked.by ?? 0), back: () => this.hold('back', number, 0),
-      tear: () => this.tear(rank, asked.tear),
+      tear: () => this.tear(rank, asked.tear), wait: () => this.wait(Math.max(0, Math.min(MOST_WAIT, Math.round(asked.milliseconds) || 0))),
       line: () => this.take(asked.line),
       undo: () => { this.at = Math.max(0, this.at - 1); }, redo: () => { this.at = Math.min(this.moments.length - 1, this.at + 1); },
       go: () => this.go(asked.event), next: () => this.next(),
@@ -136,6 +138,9 @@ class Game {
     const others = Object.fromEntries(Object.entries(this.here.tears).filter(([other]) => Number(other) !== rank));
     this.nowOn({...this.here, tears: tear ? {...others, [rank]: tear} : others, line: null});
   }
+
+  // Lets time pass while nothing happens. What is due then is late.
+  wait(milliseconds) { this.nowOn({...this.here, now: $sum(this.here.now, milliseconds), line: null}); }
 
   // Goes to the state after an event: to the last act before the next event.
   go(event) {

@@ -107,6 +107,7 @@ function draw() {
   at('exercise').value = state.exercise ? state.exercise.name : '';
   for (const name of ['latency', 'loss']) if (document.activeElement !== at(name)) at(name).value = state[name];
   at('lights').replaceChildren(...state.clauses.map(light));
+  drawHeading();
   drawArena();
   drawCards();
   drawWire();
@@ -114,6 +115,13 @@ function draw() {
   drawLog();
   drawLines();
   drawTask();
+}
+
+// What stands below the picture in the window of a phone, where the lights may be out of sight: the last event, or what is wrong.
+function drawHeading() {
+  const broken = state.clauses.find(([, , , broken]) => broken);
+  at('heading').textContent = broken ? `✖ ${broken[1]}: ${broken[3]}` : state.last.heading;
+  at('heading').classList.toggle('broken', broken !== undefined);
 }
 
 function light([name, title, says, broken]) {
@@ -249,7 +257,6 @@ function inWords(line) {
 
 function drawLast() {
   const it = state.last, list = element('ul', '', ...it.lines.map(line => element('li', line.split(' ')[0], inWords(line))));
-  at('heading').textContent = it.heading;
   const parts = [element('b', '', it.heading), list];
   if (it.from) parts.push(element('p', 'quiet', 'Its message was sent in ', link(it.from), '.'));
   if (it.to.length) parts.push(element('p', 'quiet', 'What it sent arrived in ', ...it.to.flatMap((event, at) => [at ? ', ' : '', link(event)]), '.'));
@@ -340,6 +347,7 @@ at('undo').onclick = () => act('undo');
 at('redo').onclick = () => act('redo');
 at('next').onclick = () => act('next');
 at('run').onclick = toggle;
+at('wait').onclick = () => act('wait', {milliseconds: Number(at('pause').value)});
 at('startall').onclick = startAll;
 at('more').onclick = () => at('new').scrollIntoView({block: 'center'});
 at('new').onclick = () => { leaveTour(); ask('new', {header: `monitors ${at('monitors').value} ${at('elections').value}`}); };
