@@ -39,7 +39,7 @@ class Browser:
                                         stdin=subprocess.DEVNULL, stdout=subprocess.DEVNULL, stderr=subprocess.DEVNULL, env={**os.environ, 'HOME': self.room})
         os.close(to_read)
         os.close(to_write)
-        self.number, self.rest, self.errors, self.session = 0, b'', [], None
+        self.number, self.rest, self.errors, self.session, self.has_touch = 0, b'', [], None, False
         target = self.call('Target.createTarget', url='about:blank')['targetId']
         self.session = self.call('Target.attachToTarget', targetId=target, flatten=True)['sessionId']
         for domain in ('Page', 'Runtime', 'Log'):
@@ -116,16 +116,39 @@ class Browser:
         self.call('Input.dispatchKeyEvent', type='keyUp', **named)
 
     def click(self, selector: str):
-        """Clicks an element with the mouse, in its middle."""
-        place = self.of_page(f'''(() => {{ const it = document.querySelector({json.dumps(selector)}); if (!it) return null; it.scrollIntoView({{block: 'center', behavior: 'instant'}});
-            const box = it.getBoundingClientRect(); return [box.left + box.width / 2, box.top + box.height / 2]; }})()''')
-        if place is None:
+        """Clicks an element with the mouse, or taps it with a finger, in its middle. Fails if something else is there."""
+        found = self.of_page(f'''(() => {{ const it = document.querySelector({json.dumps(selector)}); if (!it) return null; it.scrollIntoView({{block: 'center', behavior: 'instant'}});
+            const box = it.getBoundingClientRect(), x = box.left + box.width / 2, y = box.top + box.height / 2; return [x, y, it.contains(document.elementFromPoint(x, y))]; }})()''')
+        if found is None:
             raise Failed(f'there is no {selector}')
+        x, y, is_there = found
+        if not is_there:
+            raise Failed(f'{selector} is covered')
+        if self.has_touch:
+            self.call('Input.dispatchTouchEvent', type='touchStart', touchPoints=[{'x': x, 'y': y}])
+            self.call('Input.dispatchTouchEvent', type='touchEnd', touchPoints=[])
+            return
         for kind in ('mousePressed', 'mouseReleased'):
-            self.call('Input.dispatchMouseEvent', type=kind, x=place[0], y=place[1], button='left', clickCount=1)
+            self.call('Input.dispatchMouseEvent', type=kind, x=x, y=y, button='left', clickCount=1)
 
-    def looks(self, width: int, height: int = 800, is_dark: bool = False):
-        self.call('Emulation.setDeviceMetricsOverride', width=width, height=height, deviceScaleFactor=1, mobile=False)
+    def types(self, selector: str, text: str):
+        """Clicks a field, and types a text in place of what it has."""
+        self.click(selector)
+        it = f'document.querySelector({json.dumps(selector)})'
+        self.until(f'document.activeElement === {it}')
+        self.of_page(f'{it}.select()')
+        self.call('Input.insertText', text=text)
+        self.until(f'{it}.value === {json.dumps(text)}')
+
+    def chooses(self, selector: str, value: str):
+        """Chooses an option of a list. A headless browser draws no list that opens."""
+        self.of_page(f'''(it => {{ it.value = {json.dumps(value)}; it.dispatchEvent(new Event('change')); }})(document.querySelector({json.dumps(selector)}))''')
+
+    def looks(self, width: int, height: int = 800, is_dark: bool = False, has_touch: bool = False):
+        """Gives the window this size, in light or in dark. With `has_touch` it is that of a phone, and `click` taps."""
+        self.has_touch = has_touch
+        self.call('Emulation.setDeviceMetricsOverride', width=width, height=height, deviceScaleFactor=1, mobile=has_touch)
+        self.call('Emulation.setTouchEmulationEnabled', enabled=has_touch)
         self.call('Emulation.setEmulatedMedia', features=[{'name': 'prefers-color-scheme', 'value': 'dark' if is_dark else 'light'}])
 
     def picture(self, path: str):
