@@ -1,0 +1,1 @@
+"""What monitors record of a run, merged into a schedule."""

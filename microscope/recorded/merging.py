@@ -1,0 +1,289 @@
+"""Merges the lives of several monitors into a schedule, and checks it against the records.
+
+A monitor is a function of what it is given. So any order of the events does in which each message comes after its sending: the order here is that of the
+times of day, as far as that is one. The schedule is played as it is made, and each event's sends are compared with those of the record.
+"""
+from __future__ import annotations
+
+from typing import NamedTuple
+
+from played import Play
+from fields import At, Fields
+from loaded import fn
+from recorded.disks import Map, map_on
+from recorded.lives import REQUEST, Life, Message, Step
+from recorded.messages import message, reply_message
+from schedules import TIMERS
+from texts import TIMER
+
+HEADER = 12
+REQUESTS = {1: 'set', 2: 'remove', 3: 'log', 4: 'show', 5: 'since'}
+SERVICES = {1: 'kv', 2: 'log'}
+NAMES = {constructor: word for word, constructor in TIMER.items()}
+# A call of a disk and an image by which the transaction of an event is lost: half of its record is on the disk.
+TORN = '3 2'
+
+
+class Unwritable(Exception):
+    """A request that no line of a schedule has."""
+
+
+class Note(NamedTuple):
+    """What isn't known, or differs: of a monitor, at an event of the schedule."""
+    rank: int
+    event: int
+    text: str
+
+    def __str__(self) -> str:
+        return f'monitor {self.rank}, event {self.event}: {self.text}'
+
+
+def request_words(octets: bytes) -> str:
+    """The words of a request in a schedule. Raises Unwritable if its value or text isn't printable ASCII."""
+    fields = Fields(octets, HEADER)
+    number, kind = fields.unsigned(8), REQUESTS[fields.unsigned(1)]
+    if kind in ('show', 'since'):
+        service = SERVICES[fields.unsigned(1)]
+        return f'{number} {kind} {service}' + (f' {fields.unsigned(8)}' if kind == 'since' else '')
+    parts = [fields.word(255)] if kind != 'log' else []
+    parts += [fields.counted()] if kind != 'remove' else []
+    if any(not 0x20 <= octet <= 0x7e for part in parts for octet in part):
+        raise Unwritable(f'a {kind} with a value or text that isn\'t printable ASCII')
+    return ' '.join([f'{number} {kind}', *(part.decode('ascii') for part in parts)])
+
+
+class Monitor:
+    """A monitor's lives, and how far they were merged."""
+
+    def __init__(self, rank: int, lives: list[Life], began: int):
+        self.rank, self.lives, self.began = rank, lives, began
+        self.life = self.place = 0
+        self.is_stopped = False
+
+    def step(self) -> Step | None:
+        """The next step, or None after the last one that is known."""
+        if self.is_stopped or self.life >= len(self.lives):
+            return None
+        steps = self.lives[self.life].steps
+        return steps[self.place] if self.place < len(steps) else None
+
+    def time(self, step: Step) -> int:
+        """The time of a step, in milliseconds since the first life of all began."""
+        life = self.lives[self.life]
+        return life.begin.time - self.began + step.time - life.steps[0].time
+
+    def following(self) -> Life | None:
+        """The life after this one."""
+        return self.lives[self.life + 1] if self.life + 1 < len(self.lives) else None
+
+
+class Merge:
+    """A schedule that is made of lives by rank, and what was noted: what differs from the records, and what isn't known."""
+
+    def __init__(self, lives: dict[int, list[Life]]):
+        begin = next(iter(lives.values()))[0].begin
+        self.count = begin.monitors
+        self.lines = [f'monitors {begin.monitors} {begin.rule}']
+        self.play = Play(self.lines[0])
+        began = min(life.begin.time for found in lives.values() for life in found)
+        self.monitors = {rank: Monitor(rank, found, began) for rank, found in lives.items()}
+        # The numbers of the messages by sender, receiver and bytes, and how many messages and replies were read.
+        self.sent: dict[tuple[int, int, bytes], int] = {}
+        self.messages = self.replies = 0
+        self.differences: list[Note] = []
+        self.unknown: list[Note] = []
+        self.compared = self.stores = 0
+
+    # ---- notes
+
+    def differs(self, rank: int, text: str) -> None:
+        """Notes a difference. Nothing more of this monitor is merged."""
+        self.differences.append(Note(rank, self.play.events, text))
+        self.monitors[rank].is_stopped = True
+
+    def lacks(self, rank: int, text: str) -> None:
+        self.unknown.append(Note(rank, self.play.events, text))
+
+    # ---- the order
+
+    def is_ready(self, rank: int, step: Step) -> bool:
+        """Whether a step may be taken: its message, if it has one, was sent."""
+        came = step.came
+        return came is None or came.party == 'client' or (came.who, rank, came.octets) in self.sent
+
+    def run(self) -> None:
+        """Merges as many steps as can be taken."""
+        for monitor in self.monitors.values():
+            self.begin_life(monitor)
+        while ready := [(monitor.time(step), rank, step) for rank, monitor in self.monitors.items()
+                        if (step := monitor.step()) and self.is_ready(rank, step)]:
+            time, rank, step = min(ready)
+            self.take(self.monitors[rank], step, time)
+        for rank, monitor in self.monitors.items():
+            if step := monitor.step():
+                self.lacks(rank, self.missing(rank, step))
+
+    def missing(self, rank: int, step: Step) -> str:
+        sender = step.came.who
+        kind = step.came.octets[1] if len(step.came.octets) > 1 else 0
+        why = 'has no record' if sender not in self.monitors else 'sent it at no event that is known'
+        return f'a message of kind {kind} came from monitor {sender}, which {why}: what follows isn\'t replayed ({step.at} in its record)'
+
+    # ---- lives
+
+    def begin_life(self, monitor: Monitor) -> None:
+        """Compares the store with which a life begins, if it is known."""
+        life = monitor.lives[monitor.life]
+        recorded = map_on(life.disks)
+        if recorded is None:
+            self.lacks(monitor.rank, 'the store at the beginning of a life isn\'t recorded')
+        elif recorded and monitor.life == 0:
+            self.lacks(monitor.rank, f'its store had {len(recorded)} keys when its record began, and every schedule begins with new stores')
+            monitor.is_stopped = True
+        elif recorded != self.store(monitor.rank):
+            self.differs(monitor.rank, f'the store of life {monitor.life + 1} began with {len(recorded)} keys that aren\'t those of the schedule')
+        else:
+            self.stores += 1
+        if not life.steps:
+            self.end_life(monitor)
+
+    def store(self, rank: int) -> Map:
+        return dict(self.play.world.store(rank).entries)
+
+    def end_life(self, monitor: Monitor) -> None:
+        """After the last step of a life: the next one begins with a start, before which the monitor is down."""
+        life = monitor.lives[monitor.life]
+        if life.is_cut:
+            self.lacks(monitor.rank, f'the record of its life {monitor.life + 1} ends within an entry')
+        if life.lack:
+            self.lacks(monitor.rank, life.lack)
+            monitor.is_stopped = True
+            return
+        time = monitor.time(life.steps[-1]) if life.steps else 0
+        self.fire_last(monitor)
+        self.stop(monitor, time)
+        monitor.life, monitor.place = monitor.life + 1, 0
+        if monitor.life < len(monitor.lives):
+            self.begin_life(monitor)
+
+    def fire_last(self, monitor: Monitor) -> None:
+        """A timer that fires in the last iteration of a life that is killed isn't recorded. The next life's store shows it, if it changed the store."""
+        following, state = monitor.following(), self.play.state(monitor.rank)
+        recorded = map_on(following.disks) if following else None
+        if state is None or recorded is None or recorded == self.store(monitor.rank):
+            return
+        due = fn('mon_msg.specs.Protocol.Timers', 'due')(state.timers)
+        if due.args:
+            line = f'timer {monitor.rank} {NAMES[due.args[0][0].name]} {due.args[0][1]}'
+            tried = self.play.copy()
+            if tried.take(line) and dict(tried.world.store(monitor.rank).entries) == recorded:
+                self.event(line)
+                self.note_sent(None)
+
+    def stop(self, monitor: Monitor, time: int) -> None:
+        """Stops a monitor by a crash in a timer that isn't set."""
+        state = self.play.state(monitor.rank)
+        if state is None:
+            return
+        for name, timer in zip(TIMERS, state.timers):
+            if not timer.args:
+                self.event(f'crash a 1 0 timer {monitor.rank} {name} {time}')
+                return
+
+    # ---- steps
+
+    def take(self, monitor: Monitor, step: Step, time: int) -> None:
+        line = self.line_of(monitor, step, time)
+        if line is None:
+            monitor.is_stopped = True
+            return
+        if step.is_last and monitor.following() and not step.sent:
+            self.take_last(monitor, line)
+        else:
+            self.event(line)
+            self.compare(monitor.rank, step)
+        monitor.place += 1
+        if monitor.place == len(monitor.lives[monitor.life].steps):
+            self.end_life(monitor)
+
+    def take_last(self, monitor: Monitor, line: str) -> None:
+        """The step within which a life ended: the next life's store says whether its transaction is kept."""
+        recorded = map_on(monitor.following().disks)
+        before = self.store(monitor.rank)
+        tried = self.play.copy()
+        is_taken = tried.take(line)
+        after = dict(tried.world.store(monitor.rank).entries)
+        if not is_taken or recorded is None or recorded == after or recorded != before:
+            self.event(line)
+            self.note_sent(None)
+            return
+        side = self.live_side(monitor.rank)
+        self.event(f'crash {side} {TORN} {line}')
+
+    def live_side(self, rank: int) -> str:
+        side = fn('quorum_model.specs.Files', 'live_side')(self.play.scene.files(rank))
+        return side.name.lower()
+
+    def line_of(self, monitor: Monitor, step: Step, time: int) -> str | None:
+        """The line of a step, or None if there is none, which is noted."""
+        rank = monitor.rank
+        if step.kind == 'start':
+            return f'start {rank} {time}'
+        if step.kind == 'timer':
+            return self.timer_line(rank, time)
+        if step.came.party == 'monitor':
+            return f'deliver {self.sent[step.came.who, rank, step.came.octets]} {time}'
+        try:
+            return f'client {rank} {time} {step.came.who} {request_words(step.came.octets)}'
+        except (Unwritable, At, KeyError) as why:
+            self.lacks(rank, f'{why}: no line of a schedule has it, so what follows isn\'t replayed')
+            return None
+
+    def timer_line(self, rank: int, time: int) -> str | None:
+        state = self.play.state(rank)
+        due = fn('mon_msg.specs.Protocol.Timers', 'due')(state.timers) if state else None
+        if not due or not due.args or due.args[0][1] > time:
+            self.differs(rank, f'a timer fired at {time}, and the schedule has none that is due')
+            return None
+        return f'timer {rank} {NAMES[due.args[0][0].name]} {time}'
+
+    def event(self, line: str) -> None:
+        """Adds an event, and plays it."""
+        if self.play.take(line):
+            self.lines.append(line)
+        else:
+            raise Unwritable(f'the run stops at event {self.play.events + 1}, {line}: {self.play.stop}')
+
+    # ---- what is sent
+
+    def note_sent(self, rank: int | None) -> list[Message]:
+        """Notes the messages that were sent since the last call. Returns these and the replies of a monitor."""
+        found = []
+        messages = self.play.world.messages
+        for number in range(self.messages, len(messages)):
+            sent = messages[number]
+            octets = message(sent.message)
+            self.sent[sent.message.from_, sent.to, octets] = number + 1
+            if sent.message.from_ == rank:
+                found.append(Message('monitor', sent.to, octets))
+        self.messages = len(messages)
+        replied = self.play.world.replied
+        for it in replied[self.replies:]:
+            if it.rank == rank:
+                found.append(Message('client', it.session.client, reply_message(it.rank, self.count, it.epoch, it.session.id, it.reply)))
+        self.replies = len(replied)
+        return found
+
+    def compare(self, rank: int, step: Step) -> None:
+        """Compares what was sent at the last event with the record. At the end of a life a part of it may be missing."""
+        wanted = self.note_sent(rank)
+        if sorted(step.sent) == sorted(wanted) or step.is_last and not [it for it in step.sent if it not in wanted]:
+            self.compared += len(step.sent)
+            return
+        self.differs(rank, f'it sent {shown(step.sent)}, and the schedule sends {shown(wanted)} ({step.at} in its record)')
+
+
+
+
+def shown(sent: list[Message]) -> str:
+    return ', '.join(f'{it.octets[1] if len(it.octets) > 1 else 0} to {it.party} {it.who} ({len(it.octets)} bytes)' for it in sent) or 'nothing'
