@@ -6,7 +6,7 @@ from typing import Iterable, Iterator, NamedTuple
 
 from recorded.entries import ASKED, CAME, END, GAP, PARTIES, READ, RECEIVED, Beginning, Disk, Entry, Segment
 
-PIECE, PIECE_HEADER = 2, struct.Struct('<BxxxQQII')
+PIECE_MARK, PIECE_HEADER = 2, struct.Struct('<BxxxQQII')
 REQUEST = 24
 # What may follow the reading of an iteration in which a timer fired. After any other end of the record it may have asked the link.
 AFTER_A_TIMER = frozenset((READ, END)) | ASKED
@@ -52,7 +52,7 @@ class Pieces:
 
     def take(self, party: str, who: int, datagram: bytes) -> Message | None:
         """The message that is whole with this datagram, if one is."""
-        if datagram[:1] != bytes([PIECE]) or len(datagram) < PIECE_HEADER.size:
+        if datagram[:1] != bytes([PIECE_MARK]) or len(datagram) < PIECE_HEADER.size:
             return Message(party, who, datagram)
         _mark, boot, seq, total, place = PIECE_HEADER.unpack_from(datagram)
         key = party, who, boot, seq, total
