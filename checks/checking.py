@@ -24,7 +24,7 @@ for variable in [name for name in os.environ if name.startswith('CEPHMON_')]:
     del os.environ[variable]
 # Seconds within which anything must have happened. A free machine takes a small part of them, and a loaded one may take most.
 LONG = 300
-# How clients ask, as arguments of Client and of the command. The seconds of a try are so many that no change is asked for twice because a machine is slow.
+# How clients ask, as arguments of Client and of the command. The seconds of a try suffice on a slow machine, so that no change is asked for twice.
 PATIENT = {'timeout': LONG, 'patience': 30}
 PATIENTLY = ['--timeout', str(LONG), '--patience', '30']
 # Lines that `node` and `follow` write on standard error because of the machine or of other monitors: the pattern of each line. Lines of a `node` begin with

@@ -44,7 +44,7 @@ module _ (ms : Monitors) (q : List Bool) (pace : Pace) (reign : Reign) where
     pub since : pace.since ≤ start
     pub in_time : (start + 2 * pace.late + places pace k ≤ D) ⊎ ((start ≤ r.latest) × (start + pace.late + places pace k ≤ D))
 
-  -- so many wait before it
+  -- how many wait before it
   abbrev pub Budget : (D k : ℕ) → Round → State → Type 0
   Budget D k r s = Idling D k r s ⊎ ((b : Begun) × (r.next ≡ Some b) × (b.at + 2 * pace.delay + 2 * pace.late + places pace k ≤ D))
 
