@@ -5,7 +5,7 @@ times of day, as far as that is one. The schedule is played as it is made, and e
 """
 from __future__ import annotations
 
-from typing import NamedTuple
+from typing import Iterator, NamedTuple, Tuple
 
 from played import Play
 from fields import At, Fields
@@ -26,6 +26,10 @@ TORN = '3 2'
 
 class Unwritable(Exception):
     """A request that no line of a schedule has."""
+
+
+# A message: its sender, its receiver and its bytes.
+Key = Tuple[int, int, bytes]
 
 
 class Note(NamedTuple):
@@ -88,7 +92,8 @@ class Merge:
         began = min(life.begin.time for found in lives.values() for life in found)
         self.monitors = {rank: Monitor(rank, found, began) for rank, found in lives.items()}
         # The numbers of the messages by sender, receiver and bytes, and how many messages and replies were read.
-        self.sent: dict[tuple[int, int, bytes], int] = {}
+        self.sent: dict[Key, int] = {}
+        self.came = set(keys_of(lives))
         self.messages = self.replies = 0
         self.differences: list[Note] = []
         self.unknown: list[Note] = []
@@ -167,18 +172,37 @@ class Merge:
             self.begin_life(monitor)
 
     def fire_last(self, monitor: Monitor) -> None:
-        """A timer that fires in the last iteration of a life that is killed isn't recorded. The next life's store shows it, if it changed the store."""
-        following, state = monitor.following(), self.play.state(monitor.rank)
-        recorded = map_on(following.disks) if following else None
-        if state is None or recorded is None or recorded == self.store(monitor.rank):
-            return
-        due = fn('mon_msg.specs.Protocol.Timers', 'due')(state.timers)
-        if due.args:
-            line = f'timer {monitor.rank} {NAMES[due.args[0][0].name]} {due.args[0][1]}'
-            tried = self.play.copy()
-            if tried.take(line) and dict(tried.world.store(monitor.rank).entries) == recorded:
-                self.event(line)
-                self.note_sent(None)
+        """The timers that fire after the last wait of a life that is killed aren't recorded. What they sent and kept shows them, if another monitor got it
+        or the next life's store has it."""
+        if monitor.lives[monitor.life].status is None:
+            for _ in TIMERS:
+                if not self.fires(monitor):
+                    return
+
+    def fires(self, monitor: Monitor) -> bool:
+        """Fires the next timer, if something shows that it fired. Returns whether it did."""
+        state, following = self.play.state(monitor.rank), monitor.following()
+        due = fn('mon_msg.specs.Protocol.Timers', 'due')(state.timers) if state else None
+        if not due or not due.args:
+            return False
+        line = f'timer {monitor.rank} {NAMES[due.args[0][0].name]} {due.args[0][1]}'
+        tried, before, kept = self.play.copy(), self.store(monitor.rank), map_on(following.disks) if following else None
+        if not tried.take(line):
+            return False
+        if kept is not None and kept != dict(tried.world.store(monitor.rank).entries):
+            return False
+        is_kept = kept is not None and kept != before
+        if not is_kept and not any(key in self.came and key not in self.sent for key, _number in self.sent_in(tried)):
+            return False
+        self.event(line)
+        self.note_sent(None)
+        return True
+
+    def sent_in(self, play: Play) -> Iterator[tuple[Key, int]]:
+        """The messages of a run that weren't noted, with their numbers."""
+        for number in range(self.messages, len(play.world.messages)):
+            sent = play.world.messages[number]
+            yield (sent.message.from_, sent.to, message(sent.message)), number + 1
 
     def stop(self, monitor: Monitor, time: int) -> None:
         """Stops a monitor by a crash in a timer that isn't set."""
@@ -259,14 +283,12 @@ class Merge:
     def note_sent(self, rank: int | None) -> list[Message]:
         """Notes the messages that were sent since the last call. Returns these and the replies of a monitor."""
         found = []
-        messages = self.play.world.messages
-        for number in range(self.messages, len(messages)):
-            sent = messages[number]
-            octets = message(sent.message)
-            self.sent[sent.message.from_, sent.to, octets] = number + 1
-            if sent.message.from_ == rank:
-                found.append(Message('monitor', sent.to, octets))
-        self.messages = len(messages)
+        for key, number in self.sent_in(self.play):
+            self.sent[key] = number
+            sender, receiver, octets = key
+            if sender == rank:
+                found.append(Message('monitor', receiver, octets))
+        self.messages = len(self.play.world.messages)
         replied = self.play.world.replied
         for it in replied[self.replies:]:
             if it.rank == rank:
@@ -287,3 +309,10 @@ class Merge:
 
 def shown(sent: list[Message]) -> str:
     return ', '.join(f'{it.octets[1] if len(it.octets) > 1 else 0} to {it.party} {it.who} ({len(it.octets)} bytes)' for it in sent) or 'nothing'
+
+
+def keys_of(lives: dict[int, list[Life]]) -> Iterator[Key]:
+    """The messages that came from monitors in these lives."""
+    for rank, found in lives.items():
+        for life in found:
+            yield from ((step.came.who, rank, step.came.octets) for step in life.steps if step.came and step.came.party == 'monitor')
