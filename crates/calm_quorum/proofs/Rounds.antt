@@ -317,24 +317,5 @@ flat_nones {A = A} (suc k) = rw (flat_nones {A = A} k) (by (not (eqb k 0)))
     by true = refl
     by false = refl
 
--- one of the others takes a message, or a list of messages, alone
-pub put_other : {L : Type 0} (idle : L) (n r : ℕ) (l a : L) (P Q : ℕ → L) → 0 < r → r < n → a ≡ Q r
-    → ((j : ℕ) → (j ≡ r → ⊥) → P j ≡ Q j) → put_at (team idle n (crew l P)) r a ≡ team idle n (crew l Q)
-put_other idle n r l a P Q pos lt e h =
-    put_team idle n (crew l P) r a lt ∙ ap (λ S. team idle n S) (same_state _ _ (λ j. by j (cases_eq j r)))
-  where
-    by : (j : ℕ) → (j ≡ r) ⊎ (j ≡ r → ⊥) → cond (eqb j r) a (cond (eqb j 0) l (P j)) ≡ cond (eqb j 0) l (Q j)
-    by j (inl z) = rw (eq-eqb j r z, ne_eqb j 0 (λ f. omega arith)) (e ∙ ap Q (sym z))
-    by j (inr nz) = rw (ne_eqb j r nz, h j nz) refl
-
 pub at_other : {L : Type 0} (idle : L) (n r : ℕ) (l : L) (P : ℕ → L) → 0 < r → r < n → team idle n (crew l P) r ≡ P r
 at_other idle n r l P pos lt = at_team idle n (crew l P) r lt ∙ rw (ne_eqb r 0 (λ f. omega arith)) refl
-
-pub one_takes : {L M R : Type 0} (to : M → ℕ) (f : ℕ → L → M → Took L M R) (idle : L) (n r : ℕ) (m : M) (l : L)
-    (P Q : ℕ → L) (o : List M) (d : List R) → 0 < r → r < n → to m ≡ r → f r (P r) m ≡ did (Q r) o d
-    → ((j : ℕ) → (j ≡ r → ⊥) → P j ≡ Q j)
-    → all_of (turn to f) (m ∷ []) (team idle n (crew l P)) ≡ did (team idle n (crew l Q)) o d
-one_takes to f idle n r m l P Q o d pos lt goes e h =
-    gather to f r (m ∷ []) (team idle n (crew l P)) (Q r) o d (goes, tt)
-    (rw (at_other idle n r l P pos lt) (single (f r) m (P r) ∙ e))
-    ∙ rw (put_other idle n r l (Q r) P Q pos lt refl h) refl

@@ -54,9 +54,6 @@ count_with s r lt = sum_by-set (λ (b : Bool). cond b 1 0) s r true false lt
 pub count_more : (s : List Bool) (r : ℕ) → r < length s → has s r ≡ false → count_of (with_rank s r) ≡ suc (count_of s)
 count_more s r lt h = let e = rw h at (count_with s r lt) in omega arith
 
-pub count_same : (s : List Bool) (r : ℕ) → has s r ≡ true → count_of (with_rank s r) ≡ count_of s
-count_same s r h = ap count_of (joins s r h)
-
 pub count_only : (i : ℕ) → i < 15 → count_of (only i) ≡ 1
 count_only i lt = count_more no_ranks i lt (nobody i)
 

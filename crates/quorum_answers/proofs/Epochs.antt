@@ -42,7 +42,6 @@ use Rattle.quorum_walk.proofs.FineCourses.{Ended, begun}
 use Rattle.quorum_walk.proofs.Lists.{Among, all_append, all_both, all_map}
 use Rattle.quorum_walk.proofs.Sparing.{own_of}
 use Rattle.std.proofs.Common.{Bool, List, Some, [], ap, arith, inl, inr, refl, subst, suc, sym, true, ℕ, ◌++◌, ◌<◌, ◌∙◌, ◌∷◌, ◌≡◌, ◌≤◌, ◌⊎◌}
-use Rattle.std.proofs.lemmas.Bool.{ltb-true}
 use Rattle.std.specs.List.{AllByRecursion}
 use Rattle.std.specs.Prelude.{is_some}
 
@@ -87,9 +86,6 @@ module _ (ms : Monitors) (several : 1 < ms.count) (w : World) (I : InvOf ms w) (
 
   abbrev SaysSent : Phase → (e v : ℕ) → Sent → Type 0
   SaysSent = saying.SaysSent me d.by.at w0 s d.by.came From AnyRoute Voted
-
-  below : rank < n
-  below = ltb-true rank n d.by.lt
 
   read : r ≡ d.y.readings
   read = ap readings_of store ∙ same w.store w.state w.transactions w.messages w.active asked me J d.by.at d.by.state d.by.came d.by.on d.by.fits d.by.holds (d.by.fine (shares w.store w.state w.transactions w.messages w.active asked me J d.by.at)) d.y d.is

@@ -269,9 +269,6 @@ module _ (ms : Monitors) (before w : World) (R : Reached ms w) (I : InvOf ms w) 
       since = inr (covers_before (epoch_of w0) (last_of (w.store rank)) (subst (CoversAll w (epoch_of w0)) (last_is (w.store rank)) (let C = leads ms w R rank s (ltb-true rank ms.count d.by.lt) (there active) active in C.writes)));
     }
 
-    abbrev Told : Session → Reply → Replied
-    Told t r = record { event = next.events; rank = rank; epoch = epoch_of (readings_of m); last = last_of m; session = t; reply = r }
-
     decided_here : (t : Session) (r : Reply) → Decides (origin.Session t) (epoch_of w0) r → IsRefused before next rank t (epoch_of w0) r
     decided_here t r D = refused_by rank t D.command r (J.asks rank t D.command D.from) D.why
 

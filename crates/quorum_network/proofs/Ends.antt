@@ -73,9 +73,6 @@ module _ (me : Me) (s : Serving) where
   abbrev some_of : Reaction → Option Reaction
   some_of r = Some r
 
-  abbrev keeps : Reaction → StoreView
-  keeps r = kept r.transaction s.node.store
-
   -- once its transaction is kept, a prefix of its datagrams goes out
   cut_size : (k : ℕ) (r : Reaction) (large : Bool) → (down me s.node k (cond large None (Some r))).sends ≡ take k (cond large [] (numbered_by me s.node r))
   cut_size k r true = sym (take_none k)

@@ -27,9 +27,6 @@ me_0 = me 0 refl
 abbrev pub me_1 : Me
 me_1 = me 1 refl
 
-abbrev pub me_2 : Me
-me_2 = me 2 refl
-
 -- ---- the messages
 
 pub record IsMail (j : ℕ) (m : Message) : Type 0 where

@@ -1,9 +1,8 @@
 -- The premise of the laws can be met. Processes may begin in any order, with numbers that their ranks didn't have
 -- before. A datagram that was sent may arrive at its receiver once, never, late or again. A process may be killed in
 -- each of its iterations.
-use Rattle.std.proofs.Common.{◌≡◌, ℕ, ◌≤◌, ◌^◌, zero, suc, eqb, Bool, true, false, cond, List, [], ◌∷◌, ◌++◌, Option, Some, None, Ok, refl, sym, ap, subst, inl, inr, arith}
+use Rattle.std.proofs.Common.{◌≡◌, ℕ, ◌≤◌, ◌^◌, zero, suc, eqb, Bool, true, false, cond, List, [], ◌∷◌, Option, Some, None, Ok, refl, sym, ap, subst, inl, inr, arith}
 use Rattle.std.proofs.lemmas.Bool.{eqb-true, eq-eqb}
-use Rattle.std.proofs.lemmas.List.Elements.{Contains-append_left}
 use Rattle.std.specs.FinMap.{empty}
 use Rattle.std.specs.List.{Contains}
 use Rattle.mon_link.specs.declared.link.Got.TheVariants.{Datagram, Idle}
@@ -20,9 +19,8 @@ use Rattle.mon_types.specs.declared.member.Member.{Member}
 use Rattle.mon_wire.specs.declared.phase.Timer.{Timer}
 use Rattle.quorum_model.specs.Monitors.{Monitors, me_of}
 use Rattle.quorum_network.specs.Lives.{lives_then}
-use Rattle.quorum_network.specs.Network.{AllMay, Begins, Doing, Down, IsAsked, IsNew, May, Network, Posted, Process, Step, Iterates, Until, Up, Whole, after_step, first_network, if_made, lives_after, made_by, map_of, network, iteration_of}
+use Rattle.quorum_network.specs.Network.{AllMay, Begins, Doing, Down, IsAsked, IsNew, May, Network, Posted, Process, Step, Iterates, Until, Up, after_step, first_network, if_made, lives_after, made_by, map_of, network, iteration_of}
 use Rattle.quorum_network.proofs.Assembled.{contains_cases, contains_first, contains_later}
-use Rattle.quorum_network.proofs.Promised.{one_log}
 
 -- ---- a datagram
 
@@ -39,19 +37,6 @@ may_come net j i bytes clock u (Up s) was = by (due_by clock (due s.node.state.t
     by (Some t) = tt
     by None = was
 may_come net j i bytes clock u (Down m) was = tt
-
--- once it was sent, it may come whatever happened since
-pub comes_late : (ms : Monitors) (later earlier : List Step) (j i : ℕ) (bytes : List ℕ) (clock : ℕ) → AllMay ms (later ++ earlier) → Contains (network ms earlier).sent (to_monitor j i bytes)
-    → AllMay ms (comes j i bytes clock Whole ∷ (later ++ earlier))
-unfolding AllMay
-comes_late ms later earlier j i bytes clock may was =
-    let L = one_log ms later earlier may in
-    (may, may_come (network ms (later ++ earlier)) j i bytes clock Whole ((network ms (later ++ earlier)).process i) (subst (λ (ds : List Posted). Contains ds (to_monitor j i bytes)) (sym L.wire) (Contains-append_left (network ms earlier).sent L.sent (to_monitor j i bytes) was)))
-
--- and once more
-pub comes_again : (ms : Monitors) (later earlier : List Step) (j i : ℕ) (bytes : List ℕ) (clock : ℕ) → AllMay ms (later ++ earlier) → Contains (network ms earlier).sent (to_monitor j i bytes)
-    → AllMay ms (comes j i bytes clock Whole ∷ comes j i bytes clock Whole ∷ (later ++ earlier))
-comes_again ms later earlier j i bytes clock may was = comes_late ms (comes j i bytes clock Whole ∷ later) earlier j i bytes clock (comes_late ms later earlier j i bytes clock may was) was
 
 -- ---- any play
 

@@ -373,9 +373,6 @@ module _ (A : Assembly) (ms : Monitors) (F : Facts ms) (net : Network) (w : Worl
 -- ---- a life begins
 
 module _ (A : Assembly) (ms : Monitors) (net : Network) (w : World) (I : Inv A ms net w) (i life : ℕ) (small : life ≤ 2 ^ 62) (new_one : Contains (net.lives i) life → ⊥) where
-  abbrev then_lives : ℕ → List ℕ
-  then_lives = put_at net.lives i (life ∷ net.lives i)
-
   abbrev lives_by : Bool → ℕ → List ℕ
   lives_by b j = cond b (life ∷ net.lives i) (net.lives j)
 
