@@ -31,13 +31,7 @@ of_pairs P xs ys k x y a b = of_all (P x) ys (of_all (λ z. AllByRecursion (P z)
 fenced : (a : Acknowledged) (r : Replied) (y : Reply) → IsFenced a r y → Shows y → a.event < r.event → a.what.epoch ≡ r.epoch → a.what.version ≤ r.last
 fenced a r (reply.Shown s paxos version map) k t = k
 fenced a r (reply.Since s from told more) k t = k
-fenced a r (reply.Done v) k t = absurd t
-fenced a r reply.NoSuch k t = absurd t
-fenced a r (reply.TooLong len most) k t = absurd t
-fenced a r (reply.MapFull would_be) k t = absurd t
-fenced a r reply.Unavailable k t = absurd t
-fenced a r (reply.NotReadable has lease) k t = absurd t
-fenced a r (reply.Busy waiting) k t = absurd t
+fenced a r other k t = absurd t
 
 pub linearizable : (ms : Monitors) (events : List Event) → AllFit ms.count events → Linearizable ms.count (run ms events)
 linearizable ms events F = record { writes = S.kept; reads = S.shown; order = order }

@@ -2,7 +2,6 @@
 use Rattle.mon_msg.specs.Protocol.Readings.{Readings}
 use Rattle.mon_msg.specs.Protocol.Reads.{changes_after, shown, since}
 use Rattle.mon_msg.specs.Protocol.Services.{kept_from, service_first, service_last}
-use Rattle.mon_types.specs.Ranks.{has}
 use Rattle.mon_wire.specs.declared.reply.Reply.TheVariants as reply
 use Rattle.mon_wire.specs.declared.reply.Reply.{Reply}
 use Rattle.mon_wire.specs.declared.request.Service.{Service}
@@ -16,24 +15,12 @@ use Rattle.std.proofs.lemmas.Bool.{cond_both}
 pub shows_not : (y : Reply) → NoShow y → Shows y → ⊥
 shows_not (reply.Shown s paxos version map) k t = k
 shows_not (reply.Since s from told more) k t = k
-shows_not (reply.Done v) k t = t
-shows_not reply.NoSuch k t = t
-shows_not (reply.TooLong len most) k t = t
-shows_not (reply.MapFull would_be) k t = t
-shows_not reply.Unavailable k t = t
-shows_not (reply.NotReadable has lease) k t = t
-shows_not (reply.Busy waiting) k t = t
+shows_not other k t = t
 
 pub shows_no_refusal : (y : Reply) → Shows y → IsRefusalReply y → ⊥
 shows_no_refusal (reply.Shown s paxos version map) k t = t
 shows_no_refusal (reply.Since s from told more) k t = t
-shows_no_refusal (reply.Done v) k t = t
-shows_no_refusal reply.NoSuch k t = k
-shows_no_refusal (reply.TooLong len most) k t = k
-shows_no_refusal (reply.MapFull would_be) k t = k
-shows_no_refusal reply.Unavailable k t = t
-shows_no_refusal (reply.NotReadable has lease) k t = t
-shows_no_refusal (reply.Busy waiting) k t = t
+shows_no_refusal other k t = absurd k
 
 pub shows_nothing_done : (y : Reply) → Shows y → done_in y ≡ None
 shows_nothing_done (reply.Done v) k = absurd k

@@ -10,18 +10,10 @@ use Rattle.quorum_model.specs.World.{World, Replied}
 abbrev pub HasNext : (all : List (List ℕ)) → (from : ℕ) → (told : List (List ℕ)) → Type 0
 HasNext all from told = from < length all → 1 ≤ length told
 
--- This holds of the log's incrementals up to the monitor's last version. Each kind of reply is named, so that whoever
--- adds one decides what is promised of it.
+-- this holds of the log's incrementals up to the monitor's last version, if a reply lists changes
 abbrev pub NamesNext : World → Replied → Reply → Type 0
 NamesNext w r (reply.Since s from told more) = HasNext (incrementals s w.log r.last) from told
-NamesNext w r (reply.Shown s paxos version map) = Unit {0}
-NamesNext w r (reply.Done v) = Unit {0}
-NamesNext w r reply.NoSuch = Unit {0}
-NamesNext w r (reply.TooLong len most) = Unit {0}
-NamesNext w r (reply.MapFull would_be) = Unit {0}
-NamesNext w r reply.Unavailable = Unit {0}
-NamesNext w r (reply.NotReadable has lease) = Unit {0}
-NamesNext w r (reply.Busy waiting) = Unit {0}
+NamesNext w r other = Unit {0}
 
 abbrev pub AllNameNext : World → Type 0
 AllNameNext w = AllByRecursion (λ r. NamesNext w r r.reply) w.replied

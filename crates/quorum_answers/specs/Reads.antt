@@ -2,21 +2,12 @@
 use Rattle.std.specs.Prelude.{◌≡◌, ◌≤◌}
 use Rattle.std.specs.List.{AllByRecursion}
 use Rattle.mon_wire.specs.declared.reply.Reply.{Reply}
-use Rattle.mon_wire.specs.declared.reply.Reply.TheVariants as reply
 use Rattle.quorum_model.specs.World.{World, Replied}
+use Rattle.quorum_replies.specs.Kinds.{IsShowing, kind_of}
 
--- A reply that shows a map, or lists its changes. Each kind of reply is named, so that whoever adds one decides what is
--- promised of it.
+-- a reply that shows a map, or lists its changes
 abbrev pub Shows : Reply → Type 0
-Shows (reply.Shown s paxos version map) = Unit {0}
-Shows (reply.Since s from told more) = Unit {0}
-Shows (reply.Done v) = ⊥
-Shows reply.NoSuch = ⊥
-Shows (reply.TooLong len most) = ⊥
-Shows (reply.MapFull would_be) = ⊥
-Shows reply.Unavailable = ⊥
-Shows (reply.NotReadable has lease) = ⊥
-Shows (reply.Busy waiting) = ⊥
+Shows r = IsShowing (kind_of r)
 
 -- If both show something and b's event isn't earlier than a's, b's last version isn't lower than a's.
 abbrev pub NoOlder : Replied → Replied → Type 0

@@ -7,23 +7,14 @@ use Rattle.mon_bytes.specs.declared.command.CommandRefused.{CommandRefused}
 use Rattle.mon_msg.specs.Protocol.Proposing.{refusal}
 use Rattle.mon_msg.specs.Protocol.Value.{value}
 use Rattle.mon_wire.specs.declared.reply.Reply.{Reply}
-use Rattle.mon_wire.specs.declared.reply.Reply.TheVariants as reply
 use Rattle.mon_wire.specs.declared.request.Session.{Session}
 use Rattle.quorum_model.specs.Clients.{command_of}
 use Rattle.quorum_model.specs.World.{World, Asked}
+use Rattle.quorum_replies.specs.Kinds.{IsRefusing, kind_of}
 
--- A reply by which a service refuses a command. Each kind of reply is named, so that whoever adds one decides what is
--- promised of it.
+-- a reply by which a service refuses a command
 abbrev pub IsRefusalReply : Reply → Type 0
-IsRefusalReply reply.NoSuch = Unit {0}
-IsRefusalReply (reply.TooLong len most) = Unit {0}
-IsRefusalReply (reply.MapFull would_be) = Unit {0}
-IsRefusalReply (reply.Done v) = ⊥
-IsRefusalReply (reply.Shown s paxos version map) = ⊥
-IsRefusalReply (reply.Since s from told more) = ⊥
-IsRefusalReply reply.Unavailable = ⊥
-IsRefusalReply (reply.NotReadable has lease) = ⊥
-IsRefusalReply (reply.Busy waiting) = ⊥
+IsRefusalReply r = IsRefusing (kind_of r)
 
 -- no version above this one was acknowledged in the epoch, in this world
 abbrev pub CoversAll : World → (epoch version : ℕ) → Type 0

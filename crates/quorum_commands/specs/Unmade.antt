@@ -2,22 +2,13 @@
 use Rattle.std.specs.Prelude.{◌≡◌, ℕ, ◌<◌, length, Some, slice_get}
 use Rattle.std.specs.List.{AllByRecursion}
 use Rattle.mon_wire.specs.declared.reply.Reply.{Reply}
-use Rattle.mon_wire.specs.declared.reply.Reply.TheVariants as reply
 use Rattle.quorum_commands.specs.Once.{IsOf}
 use Rattle.quorum_model.specs.World.{World, Asked, Replied}
+use Rattle.quorum_replies.specs.Kinds.{AcknowledgesNothing, kind_of}
 
--- A reply that acknowledges no version. Each kind of reply is named, so that whoever adds one decides what is promised
--- of it.
+-- a reply that acknowledges no version
 abbrev pub AcknowledgesNone : Reply → Type 0
-AcknowledgesNone (reply.Done v) = ⊥
-AcknowledgesNone reply.Unavailable = Unit {0}
-AcknowledgesNone (reply.NotReadable has lease) = Unit {0}
-AcknowledgesNone (reply.Busy waiting) = Unit {0}
-AcknowledgesNone reply.NoSuch = Unit {0}
-AcknowledgesNone (reply.TooLong len most) = Unit {0}
-AcknowledgesNone (reply.MapFull would_be) = Unit {0}
-AcknowledgesNone (reply.Shown s paxos version map) = Unit {0}
-AcknowledgesNone (reply.Since s from told more) = Unit {0}
+AcknowledgesNone r = AcknowledgesNothing (kind_of r)
 
 -- the number of the request that each version of the log is of, counted from 0
 abbrev pub Requests : World → Type 0

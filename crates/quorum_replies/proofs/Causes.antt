@@ -39,6 +39,7 @@ use Rattle.mon_wire.specs.declared.reply.ShownMap.{ShownMap}
 use Rattle.mon_wire.specs.declared.request.Service.{Service}
 use Rattle.mon_wire.specs.declared.request.Session.{Session}
 use Rattle.quorum_replies.specs.Causes.{HasCause, HasCauseToRoute}
+use Rattle.quorum_replies.specs.Kinds.{IsServing, kind_of}
 use Rattle.quorum_walk.proofs.Lists.{all_append, all_map, all_of}
 use Rattle.std.proofs.Common.{Bool, Err, List, None, Ok, Option, Result, Some, [], cond, eqb, false, filter, inl, inr, leb, length, ltb, map, not, refl, subst, true, suc, ℕ, ◌++◌, ◌-◌, ◌∷◌, ◌≡◌, ◌⊎◌}
 use Rattle.std.proofs.lemmas.Bool.{cond_both}
@@ -88,10 +89,7 @@ no_memory w c asked h = by (made (read_map w (service_of c)) asked c) (of_servic
 -- ---- what says nothing of the kind
 
 abbrev Serves : Reply → Type 0
-Serves reply.Unavailable = ⊥
-Serves (reply.NotReadable has lease) = ⊥
-Serves (reply.Busy waiting) = ⊥
-Serves other = Unit {0}
+Serves r = IsServing (kind_of r)
 
 abbrev ServesBody : Body → Type 0
 ServesBody (body.Route seq r) = Serves r
@@ -123,23 +121,11 @@ serves_caused : (n now : ℕ) (w : Readings) (s : State) (r : Reply) → Serves 
 serves_caused n now w s reply.Unavailable k = absurd k
 serves_caused n now w s (reply.NotReadable has lease) k = absurd k
 serves_caused n now w s (reply.Busy waiting) k = absurd k
-serves_caused n now w s (reply.Done v) k = tt
-serves_caused n now w s (reply.Shown service paxos version map) k = tt
-serves_caused n now w s (reply.Since service from told more) k = tt
-serves_caused n now w s reply.NoSuch k = tt
-serves_caused n now w s (reply.TooLong len most) k = tt
-serves_caused n now w s (reply.MapFull would_be) k = tt
+serves_caused n now w s other k = k
 
 serves_routed : (s : State) (r : Reply) → Serves r → HasCauseToRoute s r
-serves_routed s reply.Unavailable k = absurd k
-serves_routed s (reply.NotReadable has lease) k = absurd k
 serves_routed s (reply.Busy waiting) k = absurd k
-serves_routed s (reply.Done v) k = tt
-serves_routed s (reply.Shown service paxos version map) k = tt
-serves_routed s (reply.Since service from told more) k = tt
-serves_routed s reply.NoSuch k = tt
-serves_routed s (reply.TooLong len most) k = tt
-serves_routed s (reply.MapFull would_be) k = tt
+serves_routed s other k = k
 
 refusal_serves : (e : CommandRefused) → (e ≡ refused_as.OutOfMemory → ⊥) → Serves (refusal e)
 refusal_serves refused_as.NoSuch k = tt
