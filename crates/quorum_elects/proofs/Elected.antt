@@ -133,9 +133,6 @@ module _ (G : Majority) where
                 by (inr (inl less)) = less
                 by (inr (inr more)) = absurd (omega arith)
 
-    pub elected : Can (scope G) (2 * n * n + 4 * n + 2) Led G.from
-    elected = let P = elected_by in P.can
-
     pub has_leader_by : Plays (scope G) (election G.ms G.q) (2 * n * n + 4 * n + 2) (HasLeader n G.q G.from) G.from
     has_leader_by = plays_weaker Us (omega arith) (λ v o L. leads v L) elected_by
 
@@ -166,9 +163,6 @@ module _ (ms : Monitors) (events : List Event) (there : ran ms events ≡ at (ru
 -- a majority of a run, near its log and ready
 module _ (ms : Monitors) (several : 1 < ms.count) (events : List Event) (F : AllFit ms.count events) (on : (ran ms events).stop ≡ None) (q : List Bool) (M : IsMajorityOf ms.count q) (near : (i : ℕ) → has q i ≡ true → LacksAtMost 1 (run ms events) i) (ready : IsReady ms q (run ms events))
     (asks : Option (Session × Command)) (clock : Clock) where
-  abbrev w0 : World
-  w0 = run ms events
-
   pub there : ran ms events ≡ at (run ms events)
   there = λ j. record { world = run ms events; stop = on j }
 

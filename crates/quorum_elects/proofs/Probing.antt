@@ -176,9 +176,6 @@ module _ (G : Majority) where
   stands_stay w v f o same k = (is_stays (IsCandidate c (odd_from (e0 f)) (only f)) w v f same k.0, calls_stay f (odd_from (e0 f)) w v o k.1)
 
   module _ (k : ℕ) (mine : has q k ≡ true) where
-    few_k : k < 15
-    few_k = let z = M.below k mine in let m = G.ms.most in omega arith
-
     -- another one answers, and nothing else changes
     record Answered (j : ℕ) (w v : World) : Type 0 where
       close : Close c (readings_at w j)

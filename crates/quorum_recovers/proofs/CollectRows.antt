@@ -314,9 +314,6 @@ module _ (ms : Monitors) (several : 1 < ms.count) (i : ℕ) (lt : ltb i ms.count
   drop_none zero = refl
   drop_none (suc k) = refl
 
-  answer_meets : (f e : ℕ) (b : Body) → (f ≡ i → ⊥) → (not (eqb f i) && (eqb n n && true)) ≡ true
-  answer_meets f e b ne = λ j. not (ne_eqb f i ne j) && (eq-eqb n n refl j && true)
-
   -- a member that has no further version, and whose answer is whole
   pub hears_same : (w : Readings) (s : State) (e : ℕ) (a : List Bool) (l pn : ℕ) (A : List Bool) (T : ℕ → ℕ) → IsAsking i e a l pn A T w s → is_alone me a ≡ false → (f : ℕ) → f < n → has a f ≡ true → (f ≡ i → ⊥)
       → suc l ≤ 2 ^ 62 → (p first last from : ℕ) (values : List (List Op)) (told : Option Told) → drop (suc l - from) values ≡ [] → p ≡ pn → T f ≡ last → last ≤ l → ((g : ℕ) → has a g ≡ true → l ≤ suc (T g)) → (v : List Op) → (1 ≤ l → (record_at w.record_of l ≡ Some v) × (length (text v) ≤ most_value))

@@ -61,9 +61,6 @@ module _ (G : Majority) (Q : Term G) where
   abbrev sent : ℕ
   sent = length G.from.messages
 
-  abbrev c : ℕ
-  c = G.c
-
   abbrev r : ℕ
   r = Q.r
 
@@ -78,9 +75,6 @@ module _ (G : Majority) (Q : Term G) where
 
   abbrev within : (f : ℕ) → has a f ≡ true → has q f ≡ true
   within = Q.within
-
-  abbrev T : ℕ → ℕ
-  T = Q.T
 
   abbrev On : World → World → Type 0
   On w v = Onward Us w v

@@ -257,9 +257,6 @@ module _ (last : ℕ) (c : Cookie) (p : ChunkPlace) (left : List Entry) (n : ℕ
   goes_on : (reach last p [] && not (is_done p.key)) ≡ true
   goes_on = λ j. reaches j && not (undone j)
 
-  abbrev room : List Entry → Bool
-  room = have_room entry_length (besides_entries last c p left []) 1048576
-
   abbrev found : List Entry
   found = longest (have_room entry_length (besides_entries last c p left []) 1048576) left
 

@@ -67,9 +67,6 @@ module _ (ms : Monitors) (several : 1 < ms.count) (events : List Event) (F : All
   abbrev n : ℕ
   n = ms.count
 
-  abbrev w0 : World
-  w0 = run ms events
-
   abbrev asks : Option (Session × Command)
   asks = Some (s, c)
 

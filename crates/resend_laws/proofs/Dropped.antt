@@ -66,9 +66,6 @@ neither : (a b c d : Bool) → a ≡ true → (a && (true || b) && c) ≡ false 
 neither true b c d e f g = (f, g)
 neither false b c d e f g = absurd cc
 
-continued : (wait j since now at : ℕ) (n : Note) → 1000 ≤ wait → n.times < 16 → j ≤ n.times → IsAt wait j since now n → (next_note at n).due ≤ at + wait
-continued wait j since now at n most few tries h = omega (arith, most, h.every)
-
 if_uncounted : (wait j since now at : ℕ) (again : Bool) (n : Note) (b : Bool) → 1000 ≤ wait → now ≤ at → is_due again at n ≡ b → IsAt wait j since now n → IsAt wait j since at (cond b (went_once at n) n)
 if_uncounted wait j since now at again n true most le e h =
     let few : n.times < 16 = grind (arith, nat_tests, third (leb n.due at) (again || n.held) (ltb n.times 16) e) in
