@@ -1,30 +1,36 @@
 -- The answers of a network's run: each is the log's, and each datagram that went to a client is of one.
-use Rattle.std.proofs.Common.{◌≡◌, inl, inr, ℕ, ◌<◌, ◌≤◌, List, [], ◌++◌, map, sym, ap, subst, ◌∙◌, arith}
+use Rattle.std.proofs.Common.{◌≡◌, ◌⊎◌, inl, inr, ℕ, ◌<◌, ◌≤◌, List, ◌++◌, length, map, sym, ap, subst, ◌∙◌, arith}
 use Rattle.std.proofs.lemmas.List.{map-append}
 use Rattle.std.proofs.lemmas.List.Elements.{Contains-append_cases, Contains-append_left, Contains-append_right}
 use Rattle.std.specs.List.{AllByRecursion, Contains}
 use Rattle.log_model.proofs.Lists.{all_map, of_all}
 use Rattle.mon_link.specs.declared.link.Peer.{Peer}
 use Rattle.mon_link.specs.declared.link.Peer.TheVariants.{Client}
+use Rattle.mon_msg.specs.Fold.{entry, map_of_log, put_in, version_of_log}
+use Rattle.mon_tx.specs.Decode.{ops_in}
 use Rattle.mon_wire.specs.Message.Whole.{HasText, text}
 use Rattle.mon_wire.specs.declared.reply.Reply.{Reply}
 use Rattle.mon_wire.specs.declared.reply.Reply.TheVariants as reply
+use Rattle.mon_wire.specs.declared.request.Request.TheVariants as request
+use Rattle.mon_wire.specs.declared.request.Service.{Service}
 use Rattle.mon_wire.specs.declared.request.Session.{Session}
 use Rattle.network_answers.proofs.Lists.{all_image, in_image, of_image}
-use Rattle.network_answers.specs.Answers.{Answer, AreInOrder, IsAnswer, IsOfThisLog, IsRefused, IsUpTo}
+use Rattle.network_answers.specs.Answers.{Answer, AreInOrder, IsAnswer, IsDone, IsNoOlder, IsOfLog, IsOfThisLog, IsRefused, Requested}
 use Rattle.quorum_agreement.proofs.SafeWorlds.{safe}
 use Rattle.quorum_answers.proofs.Answers.{each_onward, linearizable}
 use Rattle.quorum_answers.proofs.Changes.{name_next}
 use Rattle.quorum_answers.proofs.Refusals.{all_refused}
-use Rattle.quorum_answers.specs.Changes.{AllNameNext, NamesNext}
+use Rattle.quorum_answers.specs.Changes.{NamesNext}
 use Rattle.quorum_answers.specs.Linear.{Linearizable, Read, Write}
 use Rattle.quorum_answers.specs.Reads.{EachOnward, NoOlder, Shows}
 use Rattle.quorum_answers.specs.Refused as model
 use Rattle.quorum_answers.specs.Refused.{AllRefused, CoversAll, IsRefusalReply}
+use Rattle.quorum_model.specs.Clients.{made_by}
 use Rattle.quorum_model.specs.Events.{AllFit}
+use Rattle.quorum_model.specs.Kept.{DoneIsAnswered, IsAnswered, IsKeptIn}
 use Rattle.quorum_model.specs.Monitors.{Monitors}
 use Rattle.quorum_model.specs.Runs.{run}
-use Rattle.quorum_model.specs.Shown.{IsShown, Shown, ShowsLog}
+use Rattle.quorum_model.specs.Shown.{AskedFor, IsShown, ShowsLog, WasAskedFor}
 use Rattle.quorum_model.specs.World.{Acknowledged, Acknowledgement, Asked, Event, Replied, World}
 use Rattle.quorum_network.proofs.Adding.{IsBy, IsLater, IsRepliedBy, given}
 use Rattle.quorum_network.proofs.Assembled.{all_self, assembly}
@@ -32,21 +38,57 @@ use Rattle.quorum_network.proofs.Going.{GoesOn, grown_log}
 use Rattle.quorum_network.proofs.Invariant.{IsSaid}
 use Rattle.quorum_network.proofs.Joined.{letters_answer}
 use Rattle.quorum_network.proofs.Letters.{Letter}
-use Rattle.quorum_network.proofs.Promised.{some_letters, stands_log, stands_replied, world_is}
+use Rattle.quorum_network.proofs.Promised.{acks_are, asked_so, some_letters, stands_log, world, world_is}
 use Rattle.quorum_network.proofs.Whole.{Stands, asked_among, given_more}
 use Rattle.quorum_network.specs.History.{Extends}
 use Rattle.quorum_network.specs.Network.{Network}
-use Rattle.quorum_network.specs.Promises.{AreAnswers, IsLogOf, IsNoOlder, IsOfLog, Requested}
+use Rattle.quorum_network.specs.Promises.{AreAnswers, IsLogOf}
 use Rattle.quorum_network.specs.Requests.{Leadership}
 use Rattle.quorum_network.specs.Running.{answer_of}
 
 abbrev pub answer : Replied → Answer
 answer r = record { rank = r.rank; session = r.session; epoch = r.epoch; last = r.last; reply = r.reply }
 
-up_to : (w : World) (r : Replied) (q : Reply) → ShowsLog w r q → NamesNext w r q → IsUpTo w.log r.last q
-up_to w r (reply.Shown s paxos version map) k next = k.0
-up_to w r (reply.Since s from told more) k next = (k, next)
-up_to w r other k next = tt
+-- ---- what a reply of a run says
+
+module _ (n : ℕ) (asks : List Asked) (w : World) (asked : AllByRecursion (λ a. Contains asks a) w.asked) (r : Replied) where
+  abbrev acks : List Acknowledgement
+  acks = map given w.acknowledged
+
+  was_asked : (a : Asked) → Contains w.asked a → Contains asks a
+  was_asked a c = of_all (λ a. Contains asks a) w.asked asked a c
+
+  done_is : (v : ℕ) → AllByRecursion (IsKeptIn n w) w.acknowledged → IsAnswered w r v → IsDone asks acks w.log r.rank r.session v
+  done_is v kept A =
+      let k = of_all (IsKeptIn n w) w.acknowledged kept A.acknowledged A.among in
+      let a = A.asked in
+      let one : a ≡ record { rank = r.rank; session = r.session; request = a.request } = ap (λ (i : ℕ). record { rank = i; session = a.session; request = a.request }) A.rank ∙ ap (λ (s : Session). record { rank = r.rank; session = s; request = a.request }) A.session in
+      record {
+        acknowledgement = given A.acknowledged;
+        among = in_image given w.acknowledged A.acknowledged A.among;
+        version = A.version;
+        some = subst (λ (x : ℕ). 1 ≤ x) A.version k.some;
+        within = subst (λ (x : ℕ). x ≤ length w.log) A.version k.within;
+        request = a.request;
+        requested = subst (λ (x : Asked). Contains asks x) one (was_asked a A.was_asked);
+        made = ap (λ (i : ℕ). made_by i a.request) (sym A.rank) ∙ A.made;
+        put = subst (λ (x : ℕ). Contains (put_in A.acknowledged.what.service (ops_in (entry w.log x))) A.acknowledged.what.incremental) A.version k.put;
+      }
+
+  asked_either : (s : Service) → AskedFor w r (request.Show s) ⊎ ((v : ℕ) × AskedFor w r (request.Since s v)) → Requested asks r.rank r.session (request.Show s) ⊎ ((v : ℕ) × Requested asks r.rank r.session (request.Since s v))
+  asked_either s (inl c) = inl (was_asked _ c)
+  asked_either s (inr (v, c)) = inr (v, was_asked _ c)
+
+  reply_of_log : (q : Reply) → AllByRecursion (IsKeptIn n w) w.acknowledged → ShowsLog w r q → WasAskedFor w r q → DoneIsAnswered w r q → NamesNext w r q → IsOfLog asks acks w.log r.rank r.session r.last q
+  reply_of_log (reply.Shown s paxos version map) kept shows for answered next = (
+    shows.0,
+    shows.1 ∙ ap (λ (k : ℕ). map_of_log s w.log k) (sym shows.0),
+    shows.2 ∙ ap (λ (k : ℕ). version_of_log s w.log k) (sym shows.0),
+    asked_either s for,
+  )
+  reply_of_log (reply.Since s from told more) kept shows for answered next = (shows, next, was_asked _ for)
+  reply_of_log (reply.Done v) kept shows for answered next = done_is v kept answered
+  reply_of_log other kept shows for answered next = tt
 
 -- ---- at one point in time
 
@@ -58,20 +100,18 @@ module _ (ms : Monitors) (asks : List Asked) (acks : List Acknowledgement) (lead
   pub is_log : IsLogOf ms asks acks net S.w.log
   is_log = of_world (λ w. IsLogOf ms asks acks net w.log) (stands_log ms asks acks leads net S)
 
-  next_named : AllNameNext S.w
-  next_named = of_world AllNameNext (name_next ms S.reach.events S.reach.fits)
-
-  shown : Shown S.w
-  shown = of_world Shown (safe ms S.reach.events S.reach.fits).shown
-
-  replied : (r : Replied) → Contains S.w.replied r → IsOfLog asks acks [] S.w.log r.rank r.epoch r.session r.reply
-  replied = of_world (λ w. (r : Replied) → Contains w.replied r → IsOfLog asks acks [] w.log r.rank r.epoch r.session r.reply) (stands_replied ms asks acks leads net S)
+  in_run : (r : Replied) → Contains (world ms asks acks leads net S).replied r → IsOfThisLog asks acks (world ms asks acks leads net S).log (answer r)
+  in_run r c =
+      let w : World = run ms S.reach.events in
+      let K = safe ms S.reach.events S.reach.fits in
+      let shown = of_all (IsShown w) w.replied K.shown r c in
+      let answered = of_all (λ (q : Replied). DoneIsAnswered w q q.reply) w.replied K.kept.answered r c in
+      let next = of_all (λ (q : Replied). NamesNext w q q.reply) w.replied (name_next ms S.reach.events S.reach.fits) r c in
+      let is = reply_of_log ms.count asks w (asked_so ms asks acks leads net S) r r.reply K.kept.each shown.shows shown.asked answered next in
+      record { within = shown.within; of_log = subst (λ (xs : List Acknowledgement). IsOfLog asks xs w.log r.rank r.session r.last r.reply) (acks_are ms asks acks leads net S) is }
 
   one_of_log : (r : Replied) → Contains S.w.replied r → IsOfThisLog asks acks S.w.log (answer r)
-  one_of_log r c =
-      let k = of_all (IsShown S.w) S.w.replied shown r c in
-      let next = of_all (λ (q : Replied). NamesNext S.w q q.reply) S.w.replied next_named r c in
-      record { within = k.within; up_to = up_to S.w r r.reply k.shows next; of_log = replied r c }
+  one_of_log = of_world (λ w. (r : Replied) → Contains w.replied r → IsOfThisLog asks acks w.log (answer r)) in_run
 
   pub all_of_log : AllByRecursion (IsOfThisLog asks acks S.w.log) (map answer S.w.replied)
   all_of_log = all_image answer (IsOfThisLog asks acks S.w.log) S.w.replied (all_self (λ (r : Replied). IsOfThisLog asks acks S.w.log (answer r)) S.w.replied one_of_log)

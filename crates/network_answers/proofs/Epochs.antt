@@ -1,20 +1,19 @@
 -- Answers are in order over all epochs, in every history that has them.
-use Rattle.std.proofs.Common.{◌≡◌, ℕ, ◌<◌, ◌≤◌, List, [], ◌++◌, length, Some, sym, ap, subst, ◌∙◌, arith}
+use Rattle.std.proofs.Common.{◌≡◌, ℕ, ◌<◌, ◌≤◌, List, ◌++◌, length, Some, sym, ap, subst, ◌∙◌, arith}
 use Rattle.std.specs.List.{Contains}
 use Rattle.log_model.proofs.Lists.{of_all}
 use Rattle.mon_msg.specs.Fold.{entry, put_in}
 use Rattle.mon_tx.specs.Decode.{ops_in}
 use Rattle.mon_wire.specs.declared.reply.Reply.TheVariants as reply
-use Rattle.mon_wire.specs.declared.reply.Reply.{Reply}
 use Rattle.network_answers.proofs.Marks.{above, one_of_version, told_put}
-use Rattle.network_answers.specs.Answers.{Answer, IsOfThisLog, IsUpTo}
+use Rattle.network_answers.specs.Answers.{Answer, IsDone, IsOfLog, IsOfThisLog}
 use Rattle.network_answers.specs.Epochs.{AreDoneInOrder, AreLinearizable, AreOfOneChange, AsksAnew, IsMark, IsUnasked, ShowsMark, TellsUnasked}
 use Rattle.network_answers.specs.History.{Adds, HaveAnswers}
 use Rattle.quorum_answers.specs.Reads.{Shows}
 use Rattle.quorum_model.specs.Monitors.{Monitors}
 use Rattle.quorum_model.specs.World.{Acknowledgement, Asked}
 use Rattle.quorum_network.specs.Network.{AllMay, Step, may_before, network}
-use Rattle.quorum_network.specs.Promises.{IsDone, IsKeptBy, IsLogOf, IsOfLog}
+use Rattle.quorum_network.specs.Promises.{IsKeptBy, IsLogOf}
 use Rattle.quorum_network.specs.Requests.{acknowledgements, requests}
 
 module _ (ms : Monitors) (H : HaveAnswers ms) (later earlier : List Step) (may : AllMay ms (later ++ earlier)) where
@@ -67,7 +66,7 @@ module _ (ms : Monitors) (H : HaveAnswers ms) (later earlier : List Step) (may :
   tells_mark : (a : Answer) → Contains (H.answers steps may) a → TellsUnasked before a → ShowsMark before log a
   tells_mark a c t =
       let k = new_is a c in
-      let told = subst (IsUpTo log a.last) t.is k.up_to in
+      let told = subst (IsOfLog (requests ms steps) (acknowledgements ms steps) log a.rank a.session a.last) t.is k.of_log in
       let after = told.0 in
       let p = told_put t.service log a.last t.from t.told after.same t.incremental t.among in
       record {
@@ -112,7 +111,7 @@ module _ (ms : Monitors) (H : HaveAnswers ms) (later earlier : List Step) (may :
   -- ---- what a client sees of its writes
 
   done_of : (asks : List Asked) (acks : List Acknowledgement) (log : List (List ℕ)) (a : Answer) (v : ℕ) → a.reply ≡ reply.Done v → IsOfThisLog asks acks log a → IsDone asks acks log a.rank a.session v
-  done_of asks acks log a v e k = subst (λ (r : Reply). IsOfLog asks acks [] log a.rank a.epoch a.session r) e k.of_log
+  done_of asks acks log a v e k = subst (IsOfLog asks acks log a.rank a.session a.last) e k.of_log
 
   new_done : (a : Answer) (v : ℕ) → Contains (H.answers steps may) a → a.reply ≡ reply.Done v → IsDone (requests ms steps) (acknowledgements ms steps) log a.rank a.session v
   new_done a v c e = done_of (requests ms steps) (acknowledgements ms steps) log a v e (new_is a c)

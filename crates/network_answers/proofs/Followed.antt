@@ -6,7 +6,7 @@ use Rattle.std.proofs.lemmas.List.Concat.{flat_map-append}
 use Rattle.std.specs.List.{AllByRecursion, Contains, flat_map}
 use Rattle.std.specs.Option.{option_map}
 use Rattle.std.specs.Prelude.{◌%◌}
-use Rattle.log_model.proofs.Lists.{all_append, all_map}
+use Rattle.log_model.proofs.Lists.{all_append, all_map, of_all}
 use Rattle.map_follower.proofs.Follows.{holds_all}
 use Rattle.map_follower.specs.Copies.{Taken, applied_from, first, if_applied, is_of, taken, taken_all}
 use Rattle.map_follower.specs.Following.{Holds, WasGiven}
@@ -28,7 +28,8 @@ use Rattle.mon_link.specs.declared.link.Peer.{Peer}
 use Rattle.mon_link.specs.declared.link.Peer.TheVariants.{Monitor, Client}
 use Rattle.mon_types.specs.declared.names.Stop.{Stop}
 use Rattle.mon_types.specs.declared.names.Stop.TheVariants as stop
-use Rattle.mon_wire.specs.Message.Whole.{message_of, text}
+use Rattle.mon_msg.specs.Fold.{map_of_log, version_of_log}
+use Rattle.mon_wire.specs.Message.Whole.{HasText, message_of, text}
 use Rattle.mon_wire.specs.declared.message.Message.{Message}
 use Rattle.mon_wire.specs.declared.refusal.MsgRefused.{MsgRefused}
 use Rattle.mon_wire.specs.declared.reply.Reply.{Reply}
@@ -36,44 +37,40 @@ use Rattle.mon_wire.specs.declared.reply.Reply.TheVariants as reply
 use Rattle.mon_wire.specs.declared.reply.ShownMap.{ShownMap}
 use Rattle.mon_wire.specs.declared.request.Service.{Service}
 use Rattle.mon_wire.specs.declared.request.Session.{Session}
+use Rattle.network_answers.specs.Answers.{Answer, IsAnswer as IsAnAnswer, IsOfLog, IsOfThisLog, message_of as answer_message}
 use Rattle.network_answers.specs.Followers.{AreRising, Reaches, Writes}
 use Rattle.quorum_model.specs.Shown.{IsShown}
 use Rattle.quorum_model.specs.World.{Acknowledgement, Asked, Replied, World, first_world}
 use Rattle.quorum_network.proofs.Assembled.{contains_first, contains_later}
 use Rattle.quorum_network.specs.Network.{Posted}
-use Rattle.quorum_network.specs.Promises.{AreAnswers, IsJoined, IsOfLog, IsReply, Numbers, ReachesClient}
-use Rattle.quorum_network.specs.Running.{reply_message}
+use Rattle.quorum_network.specs.Promises.{AreAnswers, IsJoined, Numbers, ReachesClient}
 
 -- ---- replies that are the log's, as replies of a run of the model
 
 module _ (requests : List Asked) (acks : List Acknowledgement) (log : List (List ℕ)) where
   record IsGiven (r : Reply) : Type 0 where
     rank : ℕ
-    epoch : ℕ
     session : Session
-    of_log : IsOfLog requests acks [] log rank epoch session r
+    last : ℕ
+    within : last ≤ length log
+    of_log : IsOfLog requests acks log rank session last r
 
   abbrev AllGiven : List Reply → Type 0
   AllGiven rs = AllByRecursion IsGiven rs
 
-  last_in : (i epoch : ℕ) (session : Session) (r : Reply) → IsOfLog requests acks [] log i epoch session r → ℕ
-  last_in i epoch session (reply.Shown s paxos version map) k = paxos
-  last_in i epoch session (reply.Since s from told more) k = k.0
-  last_in i epoch session other k = 0
-
   abbrev replied_of : (r : Reply) → IsGiven r → Replied
-  replied_of r g = record { event = 0; rank = g.rank; epoch = g.epoch; last = last_in g.rank g.epoch g.session r g.of_log; session = g.session; reply = r }
+  replied_of r g = record { event = 0; rank = g.rank; epoch = 0; last = g.last; session = g.session; reply = r }
 
   -- a world of which this much is so
   abbrev world_of : List Replied → World
   world_of rs = record first_world { log = log; asked = requests; replied = rs }
 
-  shown_is : (all : List Replied) (i epoch : ℕ) (session : Session) (r : Reply) (k : IsOfLog requests acks [] log i epoch session r)
-      → IsShown (world_of all) (record { event = 0; rank = i; epoch = epoch; last = last_in i epoch session r k; session = session; reply = r })
-  unfolding last_in
-  shown_is all i epoch session (reply.Shown s paxos version map) k = record { within = k.0; shows = (refl, k.1, k.2); asked = k.3 }
-  shown_is all i epoch session (reply.Since s from told more) k = record { within = k.1; shows = k.2; asked = k.3 }
-  shown_is all i epoch session other k = record { within = omega arith; shows = tt; asked = tt }
+  shown_is : (all : List Replied) (i : ℕ) (session : Session) (last : ℕ) → last ≤ length log → (r : Reply) → IsOfLog requests acks log i session last r
+      → IsShown (world_of all) (record { event = 0; rank = i; epoch = 0; last = last; session = session; reply = r })
+  shown_is all i session last low (reply.Shown s paxos version map) k =
+      record { within = low; shows = (k.0, k.1 ∙ ap (λ (v : ℕ). map_of_log s log v) k.0, k.2 ∙ ap (λ (v : ℕ). version_of_log s log v) k.0); asked = k.3 }
+  shown_is all i session last low (reply.Since s from told more) k = record { within = low; shows = k.0; asked = k.2 }
+  shown_is all i session last low other k = record { within = low; shows = tt; asked = tt }
 
   replies_of : (rs : List Reply) → AllGiven rs → List Replied
   replies_of [] g = []
@@ -82,7 +79,7 @@ module _ (requests : List Asked) (acks : List Acknowledgement) (log : List (List
   all_shown : (all : List Replied) (rs : List Reply) (g : AllGiven rs) → AllByRecursion (IsShown (world_of all)) (replies_of rs g)
   unfolding replies_of
   all_shown all [] g = tt
-  all_shown all (r ∷ rs) g = (shown_is all g.0.rank g.0.epoch g.0.session r g.0.of_log, all_shown all rs g.1)
+  all_shown all (r ∷ rs) g = (shown_is all g.0.rank g.0.session g.0.last g.0.within r g.0.of_log, all_shown all rs g.1)
 
   all_given : (all : List Replied) (rs : List Reply) (g : AllGiven rs) → ((q : Replied) → Contains (replies_of rs g) q → Contains all q) → AllByRecursion (WasGiven (world_of all)) rs
   unfolding replies_of
@@ -235,7 +232,7 @@ turned_or_not P n g t h k = by t.stop
     by None = k
     by (Some e) = h
 
-module _ (n : ℕ) (requests : List Asked) (acks : List Acknowledgement) (log : List (List ℕ)) (sent : List Posted) (A : AreAnswers (IsReply n requests acks [] log) sent) (numbers : Numbers) (s : Service) (written : Option (List ℕ)) where
+module _ (n : ℕ) (requests : List Asked) (acks : List Acknowledgement) (log : List (List ℕ)) (sent : List Posted) (answers : List Answer) (O : AllByRecursion (IsOfThisLog requests acks log) answers) (A : AreAnswers (IsAnAnswer n answers) sent) (numbers : Numbers) (s : Service) (written : Option (List ℕ)) where
   -- what a client joined and took so far, and that its copy and its lines follow from that
   record IsSo (now : Course) : Type 0 where
     came : List FromPeer
@@ -277,18 +274,21 @@ module _ (n : ℕ) (requests : List Asked) (acks : List Acknowledgement) (log : 
           low = up_to_more now.follower.version t.0.version I.writes.copies (lines_in t) (taken_rises now.follower r) I.low (all_lines (λ (f : Follower). f.version ≤ t.0.version) t (omega arith));
         }
 
+    read_by : (a : Answer) (bytes : List ℕ) → bytes ≡ text (answer_message n a) → HasText (answer_message n a) → reply_read n (Monitor a.rank) (message_of bytes) ≡ Some a.reply
+    read_by a bytes is has =
+        ap (reply_read n (Monitor a.rank)) (ap message_of is ∙ message_again (answer_message n a) has)
+        ∙ ap (λ (b : Bool). cond b (cond (eqb a.rank a.rank) (Some a.reply) None) None) (eq-eqb n n refl) ∙ ap (λ (b : Bool). cond b (Some a.reply) None) (eq-eqb a.rank a.rank refl)
+
     -- the reply that its bytes encode
-    reads : (i c : ℕ) (bytes : List ℕ) (R : IsReply n requests acks [] log i c bytes) → reply_read n (Monitor i) (message_of bytes) ≡ Some R.reply
-    reads i c bytes R =
-        ap (reply_read n (Monitor i)) (ap message_of R.is_text ∙ message_again (reply_message n i R.epoch R.session R.reply) R.has_text)
-        ∙ ap (λ (b : Bool). cond b (cond (eqb i i) (Some R.reply) None) None) (eq-eqb n n refl) ∙ ap (λ (b : Bool). cond b (Some R.reply) None) (eq-eqb i i refl)
+    reads : (i c : ℕ) (bytes : List ℕ) (R : IsAnAnswer n answers i c bytes) → reply_read n (Monitor i) (message_of bytes) ≡ Some R.answer.reply
+    reads i c bytes R = subst (λ (j : ℕ). reply_read n (Monitor j) (message_of bytes) ≡ Some R.answer.reply) R.rank (read_by R.answer bytes R.is_text R.has_text)
 
     no_client : (x : ℕ) (m : Result Message MsgRefused) → reply_read n (Client x) m ≡ None
     no_client x (Ok m) = refl
     no_client x (Err e) = refl
 
     abbrev Joined : FromPeer → Type 0
-    Joined d = IsJoined (IsReply n requests acks [] log) numbers d.from d.bytes
+    Joined d = IsJoined (IsAnAnswer n answers) numbers d.from d.bytes
 
     takes : (from : Peer) (o : Option (List ℕ)) → AllByRecursion Joined (and_answered from o []) → IsSo (with_reply (record now { parts = parts }) (reply_in n from o))
     takes from None h = takes_none
@@ -296,7 +296,8 @@ module _ (n : ℕ) (requests : List Asked) (acks : List Acknowledgement) (log : 
     takes (Monitor i) (Some bytes) h =
         let c = h.0.0 in
         let R = h.0.2 in
-        subst (λ (o : Option Reply). IsSo (with_reply (record now { parts = parts }) o)) (sym (reads i c bytes R)) (takes_one R.reply (record { rank = i; epoch = R.epoch; session = R.session; of_log = R.of_log }))
+        let K = of_all (IsOfThisLog requests acks log) answers O R.answer R.among in
+        subst (λ (o : Option Reply). IsSo (with_reply (record now { parts = parts }) o)) (sym (reads i c bytes R)) (takes_one R.answer.reply (record { rank = R.answer.rank; session = R.answer.session; last = R.answer.last; within = K.within; of_log = K.of_log }))
 
   -- a datagram of a monitor
   with_one : (now : Course) (from : Peer) (bytes : List ℕ) → ReachesClient sent numbers from bytes → IsSo now → IsSo (with_datagram n from bytes now)
@@ -305,10 +306,10 @@ module _ (n : ℕ) (requests : List Asked) (acks : List Acknowledgement) (log : 
       let came = I.came ++ d ∷ [] in
       let reach = all_append (λ (x : FromPeer). ReachesClient sent numbers x.from x.bytes) I.came (d ∷ []) I.reach (reaches, tt) in
       let parts : kept_in now.parts (piece_taken now.parts from bytes) ≡ kept_all [] came = ap (λ (ps : List Partial). kept_in ps (piece_taken ps from bytes)) I.parts ∙ sym (kept_more [] I.came d) in
-      let joined = subst (AllByRecursion (λ (x : FromPeer). IsJoined (IsReply n requests acks [] log) numbers x.from x.bytes)) (answered_more [] I.came (d ∷ [])) (A.joined numbers came reach) in
-      let last = all_rest (λ (x : FromPeer). IsJoined (IsReply n requests acks [] log) numbers x.from x.bytes) (answered [] I.came) (answered (kept_all [] I.came) (d ∷ [])) joined in
+      let joined = subst (AllByRecursion (λ (x : FromPeer). IsJoined (IsAnAnswer n answers) numbers x.from x.bytes)) (answered_more [] I.came (d ∷ [])) (A.joined numbers came reach) in
+      let last = all_rest (λ (x : FromPeer). IsJoined (IsAnAnswer n answers) numbers x.from x.bytes) (answered [] I.came) (answered (kept_all [] I.came) (d ∷ [])) joined in
       takes now (kept_in now.parts (piece_taken now.parts from bytes)) came reach parts I from (answer_in (piece_taken now.parts from bytes))
-      (subst (λ (ps : List Partial). AllByRecursion (λ (x : FromPeer). IsJoined (IsReply n requests acks [] log) numbers x.from x.bytes) (and_answered from (answer_in (piece_taken ps from bytes)) [])) (sym I.parts) last)
+      (subst (λ (ps : List Partial). AllByRecursion (λ (x : FromPeer). IsJoined (IsAnAnswer n answers) numbers x.from x.bytes) (and_answered from (answer_in (piece_taken ps from bytes)) [])) (sym I.parts) last)
 
   -- a question to the link doesn't change what a client joined and took
   with_link : (now : Course) (link : Option Observed) (asks : ℕ) → IsSo now → IsSo (record now { asks = asks; link = link })

@@ -1,6 +1,5 @@
 -- What a map has was put by a version of the log. So a map with a marker is as new as the marker.
-use Rattle.std.proofs.Common.{◌≡◌, inl, inr, ℕ, zero, suc, ◌≤◌, Bool, true, false, cond, List, [], ◌∷◌, ◌++◌, Option, Some, None, Result, Ok, Err, refl, sym, ap, subst, ◌∙◌, ◌⊎◌, nat_cmp, arith}
-use Rattle.std.proofs.lemmas.Bool.{cond_both}
+use Rattle.std.proofs.Common.{◌≡◌, inl, inr, ℕ, zero, suc, Bool, true, false, cond, List, [], ◌∷◌, ◌++◌, Option, Some, None, Result, Ok, Err, refl, sym, ap, subst, ◌∙◌, ◌⊎◌, nat_cmp, arith}
 use Rattle.std.proofs.lemmas.List.Elements.{Contains-append_cases}
 use Rattle.std.specs.Cmp.{Equal-is}
 use Rattle.std.specs.Cmp.Lexicographic.{nat_list_cmp_total, slice_cmp}
@@ -18,14 +17,11 @@ use Rattle.mon_bytes.specs.declared.command.MapRefused.{MapRefused}
 use Rattle.mon_msg.specs.Fold.{after_all, incrementals, log_after_all, map_of_log, stepped, stepped_log}
 use Rattle.mon_msg.specs.Protocol.Maps.{if_ok}
 use Rattle.mon_wire.specs.declared.reply.Reply.TheVariants as reply
-use Rattle.mon_wire.specs.declared.reply.Reply.{Reply}
-use Rattle.mon_wire.specs.declared.reply.ShownMap.TheVariants as map
-use Rattle.mon_wire.specs.declared.reply.ShownMap.{ShownMap}
 use Rattle.mon_wire.specs.declared.request.Service.TheVariants as service
 use Rattle.mon_wire.specs.declared.request.Service.{Service}
 use Rattle.network_answers.proofs.Epochs.{linearizable}
 use Rattle.network_answers.proofs.Marks.{IsPut, is_put}
-use Rattle.network_answers.specs.Answers.{Answer, IsOfThisLog, IsUpTo}
+use Rattle.network_answers.specs.Answers.{Answer, IsOfLog, IsOfThisLog}
 use Rattle.network_answers.specs.Epochs.{IsUnasked, ShowsMark}
 use Rattle.network_answers.specs.History.{HaveAnswers}
 use Rattle.network_answers.specs.Marked.{HasMarker, Includes, ShowsMarker}
@@ -34,8 +30,7 @@ use Rattle.quorum_answers.specs.Reads.{Shows}
 use Rattle.quorum_model.specs.Monitors.{Monitors}
 use Rattle.quorum_model.specs.World.{Acknowledgement, Asked}
 use Rattle.quorum_network.proofs.Assembled.{contains_first, contains_later}
-use Rattle.quorum_network.specs.Network.{AllMay, Step, may_before}
-use Rattle.quorum_network.specs.Promises.{IsOfLog}
+use Rattle.quorum_network.specs.Network.{AllMay, Step}
 use Rattle.quorum_network.specs.Requests.{acknowledgements, requests}
 
 exact : IsAntisymmetric (slice_cmp nat_cmp)
@@ -130,11 +125,14 @@ module _ (ms : Monitors) (H : HaveAnswers ms) (later earlier : List Step) (may :
   is_of_log : IsOfThisLog (requests ms (later ++ earlier)) (acknowledgements ms (later ++ earlier)) (H.log (later ++ earlier) may) a
   is_of_log = of_all (IsOfThisLog (requests ms (later ++ earlier)) (acknowledgements ms (later ++ earlier)) log) (H.answers (later ++ earlier) may) (H.of_log (later ++ earlier) may) a c
 
+  abbrev shown_is : IsOfLog (requests ms (later ++ earlier)) (acknowledgements ms (later ++ earlier)) log a.rank a.session a.last (reply.Shown M.service M.paxos M.version M.map)
+  shown_is = subst (IsOfLog (requests ms (later ++ earlier)) (acknowledgements ms (later ++ earlier)) log a.rank a.session a.last) M.is is_of_log.of_log
+
   last_is : M.paxos ≡ a.last
-  last_is = subst (IsUpTo log a.last) M.is is_of_log.up_to
+  last_is = shown_is.0
 
   map_is : M.map ≡ map_of_log M.service log M.paxos
-  map_is = (subst (λ (r : Reply). IsOfLog (requests ms (later ++ earlier)) (acknowledgements ms (later ++ earlier)) [] log a.rank a.epoch a.session r) M.is is_of_log.of_log).1
+  map_is = shown_is.1
 
   -- it shows a mark
   mark : ShowsMark (requests ms earlier) log a

@@ -9,7 +9,7 @@ use Rattle.mon_wire.specs.declared.reply.Reply.{Reply}
 use Rattle.mon_wire.specs.declared.request.Request.TheVariants as request
 use Rattle.mon_wire.specs.declared.request.Request.{Request}
 use Rattle.mon_wire.specs.declared.request.Session.{Session}
-use Rattle.network_answers.specs.Answers.{Answer, IsOfThisLog, IsRefused}
+use Rattle.network_answers.specs.Answers.{Answer, IsDone, IsOfLog, IsOfThisLog, IsRefused, Requested}
 use Rattle.network_answers.specs.Fates.{AreUnmade, HasUnmade}
 use Rattle.network_answers.specs.History.{HaveAnswers}
 use Rattle.network_answers.specs.Whose.{Answers, AsksOnce, IsCommanding, IsTo}
@@ -20,7 +20,6 @@ use Rattle.quorum_model.specs.Monitors.{Monitors}
 use Rattle.quorum_model.specs.World.{Asked}
 use Rattle.quorum_network.proofs.Assembled.{all_self}
 use Rattle.quorum_network.specs.Network.{AllMay, Step}
-use Rattle.quorum_network.specs.Promises.{IsDone, IsOfLog, Requested}
 use Rattle.quorum_network.specs.Requests.{acknowledgements, requests}
 use Rattle.quorum_replies.specs.Replies.{one_of, times_asked}
 
@@ -87,14 +86,7 @@ module _ (asks : List Asked) (i : ℕ) (t : Session) (once : AsksOnce asks i t) 
 
 done_or_none : (r : Reply) → ((v : ℕ) × (r ≡ reply.Done v)) ⊎ AcknowledgesNone r
 done_or_none (reply.Done v) = inl (v, refl)
-done_or_none reply.Unavailable = inr tt
-done_or_none (reply.NotReadable has lease) = inr tt
-done_or_none (reply.Busy waiting) = inr tt
-done_or_none reply.NoSuch = inr tt
-done_or_none (reply.TooLong len most) = inr tt
-done_or_none (reply.MapFull would_be) = inr tt
-done_or_none (reply.Shown s paxos version map) = inr tt
-done_or_none (reply.Since s from told more) = inr tt
+done_or_none other = inr tt
 
 module _ (ms : Monitors) (H : HaveAnswers ms) (steps : List Step) (may : AllMay ms steps) where
   abbrev asks : List Asked
@@ -110,11 +102,11 @@ module _ (ms : Monitors) (H : HaveAnswers ms) (steps : List Step) (may : AllMay 
   Refused a = IsRefusalReply a.reply → IsRefused asks asks (acknowledgements ms steps) log a
 
   module _ (a : Answer) (among : Contains (H.answers steps may) a) (once : AsksOnce asks a.rank a.session) where
-    of_log : IsOfLog asks (acknowledgements ms steps) [] log a.rank a.epoch a.session a.reply
+    of_log : IsOfLog asks (acknowledgements ms steps) log a.rank a.session a.last a.reply
     of_log = let k = of_all (IsOfThisLog asks (acknowledgements ms steps) log) (H.answers steps may) (H.of_log steps may) a among in k.of_log
 
     done : (v : ℕ) → a.reply ≡ reply.Done v → IsDone asks (acknowledgements ms steps) log a.rank a.session v
-    done v e = subst (λ (r : Reply). IsOfLog asks (acknowledgements ms steps) [] log a.rank a.epoch a.session r) e of_log
+    done v e = subst (IsOfLog asks (acknowledgements ms steps) log a.rank a.session a.last) e of_log
 
     unmade : AcknowledgesNone a.reply → HasUnmade asks log U.request a
     unmade none = of_all (λ (b : Answer). AcknowledgesNone b.reply → HasUnmade asks log U.request b) (H.answers steps may) U.refused a among none
@@ -133,22 +125,20 @@ module _ (ms : Monitors) (H : HaveAnswers ms) (steps : List Step) (may : AllMay 
         let x = refused says in
         (x.command, subst (λ (r : Request). command_of r ≡ Some x.command) (sym (same_request asks a.rank a.session once found x.request x.requested)) x.is)
 
-    answers : (q : Reply) → a.reply ≡ q → IsOfLog asks (acknowledgements ms steps) [] log a.rank a.epoch a.session q → Answers log a.rank found.by.request q
+    answers : (q : Reply) → a.reply ≡ q → IsOfLog asks (acknowledgements ms steps) log a.rank a.session a.last q → Answers log a.rank found.by.request q
     answers (reply.Done v) e D = record {
       service = D.acknowledgement.service;
       incremental = D.acknowledgement.incremental;
       asks = subst (λ (r : Request). made_by a.rank r ≡ Some (D.acknowledgement.service, D.acknowledgement.incremental)) (sym (same_request asks a.rank a.session once found D.request D.requested)) D.made;
       put = D.put;
     }
-    answers (reply.Shown s paxos version map) e (low, same, versions, inl c, fenced) = inl (same_request asks a.rank a.session once found (request.Show s) c)
-    answers (reply.Shown s paxos version map) e (low, same, versions, inr (v, c), fenced) = inr (v, same_request asks a.rank a.session once found (request.Since s v) c)
-    answers (reply.Since s from told more) e (v, low, after, c, fenced) = same_request asks a.rank a.session once found (request.Since s from) c
+    answers (reply.Shown s paxos version map) e (last, same, versions, inl c) = inl (same_request asks a.rank a.session once found (request.Show s) c)
+    answers (reply.Shown s paxos version map) e (last, same, versions, inr (v, c)) = inr (v, same_request asks a.rank a.session once found (request.Since s v) c)
+    answers (reply.Since s from told more) e (after, next, c) = same_request asks a.rank a.session once found (request.Since s from) c
     answers reply.NoSuch e k = commanding (subst IsRefusalReply (sym e) tt)
     answers (reply.TooLong len most) e k = commanding (subst IsRefusalReply (sym e) tt)
     answers (reply.MapFull would_be) e k = commanding (subst IsRefusalReply (sym e) tt)
-    answers reply.Unavailable e k = tt
-    answers (reply.NotReadable has lease) e k = tt
-    answers (reply.Busy waiting) e k = tt
+    answers other e k = tt
 
     is_to : IsTo asks log U.request a
     is_to = record {

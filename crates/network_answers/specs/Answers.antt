@@ -1,26 +1,28 @@
 -- What processes answer clients over a history. The reads and writes of an epoch have one order, and each refusal
 -- follows from the one log.
-use Rattle.std.specs.Prelude.{◌≡◌, ◌⊎◌, ℕ, ◌<◌, ◌≤◌, List, [], length, Some, Err}
-use Rattle.std.specs.List.{Contains}
+use Rattle.std.specs.Prelude.{◌≡◌, ◌⊎◌, ℕ, ◌<◌, ◌≤◌, List, length, Some, Err}
+use Rattle.std.specs.List.{AllByRecursion, Contains}
 use Rattle.log_model.specs.LogOfValues.{view_at}
 use Rattle.mon_bytes.specs.declared.command.Command.{Command}
 use Rattle.mon_bytes.specs.declared.command.CommandRefused.{CommandRefused}
-use Rattle.mon_msg.specs.Fold.{incrementals}
+use Rattle.mon_msg.specs.Fold.{entry, incrementals, map_of_log, put_in, version_of_log}
 use Rattle.mon_msg.specs.Protocol.Proposing.{refusal}
 use Rattle.mon_msg.specs.Protocol.Value.{value}
+use Rattle.mon_tx.specs.Decode.{ops_in}
 use Rattle.mon_wire.specs.Message.Whole.{HasText, text}
 use Rattle.mon_wire.specs.declared.message.Message.{Message}
 use Rattle.mon_wire.specs.declared.reply.Reply.{Reply}
 use Rattle.mon_wire.specs.declared.reply.Reply.TheVariants as reply
 use Rattle.mon_wire.specs.declared.request.Request.{Request}
+use Rattle.mon_wire.specs.declared.request.Request.TheVariants as request
 use Rattle.mon_wire.specs.declared.request.Session.{Session}
 use Rattle.quorum_answers.specs.Changes.{HasNext}
 use Rattle.quorum_answers.specs.Reads.{Shows}
-use Rattle.quorum_model.specs.Clients.{command_of}
+use Rattle.quorum_model.specs.Clients.{command_of, made_by}
 use Rattle.quorum_model.specs.Shown.{AreAfter}
 use Rattle.quorum_model.specs.World.{Acknowledgement, Asked}
-use Rattle.quorum_network.specs.Promises.{IsNoOlder, IsOfLog, Requested}
 use Rattle.quorum_network.specs.Running.{reply_message}
+use Rattle.quorum_replies.specs.Kinds.{SaysNothing, kind_of}
 
 -- ---- answers
 
@@ -45,27 +47,43 @@ pub record IsAnswer (n : ℕ) (answers : List Answer) (i c : ℕ) (bytes : List 
   pub has_text : HasText (message_of n answer)
   pub is_text : bytes ≡ text (message_of n answer)
 
--- What is shown is the log's up to this version. Changes are those after the version that was asked for, and have at
--- least the next one, if there is one. Here each kind of reply is named, so that whoever adds one decides what is
--- promised of it.
-abbrev pub IsUpTo : List (List ℕ) → (last : ℕ) → Reply → Type 0
-IsUpTo log last (reply.Shown s paxos version map) = paxos ≡ last
-IsUpTo log last (reply.Since s from told more) =
+-- ---- what an answer says
+
+-- a client asked this of monitor i in a session
+abbrev pub Requested : List Asked → ℕ → Session → Request → Type 0
+Requested requests i session r = Contains requests (record { rank = i; session = session; request = r })
+
+-- Version v was acknowledged, and it has in the log what was acknowledged, which a command of this session makes.
+pub record IsDone (requests : List Asked) (acks : List Acknowledgement) (log : List (List ℕ)) (i : ℕ) (session : Session)
+    (v : ℕ) : Type 0 where
+  pub acknowledgement : Acknowledgement
+  pub among : Contains acks acknowledgement
+  pub version : acknowledgement.version ≡ v
+  pub some : 1 ≤ v
+  pub within : v ≤ length log
+  pub request : Request
+  pub requested : Requested requests i session request
+  pub made : made_by i request ≡ Some (acknowledgement.service, acknowledgement.incremental)
+  pub put : Contains (put_in acknowledgement.service (ops_in (entry log v))) acknowledgement.incremental
+
+-- What monitor i shows or acknowledges in a session is of the log, and was asked for. A map is that of the log up to the
+-- last version that the monitor had. Changes are the log's up to that version, after the one that was asked for, and have
+-- at least the next one, if there is one. Of a reply that shows or acknowledges nothing nothing is said here.
+abbrev pub IsOfLog : List Asked → List Acknowledgement → List (List ℕ) → (i : ℕ) → Session → (last : ℕ) → Reply → Type 0
+IsOfLog requests acks log i session last (reply.Shown s paxos version map) =
+    (paxos ≡ last) × (map ≡ map_of_log s log paxos) × (version ≡ version_of_log s log paxos)
+    × (Requested requests i session (request.Show s) ⊎ ((v : ℕ) × Requested requests i session (request.Since s v)))
+IsOfLog requests acks log i session last (reply.Since s from told more) =
     AreAfter (incrementals s log last) from told more × HasNext (incrementals s log last) from told
-IsUpTo log last (reply.Done v) = Unit {0}
-IsUpTo log last reply.NoSuch = Unit {0}
-IsUpTo log last (reply.TooLong len most) = Unit {0}
-IsUpTo log last (reply.MapFull would_be) = Unit {0}
-IsUpTo log last reply.Unavailable = Unit {0}
-IsUpTo log last (reply.NotReadable has lease) = Unit {0}
-IsUpTo log last (reply.Busy waiting) = Unit {0}
+    × Requested requests i session (request.Since s from)
+IsOfLog requests acks log i session last (reply.Done v) = IsDone requests acks log i session v
+IsOfLog requests acks log i session last other = SaysNothing (kind_of other)
 
 -- The answer is the log's, and was asked for.
 pub record IsOfThisLog (requests : List Asked) (acks : List Acknowledgement) (log : List (List ℕ)) (a : Answer)
     : Type 0 where
   pub within : a.last ≤ length log
-  pub up_to : IsUpTo log a.last a.reply
-  pub of_log : IsOfLog requests acks [] log a.rank a.epoch a.session a.reply
+  pub of_log : IsOfLog requests acks log a.rank a.session a.last a.reply
 
 -- ---- reads and writes
 
@@ -86,6 +104,10 @@ pub record AreInOrder (writes : List Acknowledgement) (answers : List Answer) (l
       → Shows a.reply → Shows b.reply → a.last ≤ b.last
 
 -- ---- refusals
+
+-- version v is no older than those that were acknowledged before in this epoch
+abbrev pub IsNoOlder : List Acknowledgement → (epoch : ℕ) → (v : ℕ) → Type 0
+IsNoOlder before epoch v = AllByRecursion (λ (a : Acknowledgement). a.epoch ≡ epoch → a.version ≤ v) before
 
 -- The answer's session asked a command of its monitor, and the command's service refuses it so over the log up to this
 -- version. `before` and `acks` are what was asked and acknowledged by some point in time. If the command wasn't asked

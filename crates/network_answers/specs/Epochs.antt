@@ -7,11 +7,10 @@ use Rattle.mon_wire.specs.declared.reply.Reply.TheVariants as reply
 use Rattle.mon_wire.specs.declared.request.Request.{Request}
 use Rattle.mon_wire.specs.declared.request.Service.{Service}
 use Rattle.mon_wire.specs.declared.request.Session.{Session}
-use Rattle.network_answers.specs.Answers.{Answer}
+use Rattle.network_answers.specs.Answers.{Answer, Requested}
 use Rattle.quorum_answers.specs.Reads.{Shows}
 use Rattle.quorum_model.specs.Clients.{made_by}
 use Rattle.quorum_model.specs.World.{Acknowledgement, Asked}
-use Rattle.quorum_network.specs.Promises.{Requested}
 
 -- ---- what began after some point in time
 

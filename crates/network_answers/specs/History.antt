@@ -1,4 +1,4 @@
--- The log and the answers of a whole history.
+-- What holds of a whole history of processes: one log and one list of answers.
 use Rattle.std.specs.Prelude.{◌≡◌, ℕ, List, ◌++◌}
 use Rattle.std.specs.List.{AllByRecursion}
 use Rattle.network_answers.specs.Answers.{Answer, AreInOrder, IsAnswer, IsOfThisLog, IsRefused}
@@ -30,10 +30,11 @@ pub record Adds (ms : Monitors) (earlier later : List Step) (old_log log : List 
       → IsRefused (requests ms earlier) (requests ms later) (acknowledgements ms earlier) log a) answers
   pub made : AreMadeOnce ms.count (requests ms earlier) (requests ms later) old_log log
 
--- After each list of steps there are a log and a list of answers, and later steps only add to both. All maps and all
--- answers are of that log. Every datagram that went to a client is of one of these answers, and a client joins only
--- such. Each request makes at most one version, and is answered at most once. Each answer that doesn't serve a request
--- has its cause in a step.
+-- After each list of steps there are a log and a list of answers, and later steps only add to both. Each entry of the
+-- log was asked, all maps and all answers are of it, and it keeps what was acknowledged. Every datagram that went to a
+-- client is of one of these answers, and a client joins only such. Each request makes at most one version, and is
+-- answered at most once. Each answer that doesn't serve a request has its cause in a step. The log and the answers of
+-- earlier steps are those that the history has for them. So all logs of a history are prefixes of the last one.
 pub record HaveAnswers (ms : Monitors) : Type 0 where
   pub log : (steps : List Step) → AllMay ms steps → List (List ℕ)
   pub answers : (steps : List Step) → AllMay ms steps → List Answer

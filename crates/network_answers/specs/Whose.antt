@@ -15,6 +15,7 @@ use Rattle.network_answers.specs.Fates.{Requests}
 use Rattle.quorum_commands.specs.Unmade.{AcknowledgesNone}
 use Rattle.quorum_model.specs.Clients.{command_of, made_by}
 use Rattle.quorum_model.specs.World.{Asked}
+use Rattle.quorum_replies.specs.Kinds.{Deferring, Kind, Refusing, kind_of}
 use Rattle.quorum_replies.specs.Replies.{times_asked}
 
 -- At most one request of this session came to monitor i. A session is a client's number and an ID. A client brings that
@@ -34,18 +35,18 @@ pub record Makes (log : List (List ℕ)) (i : ℕ) (r : Request) (v : ℕ) : Typ
 abbrev pub IsCommanding : Request → Type 0
 IsCommanding r = (c : Command) × (command_of r ≡ Some c)
 
--- The reply of monitor i is one to this request. Each kind of reply is named, so that whoever adds one decides what is
--- promised of it.
+-- A reply of this kind, which shows and acknowledges nothing, may be one to this request. A refusal is to a command.
+abbrev pub MayBeTo : Kind → Request → Type 0
+MayBeTo Refusing r = IsCommanding r
+MayBeTo Deferring r = Unit {0}
+MayBeTo other r = ⊥
+
+-- the reply of monitor i is one to this request
 abbrev pub Answers : List (List ℕ) → (i : ℕ) → Request → Reply → Type 0
 Answers log i r (reply.Done v) = Makes log i r v
 Answers log i r (reply.Shown s paxos version map) = (r ≡ request.Show s) ⊎ ((v : ℕ) × (r ≡ request.Since s v))
 Answers log i r (reply.Since s from told more) = r ≡ request.Since s from
-Answers log i r reply.NoSuch = IsCommanding r
-Answers log i r (reply.TooLong len most) = IsCommanding r
-Answers log i r (reply.MapFull would_be) = IsCommanding r
-Answers log i r reply.Unavailable = Unit {0}
-Answers log i r (reply.NotReadable has lease) = Unit {0}
-Answers log i r (reply.Busy waiting) = Unit {0}
+Answers log i r other = MayBeTo (kind_of other) r
 
 -- The answer is to request k, the only one of its session that came to its monitor. If it isn't Done, no version of the
 -- log is of this request. `request` has the number of the request that each version is of.

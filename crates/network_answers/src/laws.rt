@@ -1,5 +1,5 @@
 ghost use Rattle.std.specs.List.{AllByRecursion};
-ghost use Rattle.std.specs.Prelude.{◌≡◌, ℕ, ◌≤◌, List, [], ◌++◌, Option, Some, Ok, Result};
+ghost use Rattle.std.specs.Prelude.{ℕ, ◌≤◌, List, [], ◌++◌, Option, Some, Ok, Result};
 ghost use Rattle.map_follower.specs.Copies.{first};
 ghost use Rattle.map_follower.specs.Following.{Holds};
 ghost use Rattle.map_follower.specs.Iterations.{Course, Follows, all_turned, course};
@@ -10,14 +10,23 @@ ghost use Rattle.mon_types.specs.declared.names.Stop.{Stop};
 ghost use Rattle.mon_wire.specs.declared.request.Service.{Service};
 ghost use Rattle.quorum_model.specs.Monitors.{Monitors};
 ghost use Rattle.quorum_network.specs.Network.{Step, network};
-ghost use Rattle.quorum_network.specs.Promises.{IsLogOf, Numbers};
+ghost use Rattle.quorum_network.specs.Promises.{AreAnswers, Numbers};
 ghost use Rattle.quorum_network.specs.Requests.{acknowledgements, requests};
+ghost use Rattle.network_answers.specs.Answers.{Answer, IsAnswer, IsOfThisLog};
 ghost use Rattle.network_answers.specs.History.{HaveAnswers};
 ghost use Rattle.network_answers.specs.Followers.{Reaches, Writes};
 
-/// For a whole history of a network there are one log and one list of answers, which only grow. Every datagram that
-/// went to a client is a piece of a REPLY with one of these answers, and a client that joins them joins such REPLYs.
-/// An answer's epoch is the one that its REPLY names.
+/// For a whole history of a network there are one log and one list of answers, which only grow.
+///
+/// Each entry of the log is the value of a command that a client asked. All maps are of the log, except those under a
+/// full synchronization. No version is acknowledged twice. Each active leader with a proposal number of at least that
+/// of an acknowledgement has its version.
+///
+/// Every datagram that went to a client is a piece of a REPLY with one of these answers, and the answer is of the log:
+/// what it shows is the log up to the last version that its process had, and was asked for; and the command that it says
+/// is done is in the log. A client that joins the pieces of long REPLYs joins whole ones, of which all this holds. It
+/// does so whichever pieces are lost, repeated or late, and whatever numbers monitors give the client. An answer's epoch
+/// is the one that its REPLY names.
 ///
 /// The acknowledged writes and the reads of one epoch are linearizable, whichever processes answer: what was
 /// acknowledged or shown by some point in time comes no later in the log than what is acknowledged or shown after it.
@@ -40,20 +49,23 @@ pub fn law_answers()
     ensures { (ms : Monitors) → HaveAnswers ms }
 {}
 
-/// A client that follows the monitors of a network holds maps of the log. Let each datagram that its link returned from
-/// a monitor be one that this monitor sent to this client, at any time and any number of times. Then its copy is the
-/// map that the log gives the service at the copy's version, after each iteration and at the end. The copy in each line
-/// that it wrote is such a map too. The version never decreases, and it increases from line to line. If the link's
-/// ghost state lists what it will return, it is enough that the premise holds of that list.
+/// A client that follows the monitors of a network holds maps of the log. Let all that monitors sent to clients be of
+/// answers that are the log's, as `law_answers` says. Let each datagram that its link returned from a monitor be one that
+/// this monitor sent to this client, at any time and any number of times. Then its copy is the map that the log gives the
+/// service at the copy's version, after each iteration and at the end. The copy in each line that it wrote is such a map
+/// too. The version never decreases, and it increases from line to line. If the link's ghost state lists what it will
+/// return, it is enough that the premise holds of that list.
 pub fn law_followers()
-    ensures holds { (ms : Monitors) (steps : List Step) (log : List (List ℕ))
-        → IsLogOf ms (requests ms steps) (acknowledgements ms steps) (network ms steps) log
+    ensures holds { (ms : Monitors) (steps : List Step) (log : List (List ℕ)) (answers : List Answer)
+        → AllByRecursion (IsOfThisLog (requests ms steps) (acknowledgements ms steps) log) answers
+        → AreAnswers (IsAnswer ms.count answers) (network ms steps).sent
         → (numbers : Numbers) (turns asks : ℕ) (s : Service) (link : Option Observed) (written : Option (List ℕ))
         → (new : Course) (e : FollowEnd)
         → (F : Follows ms.count turns (course (first s) [] asks link written) new e)
         → AllByRecursion (Reaches (network ms steps).sent numbers) F.given → Holds s log new.follower }
-    ensures copies { (ms : Monitors) (steps : List Step) (log : List (List ℕ))
-        → IsLogOf ms (requests ms steps) (acknowledgements ms steps) (network ms steps) log
+    ensures copies { (ms : Monitors) (steps : List Step) (log : List (List ℕ)) (answers : List Answer)
+        → AllByRecursion (IsOfThisLog (requests ms steps) (acknowledgements ms steps) log) answers
+        → AreAnswers (IsAnswer ms.count answers) (network ms steps).sent
         → (numbers : Numbers) (asks : ℕ) (s : Service) (link : Option Observed) (written : Option (List ℕ))
         → (given : List (Result Got Stop))
         → AllByRecursion (Reaches (network ms steps).sent numbers) given

@@ -11,7 +11,6 @@ pub mod Events
 pub mod Facts
 pub mod Going
 pub mod Heeded
-pub mod History
 pub mod Inputs
 pub mod Invariant
 pub mod Joined

@@ -1,89 +1,24 @@
--- What processes promise: there is one log that only grows, and all maps and all answers on the wire are of it.
-use Rattle.std.specs.Prelude.{◌≡◌, ◌⊎◌, ℕ, ◌<◌, ◌≤◌, max, Bool, true, List, [], ◌++◌, length, Some}
+-- What processes promise of their maps and of who leads, and how what they send reaches clients.
+use Rattle.std.specs.Prelude.{◌≡◌, ℕ, ◌<◌, ◌≤◌, max, Bool, true, List, [], length}
 use Rattle.std.specs.List.{AllByRecursion, Contains}
 use Rattle.mon_frag.specs.Whole.{FromPeer, answered}
 use Rattle.mon_kv.specs.Readers.{is_marked}
 use Rattle.mon_link.specs.declared.link.Peer.{Peer}
 use Rattle.mon_link.specs.declared.link.Peer.TheVariants.{Monitor, Client}
-use Rattle.mon_msg.specs.Fold.{entry, incrementals, map_of_log, put_in, version_of_log}
 use Rattle.mon_msg.specs.Protocol.Readings.{epoch_of, readings_of}
 use Rattle.mon_node.specs.Nodes.{Serving}
-use Rattle.mon_tx.specs.Decode.{ops_in}
 use Rattle.mon_tx.specs.Keys.{cell, number, shared}
 use Rattle.mon_tx.specs.Map.{Store}
 use Rattle.mon_tx.specs.declared.key.Area.TheVariants as area
 use Rattle.mon_tx.specs.declared.key.Key.TheVariants as key
-use Rattle.mon_wire.specs.Message.Whole.{HasText, text}
-use Rattle.mon_wire.specs.declared.reply.Reply.{Reply}
-use Rattle.mon_wire.specs.declared.reply.Reply.TheVariants as reply
-use Rattle.mon_wire.specs.declared.request.Request.{Request}
-use Rattle.mon_wire.specs.declared.request.Request.TheVariants as request
-use Rattle.mon_wire.specs.declared.request.Session.{Session}
 use Rattle.quorum_model.specs.Agree.{Agrees, IsAsked}
-use Rattle.quorum_model.specs.Clients.{made_by}
 use Rattle.quorum_model.specs.Growth.{last_of}
 use Rattle.quorum_model.specs.Happens.{is_active}
 use Rattle.quorum_model.specs.Kept.{AcknowledgedOnce, IsKept}
 use Rattle.quorum_model.specs.Monitors.{Monitors}
-use Rattle.quorum_model.specs.Shown.{AreAfter}
 use Rattle.quorum_model.specs.World.{Acknowledgement, Asked}
-use Rattle.quorum_network.specs.Network.{Network, Posted, Up, Step, map_of, network, state_of}
-use Rattle.quorum_network.specs.Requests.{requests, acknowledgements}
-use Rattle.quorum_network.specs.Running.{IsPiece, reply_message}
-
--- ---- what a client learns
-
--- a client asked this of monitor i in a session
-abbrev pub Requested : List Asked → ℕ → Session → Request → Type 0
-Requested requests i session r = Contains requests (record { rank = i; session = session; request = r })
-
--- Version v was acknowledged, and it has in the log what was acknowledged, which a command of this session makes.
-pub record IsDone (requests : List Asked) (acks : List Acknowledgement) (log : List (List ℕ)) (i : ℕ) (session : Session)
-    (v : ℕ) : Type 0 where
-  pub acknowledgement : Acknowledgement
-  pub among : Contains acks acknowledgement
-  pub version : acknowledgement.version ≡ v
-  pub some : 1 ≤ v
-  pub within : v ≤ length log
-  pub request : Request
-  pub requested : Requested requests i session request
-  pub made : made_by i request ≡ Some (acknowledgement.service, acknowledgement.incremental)
-  pub put : Contains (put_in acknowledgement.service (ops_in (entry log v))) acknowledgement.incremental
-
--- version v is no older than those that were acknowledged before in this epoch
-abbrev pub IsNoOlder : List Acknowledgement → (epoch : ℕ) → (v : ℕ) → Type 0
-IsNoOlder before epoch v = AllByRecursion (λ (a : Acknowledgement). a.epoch ≡ epoch → a.version ≤ v) before
-
--- A reply of monitor i in a session is the log's, and was asked for. It is a map up to a version, the changes after
--- one, or the version that a command is in. A map and changes are of a log that has what was acknowledged before in
--- their epoch. Each kind of reply is named, so that whoever adds one decides what is promised of it.
-abbrev pub IsOfLog : List Asked → (acks before : List Acknowledgement) → List (List ℕ) → (i epoch : ℕ) → Session
-    → Reply → Type 0
-IsOfLog requests acks before log i epoch session (reply.Shown s paxos version map) =
-    (paxos ≤ length log) × (map ≡ map_of_log s log paxos) × (version ≡ version_of_log s log paxos)
-    × (Requested requests i session (request.Show s) ⊎ ((v : ℕ) × Requested requests i session (request.Since s v)))
-    × IsNoOlder before epoch paxos
-IsOfLog requests acks before log i epoch session (reply.Since s from told more) =
-    (v : ℕ) × (v ≤ length log) × AreAfter (incrementals s log v) from told more
-    × Requested requests i session (request.Since s from) × IsNoOlder before epoch v
-IsOfLog requests acks before log i epoch session (reply.Done v) = IsDone requests acks log i session v
-IsOfLog requests acks before log i epoch session reply.NoSuch = Unit {0}
-IsOfLog requests acks before log i epoch session (reply.TooLong len most) = Unit {0}
-IsOfLog requests acks before log i epoch session (reply.MapFull would_be) = Unit {0}
-IsOfLog requests acks before log i epoch session reply.Unavailable = Unit {0}
-IsOfLog requests acks before log i epoch session (reply.NotReadable has lease) = Unit {0}
-IsOfLog requests acks before log i epoch session (reply.Busy waiting) = Unit {0}
-
--- Bytes are a REPLY of monitor i of n, in a session of client c, and the reply is the log's.
-pub record IsReply (n : ℕ) (requests : List Asked) (acks before : List Acknowledgement) (log : List (List ℕ))
-    (i c : ℕ) (bytes : List ℕ) : Type 0 where
-  pub session : Session
-  pub epoch : ℕ
-  pub reply : Reply
-  pub client : session.client ≡ c
-  pub has_text : HasText (reply_message n i epoch session reply)
-  pub is_text : bytes ≡ text (reply_message n i epoch session reply)
-  pub of_log : IsOfLog requests acks before log i epoch session reply
+use Rattle.quorum_network.specs.Network.{Network, Posted, Up, map_of, state_of}
+use Rattle.quorum_network.specs.Running.{IsPiece}
 
 -- ---- what goes to a client, and what it joins
 
@@ -124,27 +59,14 @@ abbrev pub IsKeptBy : ℕ → Network → List (List ℕ) → Acknowledgement �
 IsKeptBy n net log a = IsKept n log (λ i. state_of (net.process i)) (λ i. map_of (net.process i)) a
 
 -- Each entry of the log is the value of a command that a client asked, over the entries before it. All maps are the
--- log's, except those under a full synchronization. So are all answers that were ever on the wire, and all that was
--- acknowledged is kept.
+-- log's, except those under a full synchronization. All that was acknowledged is kept, and no version is acknowledged
+-- twice.
 pub record IsLogOf (ms : Monitors) (requests : List Asked) (acks : List Acknowledgement) (net : Network)
     (log : List (List ℕ)) : Type 0 where
   pub values : (v : ℕ) → v < length log → IsAsked ms.count requests log v
   pub maps : (i : ℕ) → i < ms.count → ¬ (is_marked (map_of (net.process i)) ≡ true) → Agrees log (map_of (net.process i))
-  pub answers : AreAnswers (IsReply ms.count requests acks [] log) net.sent
   pub kept : AllByRecursion (IsKeptBy ms.count net log) acks
   pub once : AcknowledgedOnce (λ (a : Acknowledgement). a.version) acks
-
--- After these steps there is a log, and after later ones the same log, perhaps longer. What is answered in the later
--- ones is of a log that has what was acknowledged in the earlier ones.
-pub record HaveOneLog (ms : Monitors) (earlier later : List Step) : Type 0 where
-  pub log : List (List ℕ)
-  pub more : List (List ℕ)
-  pub before : IsLogOf ms (requests ms earlier) (acknowledgements ms earlier) (network ms earlier) log
-  pub after : IsLogOf ms (requests ms later) (acknowledgements ms later) (network ms later) (log ++ more)
-  pub sent : List Posted
-  pub wire : (network ms later).sent ≡ (network ms earlier).sent ++ sent
-  pub fenced : AreAnswers
-      (IsReply ms.count (requests ms later) (acknowledgements ms later) (acknowledgements ms earlier) (log ++ more)) sent
 
 -- ---- two maps
 

@@ -34,10 +34,9 @@ ghost use Rattle.mon_wire.specs.declared.phase.Timer.{Timer};
 ghost use Rattle.quorum_model.specs.Monitors.{Monitors, me_of};
 ghost use Rattle.quorum_network.specs.AnyDisk.{AllMayAnyhow, AreNamed, ClientsJoinWhole, JoinsWhole, mailed};
 ghost use Rattle.quorum_network.specs.EachIteration.{IsAskedInTime, IsKeptFirst, IsOfReaction, Takes};
-ghost use Rattle.quorum_network.specs.History.{HaveHistory};
 ghost use Rattle.quorum_network.specs.Lives.{alone, life, own, sent_of, IsOutcomeOf, IsLife, IsLifeThatSends, LeavesKept, OpensWith};
 ghost use Rattle.quorum_network.specs.Network.{AllMay, Begins, IsAnswer, Kept, May, Network, Step, Until, Whole, outcome_of, map_of, network, under};
-ghost use Rattle.quorum_network.specs.Promises.{AgreeWith, HaveOneLog, Leads};
+ghost use Rattle.quorum_network.specs.Promises.{AgreeWith, Leads};
 ghost use Rattle.quorum_network.specs.Requests.{Leadership, leaderships, requests};
 ghost use Rattle.quorum_network.specs.Running.{DoesARun};
 ghost use Rattle.quorum_network.specs.Wire.{CameOver, IsOverWire};
@@ -55,25 +54,17 @@ pub fn law_network()
         → DoesARun ms (requests ms steps) (network ms steps) }
 {}
 
-/// At any two points in time of a network there is one log, which only grows. Each entry is the value of a command that
-/// a client asked. All maps are of the log, except those under a full synchronization. Every datagram that ever went to
-/// a client is a piece of a REPLY that is of the log: what it shows is the log up to a version, and was asked for, and
-/// the command that it says is done is in the log. A client that joins the pieces of long REPLYs joins whole ones, of
-/// which all this holds. It does so whichever pieces are lost, repeated or late, and whatever numbers monitors give the
-/// client.
-///
-/// No version is acknowledged twice. Each active leader with a proposal number of at least that of an acknowledgement
-/// has its version. What is shown after an acknowledgement, in its epoch, is of a log with its version.
-///
-/// Any two maps have the same bytes of each version that both keep, at any two points in time. No two processes ever
-/// lead in one epoch: those that are up and lead are among the leaders of all steps, and so are those that were killed
-/// in the iteration in which they began to lead.
-pub fn law_one_log()
-    ensures log { (ms : Monitors) (later earlier : List Step) → AllMay ms (later ++ earlier)
-        → HaveOneLog ms earlier (later ++ earlier) }
-    ensures maps { (ms : Monitors) (later earlier : List Step) → AllMay ms (later ++ earlier)
+/// Any two maps have the same bytes of each version that both keep, at any two points in time. If neither map is under a
+/// full synchronization, and both have the same last version, their shared keys have the same values.
+pub fn law_maps()
+    ensures { (ms : Monitors) (later earlier : List Step) → AllMay ms (later ++ earlier)
         → (i j : ℕ) → i < ms.count → j < ms.count
         → AgreeWith (map_of ((network ms earlier).process i)) (map_of ((network ms (later ++ earlier)).process j)) }
+{}
+
+/// No two processes ever lead in one epoch, at any two points in time. Those that are up and lead are among the leaders of
+/// all steps. So are those that were killed in the iteration in which they began to lead.
+pub fn law_leaders()
     ensures one_leads { (ms : Monitors) (steps : List Step) → AllMay ms steps
         → (a b : Leadership) → Contains (leaderships ms steps) a → Contains (leaderships ms steps) b
         → a.epoch ≡ b.epoch → a.rank ≡ b.rank }
@@ -83,12 +74,6 @@ pub fn law_one_log()
     ensures leaders { (ms : Monitors) (later earlier : List Step) → AllMay ms (later ++ earlier)
         → (i j e : ℕ) → i < ms.count → j < ms.count
         → Leads (network ms earlier) i e → Leads (network ms (later ++ earlier)) j e → i ≡ j }
-{}
-
-/// There is one log for a whole history of a network, which only grows: after each list of steps all maps and all answers
-/// are of its log, as `law_one_log` says, and after later steps it begins with the log from before them.
-pub fn law_history()
-    ensures { (ms : Monitors) → HaveHistory ms }
 {}
 
 /// What crosses the wire is what a network's steps allow. A link that names the quorum hands on what a step may be

@@ -5,6 +5,6 @@
 mod laws;
 
 pub use laws::{
-    law_any_disk, law_history, law_iterations, law_lives, law_network, law_one_log, law_opening,
+    law_any_disk, law_iterations, law_leaders, law_lives, law_maps, law_network, law_opening,
     law_wire,
 };

@@ -7,7 +7,6 @@ ghost use Rattle.mon_resend.specs.Copied.{IsOneOf};
 ghost use Rattle.quorum_model.specs.Monitors.{Monitors, me_of};
 ghost use Rattle.quorum_network.specs.Lives.{alone, own};
 ghost use Rattle.quorum_network.specs.Network.{AllMay, Step, network, posted, under};
-ghost use Rattle.quorum_network.specs.Promises.{HaveOneLog};
 ghost use Rattle.quorum_network.specs.Requests.{requests};
 ghost use Rattle.quorum_network.specs.Running.{DoesARun};
 ghost use Rattle.quorum_sockets.specs.Sockets.{AllMayOver};
@@ -15,8 +14,8 @@ ghost use Rattle.quorum_sockets.specs.Sockets.{AllMayOver};
 /// The laws of a network hold of processes over sockets. Let a monitor's links be between each node and its socket, and
 /// let nodes send what a network's steps send. Let what comes over a socket from the address of a monitor have gone out of
 /// a socket of that monitor, in any of its lives, any number of times and at any later time; or be bytes without the frame
-/// of the quorum's tag. Then the steps are those that a network may make: `law_network`, `law_one_log`, `law_history` and
-/// `law_answers` hold of them.
+/// of the quorum's tag. Then the steps are those that a network may make: `law_network` and `law_answers` hold of them, and
+/// the other laws of processes.
 ///
 /// `law_stack` says that a monitor's links are so. What a node's link was asked to send is in the network, if the steps of
 /// its life send it: `law_lives` says that they do, while the life goes on and when it ends.
@@ -29,6 +28,4 @@ pub fn law_sockets()
         → AllMay ms steps }
     ensures runs { (tag : ℕ) → tag < 2 ^ 64 → (ms : Monitors) (steps : List Step) → AllMayOver tag ms steps
         → DoesARun ms (requests ms steps) (network ms steps) }
-    ensures log { (tag : ℕ) → tag < 2 ^ 64 → (ms : Monitors) (later earlier : List Step)
-        → AllMayOver tag ms (later ++ earlier) → HaveOneLog ms earlier (later ++ earlier) }
 {}

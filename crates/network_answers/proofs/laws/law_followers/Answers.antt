@@ -5,8 +5,8 @@ use Rattle.quorum_network.specs.Requests.{acknowledgements, requests}
 
 pub returns : goal.returns
 returns c = record {
-  holds = λ ms steps log L client turns asks s link written new e F reach. end_holds ms.count (requests ms steps) (acknowledgements ms steps) log (network ms steps).sent L.answers client s written asks link turns new e F reach;
-  copies = λ ms steps log L client asks s link written given reach. so_far ms.count (requests ms steps) (acknowledgements ms steps) log (network ms steps).sent L.answers client s written asks link given reach;
+  holds = λ ms steps log answers O A client turns asks s link written new e F reach. end_holds ms.count (requests ms steps) (acknowledgements ms steps) log (network ms steps).sent answers O A client s written asks link turns new e F reach;
+  copies = λ ms steps log answers O A client asks s link written given reach. so_far ms.count (requests ms steps) (acknowledgements ms steps) log (network ms steps).sent answers O A client s written asks link given reach;
   rises = rises;
   shown = λ ms steps client turns asks s link written new e fine F. all_reach (network ms steps).sent client ms.count turns asks s link written new e fine F;
 }

@@ -1,5 +1,3 @@
-use Rattle.std.proofs.Common.{◌++◌}
-use Rattle.quorum_network.proofs.Promised.{one_log}
 use Rattle.quorum_network.proofs.Whole.{network_runs}
 use Rattle.quorum_sockets.proofs.Over.{all_may}
 use Rattle.quorum_sockets.proofs.Posts.{has_posted}
@@ -10,5 +8,4 @@ returns c = record {
   posts = has_posted;
   may = λ tag lt ms steps over. all_may tag lt ms steps over;
   runs = λ tag lt ms steps over. network_runs ms steps (all_may tag lt ms steps over);
-  log = λ tag lt ms later earlier over. one_log ms later earlier (all_may tag lt ms (later ++ earlier) over);
 }
