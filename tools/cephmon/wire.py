@@ -25,6 +25,7 @@ MOST_PARTIAL = 16
 FRAME, HELLO, HELLO_ANSWER = 3, 4, 6
 FRAME_HEADER = 9
 MOST_QUORUM_NAME, MOST_VERSION, MOST_MONITORS = 255, 32, 15
+LENGTH = struct.Struct('<I')
 RULES = ['classic', 'disallow', 'connectivity']
 RULES_BY_CODE = dict(enumerate(RULES))
 
@@ -251,11 +252,30 @@ def log_entry(reader: Reader) -> list[Any]:
     return [reader.unsigned(1), reader.text()]
 
 
+def keys_of(octets: bytes) -> dict[str, str]:
+    """The map of `kv` from its bytes. A long map has thousands of fields, so they are read here and not by a Reader, which takes three times as long."""
+    found, at = {}, 4
+    try:
+        for _ in range(int.from_bytes(octets[:at], 'little')):
+            key = at + 1 + octets[at]
+            value = key + 4 + LENGTH.unpack_from(octets, key)[0]
+            found[octets[at + 1:key].decode('ascii')] = octets[key + 4:value].decode('utf-8')
+            at = value
+    except (IndexError, struct.error):
+        raise Malformed(f'cut after {at}') from None
+    except UnicodeDecodeError:
+        raise Malformed(f'no text after {at}') from None
+    if at != len(octets):
+        raise Malformed(f'{len(octets)} bytes, and not {at}')
+    return found
+
+
 def map_of(service: str, octets: bytes) -> dict[str, str] | list[Any]:
     """A map from its bytes: of `kv` a dictionary, of `log` the list of its entries, the oldest first."""
+    if service == 'kv':
+        return keys_of(octets)
     reader = Reader(octets)
-    entries = range(reader.unsigned(4))
-    found: dict[str, str] | list[Any] = {reader.key(): reader.text() for _ in entries} if service == 'kv' else [log_entry(reader) for _ in entries]
+    found = [log_entry(reader) for _ in range(reader.unsigned(4))]
     reader.end()
     return found
 
