@@ -116,6 +116,16 @@ class Cephmon(System):
             process.wait()
 
 
+def older(build: str) -> type[Cephmon]:
+    """Monitors of another build."""
+    class Before(Cephmon):
+        name = 'before'
+
+        def __init__(self, folders: list[str], _: str):
+            super().__init__(folders, build)
+    return Before
+
+
 class Daemons(System):
     """Members that are processes of another system."""
 
