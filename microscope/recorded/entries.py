@@ -4,7 +4,8 @@ from __future__ import annotations
 import struct
 from typing import Iterator, NamedTuple
 
-MAGIC = b'CEPHREC1'
+FAMILY, VERSION = b'CEPHREC', b'1'
+MAGIC = FAMILY + VERSION
 HEAD = struct.Struct('<BBIQI')
 BEGINNING = struct.Struct('<8sBBBHQQQQ')
 READ, CAME, IDLE, CLOSED, DEAF, FULL, SENT, LOST, UNSENT, GAP, END, BEGIN, DISK = range(1, 14)
@@ -77,12 +78,20 @@ def next_beginning(octets: bytes, at: int) -> int:
     return len(octets)
 
 
+def other_version(octets: bytes) -> str | None:
+    """The version of a record that this module doesn't read, or None if the bytes don't begin like one."""
+    family = octets[HEAD.size:HEAD.size + len(FAMILY)]
+    version = octets[HEAD.size + len(FAMILY):HEAD.size + len(MAGIC)]
+    return version.decode('latin-1') if octets[:1] == bytes([BEGIN]) and family == FAMILY and version != VERSION else None
+
+
 def entry_at(octets: bytes, at: int, end: int) -> Entry | None:
-    """The entry at an offset, or None if it isn't whole before the end."""
+    """The entry at an offset, or None if it isn't whole before the end, or has no such form."""
     if at + HEAD.size > end:
         return None
     kind, party, who, number, length = HEAD.unpack_from(octets, at)
-    if not READ <= kind <= DISK or party > 2 or at + HEAD.size + length > end:
+    has_peer = kind == CAME or kind in ASKED
+    if not READ <= kind <= DISK or (party not in PARTIES if has_peer else party > 2) or at + HEAD.size + length > end:
         return None
     return Entry(kind, party, who, number, octets[at + HEAD.size:at + HEAD.size + length], at)
 

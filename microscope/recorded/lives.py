@@ -153,9 +153,26 @@ def life_of(parts: list[Segment]) -> Life:
     return Life(begin, parts[0].disks, steps, reading.status, lack or reading.lack, any(part.is_cut for part in parts))
 
 
-def lives(found: list[Segment]) -> list[Life]:
-    """The lives of one monitor, oldest first."""
+def follows(part: Segment, other: Segment) -> bool:
+    """Whether a segment is the one after another, in the next file of the same life."""
+    return part.begin.life == other.begin.life and part.begin.part == other.begin.part + 1
+
+
+def in_order(files: list[list[Segment]]) -> list[Segment]:
+    """The segments of one monitor's files. Those of a file are in its order. A file goes before the one that its last life goes on in; otherwise the times of
+    day decide."""
+    left, found = sorted(files, key=lambda it: it[0].begin.time), []
+    while left:
+        at = next((at for at, file in enumerate(left) if not any(follows(file[0], other[-1]) for other in left)), 0)
+        found += left.pop(at)
+        while (at := next((at for at, file in enumerate(left) if follows(file[0], found[-1])), None)) is not None:
+            found += left.pop(at)
+    return found
+
+
+def lives(files: list[list[Segment]]) -> list[Life]:
+    """The lives of the monitor whose files these are, oldest first."""
     by_life: dict[int, list[Segment]] = {}
-    for segment in sorted(found, key=lambda it: (it.begin.time, it.begin.part)):
+    for segment in in_order(files):
         by_life.setdefault(segment.begin.life, []).append(segment)
     return [life_of(parts) for parts in by_life.values()]

@@ -1,9 +1,10 @@
 """Reads the records of a quorum's monitors, and says what became of them."""
 from __future__ import annotations
 
+import os
 from typing import Iterator
 
-from recorded.entries import Segment, segments
+from recorded.entries import VERSION, Segment, other_version, segments
 from recorded.lives import Life, lives
 from recorded.merging import Merge
 
@@ -12,26 +13,31 @@ class Faulty(Exception):
     """The records can't be merged, for this reason."""
 
 
-def segments_in(paths: list[str]) -> list[Segment]:
-    """The segments of these files. Raises Faulty if one is no record."""
-    found = []
-    for path in paths:
-        with open(path, 'rb') as file:
-            parts = list(segments(path, file.read()))
-        if not parts:
-            raise Faulty(f'{path} is no record')
-        found += parts
+def segments_in(path: str) -> list[Segment]:
+    """The segments of a file. Raises Faulty if it is no record."""
+    with open(path, 'rb') as file:
+        octets = file.read()
+    if version := other_version(octets):
+        raise Faulty(f'{path} is a record of version {version!r}, and this microscope reads version {VERSION.decode()}')
+    found = list(segments(path, octets))
+    if not found:
+        raise Faulty(f'{path} is no record')
     return found
+
+
+def of_rank(file: list[Segment], rank: int) -> list[Segment]:
+    return [part for part in file if part.begin.rank == rank]
 
 
 def lives_in(paths: list[str]) -> dict[int, list[Life]]:
     """The lives of each monitor, by rank. Raises Faulty if the files aren't records of one quorum."""
-    found = segments_in(paths)
+    files = [segments_in(path) for path in dict.fromkeys(map(os.path.realpath, paths))]
+    found = [part for file in files for part in file]
     if len({(part.begin.tag, part.begin.monitors, part.begin.rule) for part in found}) > 1:
         tags = sorted({f'{part.path} of {part.begin.tag:016x}' for part in found})
         raise Faulty(f'the records are of different quorums: {", ".join(tags)}')
     ranks = sorted({part.begin.rank for part in found})
-    return {rank: lives([part for part in found if part.begin.rank == rank]) for rank in ranks}
+    return {rank: lives([of_rank(file, rank) for file in files if of_rank(file, rank)]) for rank in ranks}
 
 
 def said_of(merge: Merge) -> Iterator[str]:
