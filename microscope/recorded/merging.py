@@ -76,6 +76,11 @@ class Monitor:
         life = self.lives[self.life]
         return life.begin.time - self.began + step.time - life.steps[0].time
 
+    def end(self) -> int | None:
+        """The time before which this life ended, if another one follows."""
+        following = self.following()
+        return following.begin.time - self.began if following else None
+
     def following(self) -> Life | None:
         """The life after this one."""
         return self.lives[self.life + 1] if self.life + 1 < len(self.lives) else None
@@ -179,13 +184,18 @@ class Merge:
                 if not self.fires(monitor):
                     return
 
-    def fires(self, monitor: Monitor) -> bool:
-        """Fires the next timer, if something shows that it fired. Returns whether it did."""
-        state, following = self.play.state(monitor.rank), monitor.following()
+    def due(self, rank: int) -> tuple[str, int] | None:
+        """The name and the time of the timer of a monitor that is due next, if one is."""
+        state = self.play.state(rank)
         due = fn('mon_msg.specs.Protocol.Timers', 'due')(state.timers) if state else None
-        if not due or not due.args:
+        return (NAMES[due.args[0][0].name], due.args[0][1]) if due and due.args else None
+
+    def fires(self, monitor: Monitor) -> bool:
+        """Fires the next timer, if something shows that it fired. Returns whether it did. No timer fires after the next life began."""
+        following, due, end = monitor.following(), self.due(monitor.rank), monitor.end()
+        if due is None or end is not None and due[1] > end:
             return False
-        line = f'timer {monitor.rank} {NAMES[due.args[0][0].name]} {due.args[0][1]}'
+        line = f'timer {monitor.rank} {due[0]} {due[1]}'
         tried, before, kept = self.play.copy(), self.store(monitor.rank), map_on(following.disks) if following else None
         if not tried.take(line):
             return False
@@ -264,12 +274,11 @@ class Merge:
             return None
 
     def timer_line(self, rank: int, time: int) -> str | None:
-        state = self.play.state(rank)
-        due = fn('mon_msg.specs.Protocol.Timers', 'due')(state.timers) if state else None
-        if not due or not due.args or due.args[0][1] > time:
+        due = self.due(rank)
+        if due is None or due[1] > time:
             self.differs(rank, f'a timer fired at {time}, and the schedule has none that is due')
             return None
-        return f'timer {rank} {NAMES[due.args[0][0].name]} {time}'
+        return f'timer {rank} {due[0]} {time}'
 
     def event(self, line: str) -> None:
         """Adds an event, and plays it."""
@@ -303,8 +312,6 @@ class Merge:
             self.compared += len(step.sent)
             return
         self.differs(rank, f'it sent {shown(step.sent)}, and the schedule sends {shown(wanted)} ({step.at} in its record)')
-
-
 
 
 def shown(sent: list[Message]) -> str:
