@@ -8,11 +8,12 @@ It is an INI file with one section, `quorum`:
     addresses = 10.0.0.1:4000, 10.0.0.2:4000, 10.0.0.3:4000
     folder = /var/lib/cephmon/{rank}
     program = /usr/local/lib/cephmon/cephmon
+    record = /var/lib/cephmon/{rank}/record
 
 or a JSON object with the same names, in which `addresses` may be a list. `name` is the quorum's: monitors of quorums with different names don't
 hear each other, whatever their addresses. `addresses` are those of all monitors in order of rank. `rule` is `classic` if it isn't given. `folder` holds
-the files `a` and `b` of a monitor's store. `{rank}` in it is replaced by the monitor's rank. If there is no `{rank}`, the monitors must be on different
-machines. `folder` and `program` are for the tools that start a monitor or read its store.
+the files `a` and `b` of a monitor's store. If `record` is given, a monitor records there what it is given. `{rank}` in both is replaced by the monitor's rank.
+If there is no `{rank}`, the monitors must be on different machines. `folder`, `program` and `record` are for the tools that start a monitor or read its store.
 """
 from __future__ import annotations
 
@@ -29,9 +30,11 @@ from cephmon.wire import MOST_MONITORS, MOST_QUORUM_NAME
 MOST_ARGUMENT = 4_096
 # The file that is taken if none is named: that of an installed quorum, unless this variable of the environment names another one.
 CONFIG, INSTALLED = 'CEPHMON_CONFIG', '/etc/cephmon/quorum.ini'
-NAMES = ['addresses', 'name', 'rule', 'folder', 'program']
+NAMES = ['addresses', 'name', 'rule', 'folder', 'program', 'record']
 # The environment variable from which the program takes the name of its quorum. Without it the name is empty.
 VARIABLE = 'CEPHMON_QUORUM'
+# The one from which it takes the name of its record. Without it nothing is recorded.
+RECORD = 'CEPHMON_RECORD'
 RULE = re.compile(r'(classic|connectivity)|(disallow|connectivity)=(.*)')
 
 
@@ -50,6 +53,7 @@ class QuorumFile(NamedTuple):
     rule: str
     folder: str | None
     program: str | None
+    record: str | None
 
     def listed(self) -> str:
         """The addresses as the program takes them."""
@@ -171,4 +175,4 @@ def read(path: str) -> QuorumFile:
         faults += [fault for fault in [fault_of_rule(rule, len(addresses))] if fault]
     if faults:
         raise Faulty(faults)
-    return QuorumFile(addresses, quorum, rule, found.get('folder'), found.get('program'))
+    return QuorumFile(addresses, quorum, rule, *(found.get(name) for name in ('folder', 'program', 'record')))
