@@ -1,2 +1,4 @@
+pub mod Known
 pub mod Over
 pub mod Posts
+pub mod Watches

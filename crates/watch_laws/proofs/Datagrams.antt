@@ -47,16 +47,16 @@ use Rattle.watch_laws.proofs.Runs.{watch_is_so}
 
 -- ---- what is said of a monitor
 
-record ShowsSame (a b : Seen) : Type 0 where
+pub record ShowsSame (a b : Seen) : Type 0 where
   phase : a.phase ≡ b.phase
   epoch : a.epoch ≡ b.epoch
   leader : a.leader ≡ b.leader
   source : a.source ≡ b.source
 
-same_of : (s : Seen) → ShowsSame s s
+pub same_of : (s : Seen) → ShowsSame s s
 same_of s = record { phase = refl; epoch = refl; leader = refl; source = refl }
 
-is_so : (own : ℕ) (a b : Seen) (e : ℕ) (s : State) → ShowsSame a b → IsSo own b e s → IsSo own a e s
+pub is_so : (own : ℕ) (a b : Seen) (e : ℕ) (s : State) → ShowsSame a b → IsSo own b e s → IsSo own a e s
 is_so own a b e s same (inl l) = inl (subst (λ p. lags p s.phase ≡ true) (sym same.phase) l)
 is_so own a b e s same (inr h) = inr (record {
   shows = subst (λ p. fits p s.phase ≡ true) (sym same.phase) h.shows;
@@ -76,15 +76,15 @@ header_same own to (Some h) a b same = phase_same (shown h.kind)
     phase_same (Some p) = record { phase = refl; epoch = refl; leader = refl; source = ap (λ x. taken_from to p x) same.source }
 
 -- what is seen of a datagram, without what is noted of other monitors
-abbrev one : (own : ℕ) → Peer → List ℕ → Seen → Seen
+abbrev pub one : (own : ℕ) → Peer → List ℕ → Seen → Seen
 one own (Monitor to) bytes s = after_header own to (header_read (kind_named bytes) bytes) s
 one own (Client c) bytes s = s
 
-abbrev all : (own : ℕ) → List Outgoing → Seen → Seen
+abbrev pub all : (own : ℕ) → List Outgoing → Seen → Seen
 all own [] s = s
 all own (d ∷ ds) s = all own ds (one own d.to d.bytes s)
 
-goes_same : (own : ℕ) (to : Peer) (bytes : List ℕ) (n : Notes) (s : Seen) → ShowsSame n.seen s → ShowsSame (notes_sent own to bytes n).seen (one own to bytes s)
+pub goes_same : (own : ℕ) (to : Peer) (bytes : List ℕ) (n : Notes) (s : Seen) → ShowsSame n.seen s → ShowsSame (notes_sent own to bytes n).seen (one own to bytes s)
 goes_same own (Monitor to) bytes n s same =
     let h = header_same own to (header_read (kind_named bytes) bytes) n.seen s same in
     record { phase = h.phase; epoch = h.epoch; leader = h.leader; source = h.source }
@@ -94,7 +94,7 @@ heard_same : (from : ℕ) (h : Option Header) (s : Seen) → ShowsSame (after_he
 heard_same from None s = same_of s
 heard_same from (Some h) s = record { phase = refl; epoch = refl; leader = refl; source = refl }
 
-comes_same : (now : ℕ) (got : Got) (n : Notes) (s : Seen) → ShowsSame n.seen s → ShowsSame (notes_got now got n).seen s
+pub comes_same : (now : ℕ) (got : Got) (n : Notes) (s : Seen) → ShowsSame n.seen s → ShowsSame (notes_got now got n).seen s
 comes_same now (Datagram (Monitor from) bytes) n s same =
     let h = heard_same from (header_heard (kind_named bytes) bytes) n.seen in
     record { phase = h.phase ∙ same.phase; epoch = h.epoch ∙ same.epoch; leader = h.leader ∙ same.leader; source = h.source ∙ same.source }
@@ -220,7 +220,7 @@ clients_all : (own : ℕ) (these rest : List Outgoing) (s : Seen) → AllByRecur
 clients_all own [] rest s h = refl
 clients_all own (d ∷ these) rest s h = ap (λ to. all own (these ++ rest) (one own to d.bytes s)) h.0.1 ∙ clients_all own these rest s h.1
 
-sent_all : (own : ℕ) (out : List Sent) (ds : List Outgoing) (s : Seen) → AreOf out ds → all own ds s ≡ after_all own is_short out s
+pub sent_all : (own : ℕ) (out : List Sent) (ds : List Outgoing) (s : Seen) → AreOf out ds → all own ds s ≡ after_all own is_short out s
 sent_all own [] ds s h = ap (λ ds. all own ds s) h
 sent_all own (sent.Message to m ∷ out) ds s h =
     ap (λ ds. all own ds s) h.1.3 ∙ message_all own to m h.1.0 h.1.1 h.1.2 s h.0 ∙ sent_all own out h.1.2 (after_message own is_short to m s) h.1.4
@@ -268,7 +268,7 @@ module _ (i : ℕ) where
       by later (Ok next) = ap (λ s. seen_from i is_short ms next es s) (at_same e met out) ∙ later next
       by later (Err stop) = refl
 
-reads_short : ReadsShort is_short
+pub reads_short : ReadsShort is_short
 reads_short m e = subst (λ b. (not b || leb (length (text m)) 60000) ≡ true) (sym e) refl
 
 pub link_is_so : LinkIsSo

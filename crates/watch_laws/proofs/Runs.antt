@@ -67,7 +67,7 @@ module _ (me : Me) (is_read : Message → Bool) (strict : Bool) (z : Seen) (e : 
   pub no_source : (p : Phase) → same_phase p phase.Synchronizing ≡ false → TakenFrom p
   no_source p f t = absurd (false≢true (sym f ∙ t))
 
-  is_so : (p : Phase) → s.phase ≡ p → At_in p → IsSo me.member.rank z e s
+  pub is_so : (p : Phase) → s.phase ≡ p → At_in p → IsSo me.member.rank z e s
   is_so phase.Booting same k = inl (ap (lags z.phase) same)
   is_so phase.Probing same (inl b) = lagging phase.Probing phase.Booting same b refl
   is_so phase.Probing same (inr h) = inr (is_shown phase.Probing phase.Probing same h refl (no_source phase.Probing refl))
@@ -107,7 +107,7 @@ module _ (me : Me) (is_read : Message → Bool) (strict : Bool) (z : Seen) (e : 
 
 module _ (ms : Monitors) (several : ltb 1 ms.count ≡ true) (is_read : Message → Bool) (R : ReadsShort is_read) where
   -- what is seen of a monitor that is up
-  abbrev GoodAt : ℕ → World → Seen → Type 0
+  abbrev pub GoodAt : ℕ → World → Seen → Type 0
   GoodAt j w z = (s : State) → w.state j ≡ Some s → (lt : ltb j ms.count ≡ true) × At (member_of ms j lt) is_read false z (epoch_of (readings_of (w.store j))) s.phase s.leader.quorum s.peon.leader s.requester.provider
 
   module _ (w : World) (I : InvOf ms w) (j : ℕ) (z : Seen) (G : GoodAt j w z) where
@@ -191,7 +191,7 @@ module _ (ms : Monitors) (several : ltb 1 ms.count ≡ true) (is_read : Message 
 
   module _ (i : ℕ) (w : World) (I : InvOf ms w) (z : Seen) (G : GoodAt i w z) where
     -- what is seen of monitor i after the event is true in the next world
-    abbrev Follows : Event → Meeting → Type 0
+    abbrev pub Follows : Event → Meeting → Type 0
     Follows e met = IfOk (after_meeting w e met) (λ next. GoodAt i next (seen_at i is_read e met z))
 
     abbrev any_told : Envelope → Type 0
@@ -232,7 +232,7 @@ module _ (ms : Monitors) (several : ltb 1 ms.count ≡ true) (is_read : Message 
       crashes (Ok y) = unless_full (λ next. GoodAt i next z) (w.store A.rank) (kept_only w p A.rank) (reaction_of y) (goes_down_kept w I i z G p A.rank (reaction_of y))
       crashes (Err which) = tt
 
-    follows : (e : Event) → PlainFits ms.count (plain_of e) → Follows e (meets ms w (plain_of e))
+    pub follows : (e : Event) → PlainFits ms.count (plain_of e) → Follows e (meets ms w (plain_of e))
     follows (Arrives p) F = each_meeting ms w any_told I (Follows (Arrives p)) (all_told w.messages) p F
         (λ J up. record { down = not_moved w I i z G p; none = not_moved w I i z G p; reacts = λ A r is. comes p J A r is })
     follows (Crash p true) F = each_meeting ms w any_told I (Follows (Crash p true)) (all_told w.messages) p F
