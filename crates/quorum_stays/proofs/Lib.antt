@@ -4,6 +4,9 @@ pub mod Carrying
 pub mod Coming
 pub mod Committing
 pub mod Counting
+pub mod DownActs
+pub mod DownRows
+pub mod DownTable
 pub mod Forwarding
 pub mod Giving
 pub mod Growing
@@ -13,6 +16,7 @@ pub mod Leaving
 pub mod LeavingActs
 pub mod LeavingRows
 pub mod LeavingTable
+pub mod Moving
 pub mod Onward
 pub mod Outcomes
 pub mod Peering
@@ -28,6 +32,7 @@ pub mod Sharing
 pub mod States
 pub mod Staying
 pub mod Stepping
+pub mod SteppingDown
 pub mod Stores
 pub mod Taking
 pub mod Timers

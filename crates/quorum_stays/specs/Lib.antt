@@ -2,3 +2,4 @@ pub mod Leaving
 pub mod Reading
 pub mod Serving
 pub mod Steady
+pub mod SteppingDown

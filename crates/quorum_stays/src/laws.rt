@@ -1,6 +1,7 @@
-ghost use Rattle.std.specs.Prelude.{ℕ, ◌*◌, ◌+◌, ◌<◌, ◌≡◌, ◌≤◌, Bool, None, Some, true, List, Ok, ◌∷◌};
+ghost use Rattle.std.specs.Prelude.{ℕ, ◌*◌, ◌+◌, ◌<◌, ◌≡◌, ◌≤◌, Bool, IsSomeAnd, None, Some, [], false, true, List, Ok, ◌∷◌};
 ghost use Rattle.mon_msg.specs.Protocol.Readings.{readings_of};
 ghost use Rattle.mon_types.specs.Ranks.{has};
+ghost use Rattle.mon_wire.specs.declared.phase.Phase.TheVariants as phase;
 ghost use Rattle.mon_wire.specs.declared.request.Request.{Request};
 ghost use Rattle.mon_wire.specs.declared.request.Session.{Session};
 ghost use Rattle.quorum_model.specs.Happens.{happens};
@@ -11,6 +12,7 @@ ghost use Rattle.quorum_stays.specs.Reading.{ClocksGoOn, IsAnswered, LeasesStand
 ghost use Rattle.quorum_stays.specs.Serving.{Attends, Counts, IsServed, NothingWaits, Writes, answer_time};
 ghost use Rattle.std.specs.List.{AllByRecursion};
 ghost use Rattle.quorum_stays.specs.Steady.{Begun, Reign, Round, Steady};
+ghost use Rattle.quorum_stays.specs.SteppingDown.{BringsNone, EachIs, StepsDown};
 ghost use Rattle.quorum_timed.specs.Begins.{Begins, IsQuick};
 ghost use Rattle.quorum_timed.specs.Timed.{Leads, MayBe, Pace, Timed};
 
@@ -98,4 +100,27 @@ pub fn law_lost_leader_is_left()
     ensures { (ms : Monitors) (q : List Bool) (pace : Pace) (t last : Timed) (more : List (ℕ × Event)) → 1 < ms.count
         → ((i : ℕ) → has q i ≡ true → i < ms.count) → Begins ms q pace t → Leads ms q pace t more last
         → pace.since + 10000 + pace.late < last.time → FollowMembers q last.world }
+{}
+
+/// A leader that lost a monitor of its quorum steps down in time: at some time up to this bound it isn't active or
+/// updating, or its quorum lacks the monitor. The bound is 30 seconds after `since` whatever it does at first, and 23
+/// seconds if it is active. It is 13 seconds if no command waits at it and none comes to it. To each of them three
+/// latenesses of timers are added, or two in the last case. This holds of members in any state, whatever they send.
+pub fn law_leader_steps_down()
+    ensures serving { (ms : Monitors) (q : List Bool) (pace : Pace) (t last : Timed) (more : List (ℕ × Event)) (i m : ℕ)
+        → 1 < ms.count → ((i : ℕ) → has q i ≡ true → i < ms.count) → has q i ≡ true → has q m ≡ false → m < ms.count
+        → Begins ms q pace t → Leads ms q pace t more last → pace.since + 30000 + 3 * pace.late < last.time
+        → StepsDown ms q pace t more i m (pace.since + 30000 + 3 * pace.late) }
+    ensures active { (ms : Monitors) (q : List Bool) (pace : Pace) (t last : Timed) (more : List (ℕ × Event)) (i m : ℕ)
+        → 1 < ms.count → ((i : ℕ) → has q i ≡ true → i < ms.count) → has q i ≡ true → has q m ≡ false → m < ms.count
+        → Begins ms q pace t → Leads ms q pace t more last
+        → IsSomeAnd (t.world.state i) (λ s. s.phase ≡ phase.Active)
+        → pace.since + 23000 + 3 * pace.late < last.time
+        → StepsDown ms q pace t more i m (pace.since + 23000 + 3 * pace.late) }
+    ensures idle { (ms : Monitors) (q : List Bool) (pace : Pace) (t last : Timed) (more : List (ℕ × Event)) (i m : ℕ)
+        → 1 < ms.count → ((i : ℕ) → has q i ≡ true → i < ms.count) → has q i ≡ true → has q m ≡ false → m < ms.count
+        → Begins ms q pace t → (run : Leads ms q pace t more last)
+        → IsSomeAnd (t.world.state i) (λ s. (s.phase ≡ phase.Active) × (s.clients.queue ≡ []))
+        → EachIs ms q pace (BringsNone i) t more last run → pace.since + 13000 + 2 * pace.late < last.time
+        → StepsDown ms q pace t more i m (pace.since + 13000 + 2 * pace.late) }
 {}
