@@ -1,4 +1,6 @@
 -- The acts of a leader that lost a monitor of its quorum: it awaits that monitor's answer, or it doesn't serve with it any more.
+use Rattle.mon_lease.specs.Lease.{extended}
+use Rattle.mon_lease.specs.declared.lease.TheConstants.{LENGTH}
 use Rattle.mon_msg.specs.Protocol.Changes.{Epoch}
 use Rattle.mon_msg.specs.Protocol.Collecting.{begin_found, collect, collect_with, reign, settle}
 use Rattle.mon_msg.specs.Protocol.Course.{Course, change}
@@ -49,6 +51,8 @@ pub record Terms : Type 0 where
   pub third : ℕ
   pub late : ℕ
   pub acknowledged : first + late + 10000 ≤ second
+  pub shown : ℕ
+  pub leased : second + late + 5000 ≤ shown
 
 -- a later value may be begun
 abbrev pub MayBegin : Terms → Type 0
@@ -58,6 +62,10 @@ MayBegin b = b.second + b.late + 10000 ≤ b.third
 abbrev pub EndsBy : Timer → Timers → ℕ → Type 0
 EndsBy t ts u = (end : ℕ) → end_of t ts ≡ Some end → end ≤ u
 
+-- its lease ends by then, if it has one
+abbrev pub LeaseBy : Leader → ℕ → Type 0
+LeaseBy l u = (end : ℕ) → l.lease ≡ Some end → end ≤ u
+
 pub data Awaits (b : Terms) (now : ℕ) (p : Phase) (l : Leader) (ts : Timers) : Type 0 where
   -- it hasn't renewed the leases since
   renewing : p ≡ phase.Active → now ≤ b.first + b.late → EndsBy timer.Renew ts b.first → EndsBy timer.LeaseAck ts b.second → Awaits b now p l ts
@@ -66,12 +74,13 @@ pub data Awaits (b : Terms) (now : ℕ) (p : Phase) (l : Leader) (ts : Timers) :
   accepting : p ≡ phase.Updating → now ≤ b.first + b.late → EndsBy timer.Accept ts b.first → Awaits b now p l ts
   proposing : p ≡ phase.Updating → has l.accepted b.lost ≡ false → EndsBy timer.Accept ts b.third → Awaits b now p l ts
 
--- It serves with the lost monitor. If commands wait, a value may be begun.
+-- It serves with the lost monitor. If commands wait, a value may be begun. Its lease ends in time.
 pub record Serves (b : Terms) (now : ℕ) (p : Phase) (l : Leader) (queue : List Waiting) (ts : Timers) : Type 0 where
   pub among : has l.quorum b.lost ≡ true
   pub size : length ts ≡ 11
   pub awaits : Awaits b now p l ts
   pub commands : (queue ≡ []) ⊎ MayBegin b
+  pub lease : LeaseBy l b.shown
 
 -- the same, unless it isn't active or updating any more, or has another quorum
 pub record Stays (b : Terms) (now : ℕ) (p : Phase) (l : Leader) (queue : List Waiting) (ts : Timers) : Type 0 where
@@ -106,7 +115,7 @@ in_time is (proposing e lacks a) = absurd (let x : phase.Active ≡ phase.Updati
 pub carry : {b : Terms} {now : ℕ} {p : Phase} {l : Leader} {queue : List Waiting} {before after : Timers} → length after ≡ length before
     → end_of timer.Renew after ≡ end_of timer.Renew before → end_of timer.LeaseAck after ≡ end_of timer.LeaseAck before → end_of timer.Accept after ≡ end_of timer.Accept before
     → Serves b now p l queue before → Serves b now p l queue after
-carry {b} {now} {p} {l} {queue} {before} {after} size r a c S = record { among = S.among; size = size ∙ S.size; awaits = by S.awaits; commands = S.commands }
+carry {b} {now} {p} {l} {queue} {before} {after} size r a c S = record { among = S.among; size = size ∙ S.size; awaits = by S.awaits; commands = S.commands; lease = S.lease }
   where
     by : Awaits b now p l before → Awaits b now p l after
     by (renewing is le ends acks) = renewing is le (λ end e. ends end (sym r ∙ e)) (λ end e. acks end (sym a ∙ e))
@@ -240,6 +249,13 @@ module _ (b : Terms) (me : Me) (now : ℕ) (other_rank : b.lost ≡ me.member.ra
 
   -- ---- leading
 
+  -- a lease that is extended ends in time
+  extended_by : now ≤ b.second + b.late → (end : ℕ) → extended now ≡ Some end → end ≤ b.shown
+  extended_by le end e =
+      let k = b.leased in
+      let same : min (now + LENGTH) (2 ^ 62) ≡ end = cc in
+      omega arith
+
   -- an active leader renews the leases
   pub extend_serves : (x : Course) → has x.state.leader.quorum b.lost ≡ true → x.state.phase ≡ phase.Active → now ≤ b.second + b.late → (x.state.clients.queue ≡ []) ⊎ MayBegin b
       → length x.state.timers ≡ 11 → EndsBy timer.LeaseAck x.state.timers b.second → (is_armed timer.LeaseAck x.state.timers ≡ false → now + 10000 ≤ b.second)
@@ -247,7 +263,7 @@ module _ (b : Terms) (me : Me) (now : ℕ) (other_rank : b.lost ≡ me.member.ra
   unfolding extend
   extend_serves x among is le commands size ends fresh =
       let H = held_on b.second now (has_queue x) _ (subst (λ (t : Bool). Held b.second (extended_timers now t x.state.timers)) (sym (peons x.state.leader.quorum among)) (held b.second now x.state.timers size ends fresh)) in
-      record { among = among; size = H.size; awaits = acknowledging is le only_lacks H.on H.by; commands = commands }
+      record { among = among; size = H.size; awaits = acknowledging is le only_lacks H.on H.by; commands = commands; lease = extended_by le }
 
   be_active_serves : (x : Course) → has x.state.leader.quorum b.lost ≡ true → x.state.phase ≡ phase.Updating → now ≤ b.first + b.late → (x.state.clients.queue ≡ []) ⊎ MayBegin b
       → length x.state.timers ≡ 11 → V (be_active me now x)
@@ -259,7 +275,7 @@ module _ (b : Terms) (me : Me) (now : ℕ) (other_rank : b.lost ≡ me.member.ra
       (λ t. absurd (let e : phase.Active ≡ phase.Updating = sym (active_is x.state.phase t) ∙ is in cc)) (λ _. (refl, refl)) in
       let H = held_on b.second now (has_queue x) _ (subst (λ (t : Bool). Held b.second (extended_timers now t ts)) (sym (peons x.state.leader.quorum among))
       (held b.second now ts entered.0 (λ end e. absurd (let x : None ≡ Some end = sym entered.1 ∙ e in cc)) (λ _. omega arith))) in
-      record { among = among; size = H.size; awaits = acknowledging refl (omega arith) only_lacks H.on H.by; commands = commands }
+      record { among = among; size = H.size; awaits = acknowledging refl (omega arith) only_lacks H.on H.by; commands = commands; lease = extended_by (omega arith) }
 
   be_active_free : (x : Course) → has x.state.leader.quorum b.lost ≡ false → W (be_active me now x)
   unfolding be_active extend
@@ -289,20 +305,20 @@ module _ (b : Terms) (me : Me) (now : ℕ) (other_rank : b.lost ≡ me.member.ra
       where_fits W which.Version v _ (λ _. by_test (is_alone me x.state.leader.quorum) (λ _. begin_alone_free v value o x e) (λ _. done (begin_with_free s v value o x e)))
 
   -- an active leader begins a value
-  begin_with_serves : (v : ℕ) (value : List Op) (o : Option Origin) (x : Course) → has x.state.leader.quorum b.lost ≡ true → now ≤ b.second + b.late → MayBegin b
+  begin_with_serves : (v : ℕ) (value : List Op) (o : Option Origin) (x : Course) → has x.state.leader.quorum b.lost ≡ true → now ≤ b.second + b.late → MayBegin b → LeaseBy x.state.leader b.shown
       → length x.state.timers ≡ 11 → V (begin_with me now stage.Updating v value o x)
   unfolding begin_with
-  begin_with_serves v value o x among le may size =
+  begin_with_serves v value o x among le may lease size =
       let entered = cond_both (same_phase x.state.phase phase.Updating) x.state.timers (only_ping x.state.timers) (λ (ts : Timers). length ts ≡ 11) (λ _. size) (λ _. refl) in
       let bare = disarmed_size timer.LeaseAck _ (disarmed_size timer.Renew _ entered) in
-      record { among = among; size = armed_size now timer.Accept _ bare; awaits = proposing refl only_lacks (armed_by now b.third timer.Accept _ bare (omega arith)); commands = inr may }
+      record { among = among; size = armed_size now timer.Accept _ bare; awaits = proposing refl only_lacks (armed_by now b.third timer.Accept _ bare (omega arith)); commands = inr may; lease = lease }
 
   pub begin_serves : (value : List Op) (o : Option Origin) (x : Course) → V x → x.state.phase ≡ phase.Active → MayBegin b → Then W (begin me now stage.Updating value o x)
   unfolding begin
   begin_serves value o x A is may = let v = suc x.readings.last in
       where_fits W which.Version v _ (λ _. by_test (is_alone me x.state.leader.quorum)
       (λ a. absurd (false≢true (sym (alone_lacks x.state.leader.quorum a) ∙ A.among)))
-      (λ _. done (keep (begin_with_serves v value o x A.among (in_time is A.awaits) may A.size))))
+      (λ _. done (keep (begin_with_serves v value o x A.among (in_time is A.awaits) may A.lease A.size))))
 
   -- ---- collecting
 

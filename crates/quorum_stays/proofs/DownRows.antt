@@ -190,12 +190,12 @@ module _ (b : Terms) (me : Me) (now : ℕ) (other_rank : b.lost ≡ me.member.ra
       taken t (renewing is le r a) = no_active t is
       taken t (acknowledging is le lacks on a) = no_active t is
       taken t (accepting is le ends) =
-          let S : Serves b now x.state.phase y.state.leader x.state.clients.queue x.state.timers = record { among = A.among; size = A.size; awaits = accepting is le ends; commands = A.commands } in
+          let S : Serves b now x.state.phase y.state.leader x.state.clients.queue x.state.timers = record { among = A.among; size = A.size; awaits = accepting is le ends; commands = A.commands; lease = A.lease } in
           by_test (all_accepted me y) (λ _. commits x.state.leader.value is le S) (λ _. done (keep S))
       taken t (proposing is lacks ends) =
           let still = with_lacks b me now other_rank in_map x.state.leader.accepted f ne lacks in
           by_test (all_accepted me y) (λ all. absurd (false≢true (sym still ∙ within_at me.member.monitors x.state.leader.quorum accepted b.lost all in_map A.among)))
-          (λ _. done (keep (record { among = A.among; size = A.size; awaits = proposing is still ends; commands = A.commands })))
+          (λ _. done (keep (record { among = A.among; size = A.size; awaits = proposing is still ends; commands = A.commands; lease = A.lease })))
 
   pub hear_lease_ack_stays : (f e : ℕ) (last : ℕ) → (f ≡ b.lost → ⊥) → (x : Course) → Still x → Then Ends (hear_lease_ack me f e last x)
   unfolding hear_lease_ack
@@ -222,7 +222,7 @@ module _ (b : Terms) (me : Me) (now : ℕ) (other_rank : b.lost ≡ me.member.ra
 
       -- it serves with these timers
       serves : (after : Timers) → length after ≡ 11 → Awaits b now x.state.phase (acked acks x.state.leader) after → Serves b now x.state.phase (acked acks x.state.leader) x.state.clients.queue after
-      serves after size awaits = record { among = A.among; size = size; awaits = awaits; commands = A.commands }
+      serves after size awaits = record { among = A.among; size = size; awaits = awaits; commands = A.commands; lease = A.lease }
 
       bare_size : length bare ≡ 11
       bare_size = disarmed_size timer.LeaseAck ts A.size
@@ -272,8 +272,8 @@ module _ (b : Terms) (me : Me) (now : ℕ) (other_rank : b.lost ≡ me.member.ra
       resting : same_phase x.state.phase phase.Active ≡ false → Awaits b now x.state.phase x.state.leader ts → Serves b now x.state.phase x.state.leader x.state.clients.queue bare
       resting t (renewing is le ends wait) = clash t is
       resting t (acknowledging is le lacks on wait) = clash t is
-      resting t (accepting is le ends) = record { among = A.among; size = bare_size; awaits = accepting is le (λ end e. ends end (sym accept_on ∙ e)); commands = A.commands }
-      resting t (proposing is lacks ends) = record { among = A.among; size = bare_size; awaits = proposing is lacks (λ end e. ends end (sym accept_on ∙ e)); commands = A.commands }
+      resting t (accepting is le ends) = record { among = A.among; size = bare_size; awaits = accepting is le (λ end e. ends end (sym accept_on ∙ e)); commands = A.commands; lease = A.lease }
+      resting t (proposing is lacks ends) = record { among = A.among; size = bare_size; awaits = proposing is lacks (λ end e. ends end (sym accept_on ∙ e)); commands = A.commands; lease = A.lease }
 
       renewed : x.state.phase ≡ phase.Active → Awaits b now x.state.phase x.state.leader ts
           → Serves b now x.state.phase (extend me now y).state.leader x.state.clients.queue (maybe_armed (has_queue x) now (extend me now y).state.timers)
@@ -300,7 +300,7 @@ module _ (b : Terms) (me : Me) (now : ℕ) (other_rank : b.lost ≡ me.member.ra
       by_test (is_too_long c) (λ _. done (keep A)) (λ _.
       by_test (may_propose me now x && not (has_queue x)) (λ t. propose_stays may c o x (active_is x.state.phase (proposes x t)) A) (λ _.
       by_test (leb MOST_WAITING (length x.state.clients.queue)) (λ _. done (keep A))
-      (λ _. done (keep (record { among = A.among; size = A.size; awaits = A.awaits; commands = inr may })))))
+      (λ _. done (keep (record { among = A.among; size = A.size; awaits = A.awaits; commands = inr may; lease = A.lease })))))
     where
       proposes : (x : Course) → (may_propose me now x && not (has_queue x)) ≡ true → same_phase x.state.phase phase.Active ≡ true
       proposes x t = (and_parts (same_phase x.state.phase phase.Active) _ (and_parts (may_propose me now x) (not (has_queue x)) t).0).0
@@ -334,7 +334,7 @@ module _ (b : Terms) (me : Me) (now : ℕ) (other_rank : b.lost ≡ me.member.ra
       waits : (x.state.clients.queue ≡ []) ⊎ MayBegin b → Then Ends (propose_first me now (w ∷ ws) x)
       waits (inl none) = absurd (let z : (w ∷ ws) ≡ [] = sym e ∙ none in cc)
       waits (inr may) = propose_stays may w.command w.origin (clients_are (record x.state.clients { queue = ws }) x) is
-          (record { among = A.among; size = A.size; awaits = A.awaits; commands = inr may })
+          (record { among = A.among; size = A.size; awaits = A.awaits; commands = inr may; lease = A.lease })
 
   pub propose_due_stays : (x : Course) → Still x → Then Ends (propose_due me now x)
   unfolding propose_due propose_next

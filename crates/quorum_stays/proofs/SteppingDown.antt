@@ -1,10 +1,11 @@
 -- A leader that lost a monitor of its quorum steps down.
+use Rattle.mon_lease.specs.Lease.{stands}
 use Rattle.mon_msg.specs.Protocol.Course.{Course}
 use Rattle.mon_msg.specs.Protocol.Leader.{is_one_of}
 use Rattle.mon_msg.specs.Protocol.Leading.{is_alone}
-use Rattle.mon_msg.specs.Protocol.Phases.{is_leading}
-use Rattle.mon_msg.specs.Protocol.Readings.{readings_of, shared_entries}
-use Rattle.mon_msg.specs.Protocol.State.{State}
+use Rattle.mon_msg.specs.Protocol.Phases.{is_leading, is_peon}
+use Rattle.mon_msg.specs.Protocol.Readings.{or_zero, readings_of, shared_entries}
+use Rattle.mon_msg.specs.Protocol.State.{State, lease_of}
 use Rattle.mon_msg.specs.Protocol.Timers.{end_of, is_armed}
 use Rattle.mon_msg.specs.declared.input.Input.TheVariants as input
 use Rattle.mon_msg.specs.declared.input.Input.{Input}
@@ -24,7 +25,7 @@ use Rattle.quorum_model.specs.World.{Arrives, Client, Deliver, Envelope, Event, 
 use Rattle.quorum_stays.proofs.Leaving.{parts}
 use Rattle.quorum_stays.proofs.Moving.{AllGo, AtMember, Brought, IsSent, lt, moves}
 use Rattle.quorum_stays.proofs.Onward.{one_state, pack, unpack}
-use Rattle.quorum_stays.proofs.DownActs.{Awaits, MayBegin, Serves, Stays, Terms, accepting, acknowledging, alone_lacks, proposing, renewing}
+use Rattle.quorum_stays.proofs.DownActs.{Awaits, LeaseBy, MayBegin, Serves, Stays, Terms, accepting, acknowledging, alone_lacks, of_serving, proposing, renewing}
 use Rattle.quorum_stays.proofs.DownTable.{Fits, reacts_stepping}
 use Rattle.quorum_stays.specs.Reading.{Reads}
 use Rattle.quorum_stays.specs.Serving.{IsForward}
@@ -35,9 +36,9 @@ use Rattle.quorum_timed.specs.Begins.{Begins}
 use Rattle.quorum_timed.specs.Timed.{Leads, MayBe, Pace, Timed, at_time}
 use Rattle.quorum_timed.specs.Waiting.{Waits, leads_alone, timer_of}
 use Rattle.quorum_walk.proofs.Walk.{Then}
-use Rattle.std.proofs.Common.{Bool, List, None, Ok, Option, Some, [], ap, arith, false, inl, inr, refl, subst, sym, true, ℕ, ◌&&◌, ◌*◌, ◌+◌, ◌<◌, ◌∙◌, ◌∷◌, ◌≡◌, ◌≤◌, ◌⊎◌, ◌||◌}
+use Rattle.std.proofs.Common.{Bool, List, None, Ok, Option, Some, [], ap, arith, cond, false, inl, inr, refl, subst, sym, true, ℕ, ◌&&◌, ◌*◌, ◌+◌, ◌<◌, ◌||◌, ◌∙◌, ◌∷◌, ◌≡◌, ◌≤◌, ◌⊎◌}
 use Rattle.std.proofs.Math.Bool.{Bool-set}
-use Rattle.std.proofs.lemmas.Bool.{cases_eq, false≢true, lt-ltb}
+use Rattle.std.proofs.lemmas.Bool.{cases_eq, false≢true, le-ltb, lt-ltb}
 use Rattle.std.specs.Prelude.{IfSome, IsSomeAnd, is_some}
 
 -- ---- timers
@@ -69,8 +70,8 @@ armed_in me p s is many h = or_false (is_armed (timer_of p s.requester.stage) s.
 
 module _ (ms : Monitors) (q : List Bool) (pace : Pace) where
   -- time stands for a while
-  stands : (t : Timed) (u : ℕ) → MayBe ms q pace t u → MayBe ms q pace t t.time
-  stands t u M = let le = M.later in record {
+  may_now : (t : Timed) (u : ℕ) → MayBe ms q pace t u → MayBe ms q pace t t.time
+  may_now t u M = let le = M.later in record {
     later = omega arith;
     messages = λ f j qf qj o others is. let k = M.messages f j qf qj o others is in omega arith;
     timers = λ j qj s up kind end set. let k = M.timers j qj s up kind end set in omega arith;
@@ -78,8 +79,8 @@ module _ (ms : Monitors) (q : List Bool) (pace : Pace) where
   }
 
   pub here : (t last : Timed) (more : List (ℕ × Event)) → Leads ms q pace t more last → MayBe ms q pace t t.time
-  here t last [] L = stands t last.time L.0
-  here t last ((u, e) ∷ more) L = stands t u L.0
+  here t last [] L = may_now t last.time L.0
+  here t last ((u, e) ∷ more) L = may_now t u L.0
 
 -- ---- the premises of a run
 
@@ -137,7 +138,7 @@ module _ (ms : Monitors) (q : List Bool) (pace : Pace) (many : 1 < ms.count) (wi
         state = s;
         up = H.up;
         waits = later (me_at i qi) (t.time + pace.clock i) (u + pace.clock i) s (omega arith) H.waits;
-        serves = record { among = S.among; size = S.size; awaits = A; commands = S.commands };
+        serves = record { among = S.among; size = S.size; awaits = A; commands = S.commands; lease = S.lease };
       }
 
       by : Awaits b (t.time + pace.clock i) s.phase s.leader s.timers → (u + pace.clock i ≤ b.third + b.late) × Holds i qi t.world u
@@ -228,10 +229,22 @@ module _ (ms : Monitors) (q : List Bool) (pace : Pace) (many : 1 < ms.count) (wi
 
   -- ---- the run
 
-  pub steps_down : (u : ℕ) → b.third + b.late ≡ u + pace.clock i → (more : List (ℕ × Event)) (t last : Timed) → Holds i qi t.world t.time → AllGo ms q pace within t
-      → ((j : ℕ) → has q j ≡ true → IsSomeAnd (t.world.state j) (λ s. Unit {0})) → (L : Leads ms q pace t more last) → EachIs ms q pace E t more last L → u < last.time → StepsDown ms q pace t more i b.lost u
-  steps_down u is [] t last H go ups L fine late = absurd (let k = (aged t last.time L.0 H).0 in omega arith)
-  steps_down u is ((v, e) ∷ more) t last H go ups L fine late = by (stepped now next e fine.0 M A.1) (λ on. steps_down u is more next last on M.under_way (still_up now next e fine.0 M ups) L.1.2 fine.1 late)
+  -- it serves with the lost monitor at the end of the run
+  abbrev pub Remains : Timed → Type 0
+  Remains last = (last.time + pace.clock i ≤ b.third + b.late) × IsSomeAnd (last.world.state i) (λ s. Serves b (last.time + pace.clock i) s.phase s.leader s.clients.queue s.timers)
+
+  -- it steps down in time, or still serves at the end
+  pub goes : (u : ℕ) → b.third + b.late ≡ u + pace.clock i → (more : List (ℕ × Event)) (t last : Timed) → Holds i qi t.world t.time → AllGo ms q pace within t
+      → ((j : ℕ) → has q j ≡ true → IsSomeAnd (t.world.state j) (λ s. Unit {0})) → (L : Leads ms q pace t more last) → EachIs ms q pace E t more last L → StepsDown ms q pace t more i b.lost u ⊎ Remains last
+  goes u is [] t last H go ups L fine =
+      let A = aged t last.time L.0 H in
+      let K = A.1 in
+      inr (
+        A.0,
+        subst (λ (w : World). IsSomeAnd (w.state i) (λ s. Serves b (last.time + pace.clock i) s.phase s.leader s.clients.queue s.timers)) (sym (ap (λ (z : Timed). z.world) L.1))
+            (pack (λ s. Serves b (last.time + pace.clock i) s.phase s.leader s.clients.queue s.timers) (t.world.state i) K.state K.up K.serves),
+      )
+  goes u is ((v, e) ∷ more) t last H go ups L fine = by (stepped now next e fine.0 M A.1) (λ on. goes u is more next last on M.under_way (still_up now next e fine.0 M ups) L.1.2 fine.1)
     where
       now : Timed
       now = at_time ms q pace v t
@@ -245,22 +258,24 @@ module _ (ms : Monitors) (q : List Bool) (pace : Pace) (many : 1 < ms.count) (wi
       M : AtMember ms q pace within now next e
       M = moves ms q pace within now next go ups e L.1.1
 
-      by : Holds i qi next.world next.time ⊎ Stopped i next → (Holds i qi next.world next.time → StepsDown ms q pace next more i b.lost u) → StepsDown ms q pace t ((v, e) ∷ more) i b.lost u
-      by (inl on) rest =
-          let S = rest on in
-          record {
-            before = (v, e) ∷ S.before;
-            after = S.after;
-            parts = ap (λ (z : List (ℕ × Event)). (v, e) ∷ z) S.parts;
-            reached = S.reached;
-            leads = (L.0, (next, L.1.1, S.leads));
-            by = S.by;
-            left = S.left;
-          }
+      onward : StepsDown ms q pace next more i b.lost u ⊎ Remains last → StepsDown ms q pace t ((v, e) ∷ more) i b.lost u ⊎ Remains last
+      onward (inl S) = inl (record {
+        before = (v, e) ∷ S.before;
+        after = S.after;
+        parts = ap (λ (z : List (ℕ × Event)). (v, e) ∷ z) S.parts;
+        reached = S.reached;
+        leads = (L.0, (next, L.1.1, S.leads));
+        by = S.by;
+        left = S.left;
+      })
+      onward (inr R) = inr R
+
+      by : Holds i qi next.world next.time ⊎ Stopped i next → (Holds i qi next.world next.time → StepsDown ms q pace next more i b.lost u ⊎ Remains last) → StepsDown ms q pace t ((v, e) ∷ more) i b.lost u ⊎ Remains last
+      by (inl on) rest = onward (rest on)
       by (inr off) rest =
           let time : next.time ≡ v = M.time in
           let soon = A.0 in
-          record {
+          inl (record {
             before = (v, e) ∷ [];
             after = more;
             parts = refl;
@@ -268,7 +283,7 @@ module _ (ms : Monitors) (q : List Bool) (pace : Pace) (many : 1 < ms.count) (wi
             leads = (L.0, (next, L.1.1, (here ms q pace next last more L.1.2, refl)));
             by = omega arith;
             left = off;
-          }
+          })
 
 -- ---- how it begins
 
@@ -294,34 +309,39 @@ module _ (ms : Monitors) (q : List Bool) (pace : Pace) (t last : Timed) (more : 
   go : AllGo ms q pace within t
   go f j qf qj = parts t.world f j (pace.since + pace.delay) 0 (t.under_way f j) (B.earlier f j qf qj)
 
-  -- the leases are renewed by `first`, and a later value may be begun unless `third` is `second`
-  abbrev terms : (first third : ℕ) → Terms
-  terms first third = record { lost = m; first = pace.since + pace.clock i + first; second = pace.since + pace.clock i + first + pace.late + 10000; third = pace.since + pace.clock i + third; late = pace.late; acknowledged = omega arith }
+  -- the leases are renewed by `first`, and its lease ends at most `longer` after the time that follows from that
+  abbrev terms : (first third longer : ℕ) → Terms
+  terms first third longer = record { lost = m; first = pace.since + pace.clock i + first; second = pace.since + pace.clock i + first + pace.late + 10000; third = pace.since + pace.clock i + third; late = pace.late; acknowledged = omega arith; shown = pace.since + pace.clock i + first + pace.late + 10000 + pace.late + 5000 + longer; leased = omega arith }
 
-  abbrev From : (first third : ℕ) → State → Type 0
-  From first third s = Serves (terms first third) (pace.since + pace.clock i) s.phase s.leader s.clients.queue s.timers
+  abbrev From : (first third longer : ℕ) → State → Type 0
+  From first third longer s = Serves (terms first third longer) (pace.since + pace.clock i) s.phase s.leader s.clients.queue s.timers
 
-  active_from : (first third : ℕ) (s : State) → 3000 ≤ first → s.phase ≡ phase.Active → has s.leader.quorum m ≡ true → (s.clients.queue ≡ []) ⊎ MayBegin (terms first third) → Waits me (pace.since + pace.clock i) s → From first third s
-  active_from first third s long is among commands W = record {
+  active_from : (first third longer : ℕ) (s : State) → 3000 ≤ first → s.phase ≡ phase.Active → has s.leader.quorum m ≡ true → (s.clients.queue ≡ []) ⊎ MayBegin (terms first third longer) → LeaseBy s.leader (terms first third longer).shown → Waits me (pace.since + pace.clock i) s → From first third longer s
+  active_from first third longer s long is among commands lease W = record {
     among = among;
     size = W.kinds;
     awaits = renewing is (omega arith) (λ end e. let k = W.soon timer.Renew end e in omega arith) (λ end e. let k = W.soon timer.LeaseAck end e in omega arith);
     commands = commands;
+    lease = lease;
   }
 
-  updating_from : (first third : ℕ) (s : State) → 10000 ≤ first → s.phase ≡ phase.Updating → has s.leader.quorum m ≡ true → (s.clients.queue ≡ []) ⊎ MayBegin (terms first third) → Waits me (pace.since + pace.clock i) s → From first third s
-  updating_from first third s long is among commands W = record {
+  updating_from : (first third longer : ℕ) (s : State) → 10000 ≤ first → s.phase ≡ phase.Updating → has s.leader.quorum m ≡ true → (s.clients.queue ≡ []) ⊎ MayBegin (terms first third longer) → LeaseBy s.leader (terms first third longer).shown → Waits me (pace.since + pace.clock i) s → From first third longer s
+  updating_from first third longer s long is among commands lease W = record {
     among = among;
     size = W.kinds;
     awaits = accepting is (omega arith) (λ end e. let k = W.soon timer.Accept end e in omega arith);
     commands = commands;
+    lease = lease;
   }
 
-  module _ (E : World → Event → Type 0) (fine : EachIs ms q pace E t more last L) (first third u : ℕ) (ordered : first + pace.late + 10000 ≤ third) (is : pace.since + third + pace.late ≡ u)
-      (asks : (w : World) (at : ℕ) (session : Session) (r : Request) → E w (Arrives (Client i at session r)) → Reads r ⊎ MayBegin (terms first third))
-      (forwards : (w : World) (k at : ℕ) (m : Message) → E w (Arrives (Deliver k at)) → IsSent ms q pace within w k i m → IsForward m.body → MayBegin (terms first third)) (late : u < last.time) where
+  module _ (E : World → Event → Type 0) (fine : EachIs ms q pace E t more last L) (first third longer u : ℕ) (ordered : first + pace.late + 10000 ≤ third) (is : pace.since + third + pace.late ≡ u)
+      (asks : (w : World) (at : ℕ) (session : Session) (r : Request) → E w (Arrives (Client i at session r)) → Reads r ⊎ MayBegin (terms first third longer))
+      (forwards : (w : World) (k at : ℕ) (m : Message) → E w (Arrives (Deliver k at)) → IsSent ms q pace within w k i m → IsForward m.body → MayBegin (terms first third longer)) where
+    abbrev Served : Type 0
+    Served = (last.time + pace.clock i ≤ (terms first third longer).third + pace.late) × IsSomeAnd (last.world.state i) (λ s. Serves (terms first third longer) (last.time + pace.clock i) s.phase s.leader s.clients.queue s.timers)
+
     -- it serves with the monitor at first, or it doesn't
-    begun : (has (waiting.0).leader.quorum m ≡ true → is_one_of serving (waiting.0).phase ≡ true → From first third waiting.0) → StepsDown ms q pace t more i m u
+    begun : (has (waiting.0).leader.quorum m ≡ true → is_one_of serving (waiting.0).phase ≡ true → From first third longer waiting.0) → StepsDown ms q pace t more i m u ⊎ Served
     begun from = by (is_one_of serving s.phase) refl (has s.leader.quorum m) refl
       where
         s : State
@@ -330,8 +350,8 @@ module _ (ms : Monitors) (q : List Bool) (pace : Pace) (t last : Timed) (more : 
         time : t.time ≡ pace.since
         time = B.time
 
-        at_once : (ServesWith m s → ⊥) → StepsDown ms q pace t more i m u
-        at_once doesnt = record {
+        at_once : (ServesWith m s → ⊥) → StepsDown ms q pace t more i m u ⊎ Served
+        at_once doesnt = inl (record {
           before = [];
           after = more;
           parts = refl;
@@ -339,20 +359,25 @@ module _ (ms : Monitors) (q : List Bool) (pace : Pace) (t last : Timed) (more : 
           leads = (here ms q pace t last more L, refl);
           by = omega (arith, is, time);
           left = pack (λ s. ServesWith m s → ⊥) (t.world.state i) s waiting.1 doesnt;
-        }
+        })
 
-        by : (x : Bool) → is_one_of serving s.phase ≡ x → (y : Bool) → has s.leader.quorum m ≡ y → StepsDown ms q pace t more i m u
+        by : (x : Bool) → is_one_of serving s.phase ≡ x → (y : Bool) → has s.leader.quorum m ≡ y → StepsDown ms q pace t more i m u ⊎ Served
         by false f y g = at_once (λ S. false≢true (sym f ∙ S.serves))
         by true f false g = at_once (λ S. false≢true (sym g ∙ S.among))
         by true f true g =
-            let b = terms first third in
-            steps_down ms q pace many within b refl outside in_map i qi (omega arith) (omega arith) E asks forwards u (omega (arith, is)) more t last
+            let b = terms first third longer in
+            goes ms q pace many within b refl outside in_map i qi (omega arith) (omega arith) E asks forwards u (omega (arith, is)) more t last
             (record {
               state = s;
               up = waiting.1;
               waits = subst (λ (n : ℕ). Waits me (n + pace.clock i) s) (sym time) waiting.2;
               serves = subst (λ (n : ℕ). Serves b (n + pace.clock i) s.phase s.leader s.clients.queue s.timers) (sym time) (from g f);
-            }) go ups L fine late
+            }) go ups L fine
+
+    -- the run goes on for longer than it serves
+    ends : u < last.time → StepsDown ms q pace t more i m u ⊎ Served → StepsDown ms q pace t more i m u
+    ends late (inl S) = S
+    ends late (inr K) = absurd (let k = K.0 in omega (arith, is))
 
   -- ---- whatever comes
 
@@ -363,33 +388,87 @@ module _ (ms : Monitors) (q : List Bool) (pace : Pace) (t last : Timed) (more : 
   any_event [] t last L = tt
   any_event ((u, e) ∷ more) t last L = (tt, any_event more L.1.0 last L.1.2)
 
+  -- the end of its lease at first
+  abbrev longest : ℕ
+  longest = or_zero (waiting.0).leader.lease
+
+  leased_at_first : (u : ℕ) → longest ≤ u → LeaseBy (waiting.0).leader u
+  leased_at_first u le end e = let same : longest ≡ end = ap or_zero e in omega arith
+
   pub serving_steps_down : pace.since + 30000 + 3 * pace.late < last.time → StepsDown ms q pace t more i m (pace.since + 30000 + 3 * pace.late)
   serving_steps_down late =
-      let may : MayBegin (terms 10000 (30000 + 2 * pace.late)) = omega arith in
-      begun Any (any_event more t last L) 10000 (30000 + 2 * pace.late) (pace.since + 30000 + 3 * pace.late) (omega arith) (omega arith) (λ w at session r k. inr may) (λ w k at z c d f. may) late
+      let third = 30000 + 2 * pace.late in
+      let u = pace.since + 30000 + 3 * pace.late in
+      let is : pace.since + third + pace.late ≡ u = omega arith in
+      let ordered : 10000 + pace.late + 10000 ≤ third = omega arith in
+      let may : MayBegin (terms 10000 third longest) = omega arith in
+      let lease = leased_at_first (terms 10000 third longest).shown (omega arith) in
+      ends Any (any_event more t last L) 10000 third longest u ordered is (λ w at session r k. inr may) (λ w k at z c d f. may) late
+      (begun Any (any_event more t last L) 10000 third longest u ordered is (λ w at session r k. inr may) (λ w k at z c d f. may)
       (λ g f. elim (serving_is (waiting.0).phase f) [
-        | inl is ↦ active_from 10000 (30000 + 2 * pace.late) waiting.0 (omega arith) is g (inr may) waiting.2
-        | inr is ↦ updating_from 10000 (30000 + 2 * pace.late) waiting.0 (omega arith) is g (inr may) waiting.2
-      ])
+        | inl at ↦ active_from 10000 third longest waiting.0 (omega arith) at g (inr may) lease waiting.2
+        | inr at ↦ updating_from 10000 third longest waiting.0 (omega arith) at g (inr may) lease waiting.2
+      ]))
+
+  -- what holds of the state at first
+  at_first : (P : State → Type 0) → IsSomeAnd (t.world.state i) P → P waiting.0
+  at_first P k = let A = unpack P (t.world.state i) k in subst P (one_state (t.world.state i) A.0 waiting.0 A.1 waiting.1) A.2
 
   pub active_steps_down : IsSomeAnd (t.world.state i) (λ s. s.phase ≡ phase.Active) → pace.since + 23000 + 3 * pace.late < last.time → StepsDown ms q pace t more i m (pace.since + 23000 + 3 * pace.late)
   active_steps_down active late =
-      let may : MayBegin (terms 3000 (23000 + 2 * pace.late)) = omega arith in
-      let A = unpack (λ s. s.phase ≡ phase.Active) (t.world.state i) active in
-      let is : (waiting.0).phase ≡ phase.Active = subst (λ (s : State). s.phase ≡ phase.Active) (one_state (t.world.state i) A.0 waiting.0 A.1 waiting.1) A.2 in
-      begun Any (any_event more t last L) 3000 (23000 + 2 * pace.late) (pace.since + 23000 + 3 * pace.late) (omega arith) (omega arith) (λ w at session r k. inr may) (λ w k at z c d f. may) late
-      (λ g f. active_from 3000 (23000 + 2 * pace.late) waiting.0 (omega arith) is g (inr may) waiting.2)
+      let third = 23000 + 2 * pace.late in
+      let u = pace.since + 23000 + 3 * pace.late in
+      let is : pace.since + third + pace.late ≡ u = omega arith in
+      let ordered : 3000 + pace.late + 10000 ≤ third = omega arith in
+      let may : MayBegin (terms 3000 third longest) = omega arith in
+      let lease = leased_at_first (terms 3000 third longest).shown (omega arith) in
+      ends Any (any_event more t last L) 3000 third longest u ordered is (λ w at session r k. inr may) (λ w k at z c d f. may) late
+      (begun Any (any_event more t last L) 3000 third longest u ordered is (λ w at session r k. inr may) (λ w k at z c d f. may)
+      (λ g f. active_from 3000 third longest waiting.0 (omega arith) (at_first (λ s. s.phase ≡ phase.Active) active) g (inr may) lease waiting.2))
+
+  -- ---- its lease
+
+  -- a leader that serves has its own lease
+  own_lease : (s : State) {b : Terms} {now : ℕ} → Awaits b now s.phase s.leader s.timers → lease_of s ≡ s.leader.lease
+  own_lease s A = of_serving (λ (p : Phase). cond (is_peon p) s.peon.lease (cond (is_leading p) s.leader.lease None) ≡ s.leader.lease) refl refl A
+
+  over : (o : Option ℕ) (now u : ℕ) → ((end : ℕ) → o ≡ Some end → end ≤ u) → u ≤ now → stands o now ≡ false
+  over None now u by le = refl
+  over (Some end) now u by le = let k = by end refl in le-ltb now end (omega arith)
+
+  pub lease_ends : IsSomeAnd (t.world.state i) (λ s. (s.phase ≡ phase.Active) × LeaseBy s.leader (pace.since + pace.clock i + 5000)) → pace.since + 18000 + 2 * pace.late < last.time
+      → StepsDown ms q pace t more i m (pace.since + 23000 + 3 * pace.late) ⊎ IsSomeAnd (last.world.state i) (λ s. stands (lease_of s) (last.time + pace.clock i) ≡ false)
+  lease_ends active late =
+      let third = 23000 + 2 * pace.late in
+      let u = pace.since + 23000 + 3 * pace.late in
+      let is : pace.since + third + pace.late ≡ u = omega arith in
+      let ordered : 3000 + pace.late + 10000 ≤ third = omega arith in
+      let may : MayBegin (terms 3000 third 0) = omega arith in
+      let A = at_first (λ s. (s.phase ≡ phase.Active) × LeaseBy s.leader (pace.since + pace.clock i + 5000)) active in
+      elim (begun Any (any_event more t last L) 3000 third 0 u ordered is (λ w at session r k. inr may) (λ w k at z c d f. may)
+      (λ g f. active_from 3000 third 0 waiting.0 (omega arith) A.0 g (inr may) (λ end e. let k = A.1 end e in omega arith) waiting.2)) [
+        | inl S ↦ inl S
+        | inr K ↦ inr (let Z = unpack (λ s. Serves (terms 3000 third 0) (last.time + pace.clock i) s.phase s.leader s.clients.queue s.timers) (last.world.state i) K.1 in
+            let S = Z.2 in
+            pack (λ s. stands (lease_of s) (last.time + pace.clock i) ≡ false) (last.world.state i) Z.0 Z.1
+            (subst (λ (o : Option ℕ). stands o (last.time + pace.clock i) ≡ false) (sym (own_lease Z.0 S.awaits))
+            (over (Z.0).leader.lease (last.time + pace.clock i) (terms 3000 third 0).shown S.lease (omega arith))))
+      ]
 
   -- ---- if no command comes
 
   pub idle_steps_down : IsSomeAnd (t.world.state i) (λ s. (s.phase ≡ phase.Active) × (s.clients.queue ≡ [])) → EachIs ms q pace (BringsNone i) t more last L → pace.since + 13000 + 2 * pace.late < last.time
       → StepsDown ms q pace t more i m (pace.since + 13000 + 2 * pace.late)
   idle_steps_down active quiet late =
-      let A = unpack (λ s. (s.phase ≡ phase.Active) × (s.clients.queue ≡ [])) (t.world.state i) active in
-      let is : ((waiting.0).phase ≡ phase.Active) × ((waiting.0).clients.queue ≡ []) = subst (λ (s : State). (s.phase ≡ phase.Active) × (s.clients.queue ≡ [])) (one_state (t.world.state i) A.0 waiting.0 A.1 waiting.1) A.2 in
-      begun (BringsNone i) quiet 3000 (13000 + pace.late) (pace.since + 13000 + 2 * pace.late) (omega arith) (omega arith) (λ w at session r k. inl (k refl))
-      (λ w k at z c d f. absurd (by w k z c d f)) late
-      (λ g f. active_from 3000 (13000 + pace.late) waiting.0 (omega arith) is.0 g (inl is.1) waiting.2)
+      let third = 13000 + pace.late in
+      let u = pace.since + 13000 + 2 * pace.late in
+      let is : pace.since + third + pace.late ≡ u = omega arith in
+      let ordered : 3000 + pace.late + 10000 ≤ third = omega arith in
+      let A = at_first (λ s. (s.phase ≡ phase.Active) × (s.clients.queue ≡ [])) active in
+      let lease = leased_at_first (terms 3000 third longest).shown (omega arith) in
+      ends (BringsNone i) quiet 3000 third longest u ordered is (λ w at session r k. inl (k refl)) (λ w k at z c d f. absurd (by w k z c d f)) late
+      (begun (BringsNone i) quiet 3000 third longest u ordered is (λ w at session r k. inl (k refl)) (λ w k at z c d f. absurd (by w k z c d f))
+      (λ g f. active_from 3000 third longest waiting.0 (omega arith) A.0 g (inl A.1) lease waiting.2))
     where
       by : (w : World) (k : ℕ) (z : Message) → IfSome (message_at w.messages k) (λ m. m.to ≡ i → IsForward m.message.body → ⊥) → IsSent ms q pace within w k i z → IsForward z.body → ⊥
       by w k z c d f = subst (λ (o : Option Envelope). IfSome o (λ m. m.to ≡ i → IsForward m.message.body → ⊥)) d.there c refl f

@@ -1,5 +1,7 @@
-ghost use Rattle.std.specs.Prelude.{ℕ, ◌*◌, ◌+◌, ◌<◌, ◌≡◌, ◌≤◌, Bool, IsSomeAnd, None, Some, [], false, true, List, Ok, ◌∷◌};
+ghost use Rattle.std.specs.Prelude.{ℕ, ◌*◌, ◌+◌, ◌<◌, ◌≡◌, ◌≤◌, Bool, IsSomeAnd, None, Some, [], false, true, List, Ok, ◌∷◌, ◌⊎◌};
+ghost use Rattle.mon_lease.specs.Lease.{stands};
 ghost use Rattle.mon_msg.specs.Protocol.Readings.{readings_of};
+ghost use Rattle.mon_msg.specs.Protocol.State.{lease_of};
 ghost use Rattle.mon_types.specs.Ranks.{has};
 ghost use Rattle.mon_wire.specs.declared.phase.Phase.TheVariants as phase;
 ghost use Rattle.mon_wire.specs.declared.request.Request.{Request};
@@ -123,4 +125,19 @@ pub fn law_leader_steps_down()
         → IsSomeAnd (t.world.state i) (λ s. (s.phase ≡ phase.Active) × (s.clients.queue ≡ []))
         → EachIs ms q pace (BringsNone i) t more last run → pace.since + 13000 + 2 * pace.late < last.time
         → StepsDown ms q pace t more i m (pace.since + 13000 + 2 * pace.late) }
+{}
+
+/// Such a leader shows no old map for long. From 18 seconds and two latenesses after `since` on its lease isn't valid,
+/// unless it stepped down before. It is active at first, and its lease is no longer than one that is extended then.
+/// Clients may ask what they want: a command that it begins just before 13 seconds lets it serve for 10 more, but not
+/// extend its lease.
+pub fn law_lease_of_leader_ends()
+    ensures { (ms : Monitors) (q : List Bool) (pace : Pace) (t last : Timed) (more : List (ℕ × Event)) (i m : ℕ)
+        → 1 < ms.count → ((i : ℕ) → has q i ≡ true → i < ms.count) → has q i ≡ true → has q m ≡ false → m < ms.count
+        → Begins ms q pace t → Leads ms q pace t more last
+        → IsSomeAnd (t.world.state i) (λ s. (s.phase ≡ phase.Active)
+        × ((end : ℕ) → s.leader.lease ≡ Some end → end ≤ pace.since + pace.clock i + 5000))
+        → pace.since + 18000 + 2 * pace.late < last.time
+        → StepsDown ms q pace t more i m (pace.since + 23000 + 3 * pace.late)
+        ⊎ IsSomeAnd (last.world.state i) (λ s. stands (lease_of s) (last.time + pace.clock i) ≡ false) }
 {}

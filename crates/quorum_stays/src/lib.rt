@@ -4,6 +4,7 @@
 mod laws;
 
 pub use laws::{
-    law_leader_steps_down, law_leases_stand, law_lost_leader_is_left, law_nothing_is_begun,
-    law_reads_are_answered, law_serves, law_stays_led, law_values_are_committed,
+    law_leader_steps_down, law_lease_of_leader_ends, law_leases_stand, law_lost_leader_is_left,
+    law_nothing_is_begun, law_reads_are_answered, law_serves, law_stays_led,
+    law_values_are_committed,
 };
