@@ -13,7 +13,6 @@ use Rattle.mon_msg.specs.Protocol.Readings.{epoch_of, or_zero, promise_of}
 use Rattle.mon_msg.specs.Protocol.Sending.{members}
 use Rattle.mon_msg.specs.Protocol.Sets.{is_empty, only}
 use Rattle.mon_msg.specs.Protocol.State.{State}
-use Rattle.mon_msg.specs.Protocol.Synchronizing.{full_sync, recent_sync}
 use Rattle.mon_msg.specs.Protocol.Timers.{armed, disarmed, end_of, index_of, is_armed, length_of, only_ping}
 use Rattle.mon_msg.specs.declared.clients.Waiting.{Waiting}
 use Rattle.mon_msg.specs.declared.paxos.Found.{Found}
@@ -365,16 +364,8 @@ module _ (b : Terms) (me : Me) (now : ℕ) (other_rank : b.lost ≡ me.member.ra
   unfolding win
   win_stays ranks x = and_then (λ y. Unit {0}) W (in_next_epoch x) _ (in_next x) (λ y H. reign_stays ranks y)
 
-  -- ---- probing and synchronization
+  -- ---- probing
 
   pub bootstrap_stays : ltb 1 me.member.monitors ≡ true → (x : Course) → Then W (bootstrap me now x)
   unfolding bootstrap
   bootstrap_stays many x = by_test (ltb 1 me.member.monitors) (λ _. done (away refl)) (λ e. absurd (false≢true (sym e ∙ many)))
-
-  pub full_sync_stays : (f : ℕ) (x : Course) → W (full_sync me now f x)
-  unfolding full_sync
-  full_sync_stays f x = away refl
-
-  pub recent_sync_stays : (f : ℕ) (x : Course) → W (recent_sync me now f x)
-  unfolding recent_sync
-  recent_sync_stays f x = away refl
