@@ -8,7 +8,8 @@ DONE = r'^  reply \d+ \S+ done \d+'
 ELECTION = re.compile(DONE + r'$.*^  is collecting ', re.MULTILINE | re.DOTALL)
 REFUSED = re.compile(DONE + r'$.*^  reply \d+ \S+ (?:unavailable|notreadable|busy)\b', re.MULTILINE | re.DOTALL)
 # An event with its time, and whether it asks for a change; or a change that is done.
-LINE = re.compile(r'^\d+ (?:(?:crash|fail) [ab] \d+ \d )?(?:(?:start|deliver|client) \d+|timer \d+ \w+) (\d+)(?: \d+ \d+ (set|remove|log)\b)?|' + DONE, re.MULTILINE)
+EVENT = r'^\d+ (?:(?:crash|fail) [ab] \d+ \d )?(?:(?:start|deliver|client) \d+|timer \d+ \w+) (\d+)(?: \d+ \d+ (set|remove|log)\b)?'
+LINE = re.compile(f'{EVENT}|{DONE}', re.MULTILINE)
 
 
 def has_election(trace: str) -> bool:

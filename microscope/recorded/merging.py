@@ -5,27 +5,27 @@ times of day, as far as that is one. The schedule is played as it is made, and e
 """
 from __future__ import annotations
 
+import copy
+import re
 from typing import Iterator, NamedTuple, Tuple
 
 from played import Play
-from fields import At, Fields
+from fields import At
 from loaded import fn
 from recorded.disks import Map, map_on
-from recorded.lives import REQUEST, Life, Message, Step
+from recorded.lives import Life, Message, Step
 from recorded.messages import message, reply_message
-from schedules import TIMERS
-from texts import TIMER
+from recorded.requests import Unwritable, request_words
+from recorded.supposing import Supposing
+from recorded.timing import due
+from schedules import DELIVERY, TIMERS
 
-HEADER = 12
-REQUESTS = {1: 'set', 2: 'remove', 3: 'log', 4: 'show', 5: 'since'}
-SERVICES = {1: 'kv', 2: 'log'}
-NAMES = {constructor: word for word, constructor in TIMER.items()}
 # A call of a disk and an image by which the transaction of an event is lost: half of its record is on the disk.
 TORN = '3 2'
-
-
-class Unwritable(Exception):
-    """A request that no line of a schedule has."""
+# An event and its time.
+TIME = re.compile(r'(?:(?:crash|fail) [ab] \d+ \d )?(?:(?:start|deliver|client) \d+|timer \d+ \w+) (\d+)')
+# The most merges that are tried if a monitor has no record.
+MOST_TRIED = 100
 
 
 # A message: its sender, its receiver and its bytes.
@@ -40,20 +40,6 @@ class Note(NamedTuple):
 
     def __str__(self) -> str:
         return f'monitor {self.rank}, event {self.event}: {self.text}'
-
-
-def request_words(octets: bytes) -> str:
-    """The words of a request in a schedule. Raises Unwritable if its value or text isn't printable ASCII."""
-    fields = Fields(octets, HEADER)
-    number, kind = fields.unsigned(8), REQUESTS[fields.unsigned(1)]
-    if kind in ('show', 'since'):
-        service = SERVICES[fields.unsigned(1)]
-        return f'{number} {kind} {service}' + (f' {fields.unsigned(8)}' if kind == 'since' else '')
-    parts = [fields.word(255)] if kind != 'log' else []
-    parts += [fields.counted()] if kind != 'remove' else []
-    if any(not 0x20 <= octet <= 0x7e for part in parts for octet in part):
-        raise Unwritable(f'a {kind} with a value or text that isn\'t printable ASCII')
-    return ' '.join([f'{number} {kind}', *(part.decode('ascii') for part in parts)])
 
 
 class Monitor:
@@ -103,6 +89,21 @@ class Merge:
         self.differences: list[Note] = []
         self.unknown: list[Note] = []
         self.compared = self.stores = 0
+        # By the rank of each monitor without a record: how many events were supposed, and which messages arrived in them.
+        self.supposed = {rank: 0 for rank in range(self.count) if rank not in self.monitors}
+        self.arrived: set[int] = set()
+        # The time of the last event, and that of the event which sent each message.
+        self.now, self.times = 0, {}
+        for monitor in self.monitors.values():
+            self.begin_life(monitor)
+
+    def copy(self) -> Merge:
+        """Another merge that goes on from here."""
+        other = copy.copy(self)
+        other.play, other.monitors = self.play.copy(), {rank: copy.copy(it) for rank, it in self.monitors.items()}
+        other.lines, other.differences, other.unknown = list(self.lines), list(self.differences), list(self.unknown)
+        other.sent, other.supposed, other.arrived, other.times = dict(self.sent), dict(self.supposed), set(self.arrived), dict(self.times)
+        return other
 
     # ---- notes
 
@@ -121,17 +122,52 @@ class Merge:
         came = step.came
         return came is None or came.party == 'client' or (came.who, rank, came.octets) in self.sent
 
-    def run(self) -> None:
-        """Merges as many steps as can be taken."""
-        for monitor in self.monitors.values():
-            self.begin_life(monitor)
-        while ready := [(monitor.time(step), rank, step) for rank, monitor in self.monitors.items()
-                        if (step := monitor.step()) and self.is_ready(rank, step)]:
-            time, rank, step = min(ready)
-            self.take(self.monitors[rank], step, time)
+    def run(self, others: list[Merge]) -> None:
+        """Merges as many steps as can be taken. If what a monitor without a record did may be supposed in another way, the merge with that is added to the
+        others."""
+        while self.takes_next() or self.supposes(others):
+            pass
         for rank, monitor in self.monitors.items():
             if step := monitor.step():
                 self.lacks(rank, self.missing(rank, step))
+
+    def merged(self) -> int:
+        """How many events of the records are merged."""
+        return self.play.events - sum(self.supposed.values())
+
+    def steps(self) -> Iterator[tuple[int, int, Step]]:
+        """The next step of each monitor, with its time and its monitor."""
+        yield from ((monitor.time(step), rank, step) for rank, monitor in self.monitors.items() if (step := monitor.step()))
+
+    def takes_next(self) -> bool:
+        """Takes the earliest step that is ready, if one is."""
+        ready = [(time, rank, step) for time, rank, step in self.steps() if self.is_ready(rank, step)]
+        if ready:
+            time, rank, step = min(ready)
+            self.take(self.monitors[rank], step, time)
+        return bool(ready)
+
+    def supposes(self, others: list[Merge]) -> bool:
+        """Adds events of a monitor without a record after which it sends a message that came from it, if some are found."""
+        for time, _, step in sorted(self.steps()):
+            sender = step.came.who if step.came else -1
+            if sender in self.supposed:
+                wanted = {(rank, it.came.octets) for _, rank, it in self.steps() if it.came and it.came.party == 'monitor' and it.came.who == sender}
+                if found := Supposing(self.play, sender, wanted, time, self.arrived, self.times).found():
+                    for lines in found[1:]:
+                        others.append(self.copy())
+                        others[-1].suppose(sender, lines)
+                    self.suppose(sender, found[0])
+                    return True
+        return False
+
+    def suppose(self, rank: int, lines: list[str]) -> None:
+        for line in lines:
+            self.event(line)
+            self.note_sent(None)
+            if match := DELIVERY.fullmatch(line):
+                self.arrived.add(int(match[2]))
+        self.supposed[rank] += len(lines)
 
     def missing(self, rank: int, step: Step) -> str:
         sender = step.came.who
@@ -184,18 +220,12 @@ class Merge:
                 if not self.fires(monitor):
                     return
 
-    def due(self, rank: int) -> tuple[str, int] | None:
-        """The name and the time of the timer of a monitor that is due next, if one is."""
-        state = self.play.state(rank)
-        due = fn('mon_msg.specs.Protocol.Timers', 'due')(state.timers) if state else None
-        return (NAMES[due.args[0][0].name], due.args[0][1]) if due and due.args else None
-
     def fires(self, monitor: Monitor) -> bool:
         """Fires the next timer, if something shows that it fired. Returns whether it did. No timer fires after the next life began."""
-        following, due, end = monitor.following(), self.due(monitor.rank), monitor.end()
-        if due is None or end is not None and due[1] > end:
+        following, timer, end = monitor.following(), due(self.play, monitor.rank), monitor.end()
+        if timer is None or end is not None and timer[1] > end:
             return False
-        line = f'timer {monitor.rank} {due[0]} {due[1]}'
+        line = f'timer {monitor.rank} {timer[0]} {timer[1]}'
         tried, before, kept = self.play.copy(), self.store(monitor.rank), map_on(following.disks) if following else None
         if not tried.take(line):
             return False
@@ -274,16 +304,17 @@ class Merge:
             return None
 
     def timer_line(self, rank: int, time: int) -> str | None:
-        due = self.due(rank)
-        if due is None or due[1] > time:
+        timer = due(self.play, rank)
+        if timer is None or timer[1] > time:
             self.differs(rank, f'a timer fired at {time}, and the schedule has none that is due')
             return None
-        return f'timer {rank} {due[0]} {time}'
+        return f'timer {rank} {timer[0]} {time}'
 
     def event(self, line: str) -> None:
         """Adds an event, and plays it."""
         if self.play.take(line):
             self.lines.append(line)
+            self.now = int(TIME.match(line)[1])
         else:
             raise Unwritable(f'the run stops at event {self.play.events + 1}, {line}: {self.play.stop}')
 
@@ -293,7 +324,7 @@ class Merge:
         """Notes the messages that were sent since the last call. Returns these and the replies of a monitor."""
         found = []
         for key, number in self.sent_in(self.play):
-            self.sent[key] = number
+            self.sent[key], self.times[number] = number, self.now
             sender, receiver, octets = key
             if sender == rank:
                 found.append(Message('monitor', receiver, octets))
@@ -312,6 +343,20 @@ class Merge:
             self.compared += len(step.sent)
             return
         self.differs(rank, f'it sent {shown(step.sent)}, and the schedule sends {shown(wanted)} ({step.at} in its record)')
+
+
+def merged(lives: dict[int, list[Life]]) -> Merge:
+    """The merge of these lives; if a monitor has none, the one that goes furthest among those that are tried."""
+    others: list[Merge] = []
+    best = Merge(lives)
+    best.run(others)
+    for _ in range(MOST_TRIED):
+        if not best.unknown or not others:
+            break
+        merge = others.pop()
+        merge.run(others)
+        best = max(best, merge, key=Merge.merged)
+    return best
 
 
 def shown(sent: list[Message]) -> str:

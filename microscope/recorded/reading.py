@@ -43,7 +43,7 @@ def lives_in(paths: list[str]) -> dict[int, list[Life]]:
 def said_of(merge: Merge) -> Iterator[str]:
     """What was checked, what isn't known and what differs."""
     yield f'{merge.play.events} events; {merge.compared} sends and {merge.stores} stores are those of the records'
-    for rank in sorted(set(range(merge.count)) - set(merge.monitors)):
-        yield f'not known: monitor {rank} has no record'
+    for rank, count in merge.supposed.items():
+        yield f'not known: monitor {rank} has no record' + f'; {count} events of it are supposed, after which it sends what came from it' * bool(count)
     yield from (f'not known: {note}' for note in merge.unknown)
     yield from (f'differs: {note}' for note in merge.differences)
