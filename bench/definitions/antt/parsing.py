@@ -46,7 +46,7 @@ class Parser:
     def next(self) -> Token:
         token = self.here()
         if token.kind == 'end':
-            raise self.fault('the declaration ends too early', token)
+            raise self.fault('the declaration ends too early', self.tokens[self.at - 1])
         self.at += 1
         return token
 
@@ -59,6 +59,8 @@ class Parser:
         return token.text in texts and token.kind in ('sign', 'name')
 
     def eat(self, text: str) -> Token:
+        if self.here().kind == 'end':
+            raise self.fault(f"expected '{text}', and the declaration ends", self.tokens[self.at - 1])
         token = self.next()
         if token.text != text:
             raise self.fault(f"expected '{text}', and '{token.text}' is there", token)
@@ -66,7 +68,7 @@ class Parser:
 
     def name(self) -> str:
         token = self.next()
-        if token.kind != 'name':
+        if token.kind != 'name' or token.text in KEYWORDS:
             raise self.fault(f"expected a name, and '{token.text}' is there", token)
         return token.text
 
@@ -213,7 +215,7 @@ class Parser:
             return nodes.Text(token.line, token.text[1:-1])
         if token.text == 'record':
             return self.record(token.line)
-        if token.kind == 'name':
+        if token.kind == 'name' and token.text not in KEYWORDS:
             return nodes.Name(token.line, token.text)
         if token.text == '[':
             self.eat(']')
