@@ -152,9 +152,10 @@ class Client:
         return self.run(operations.since(self.asker, service, version, self.end(timeout)))
 
     def watch(self, service: str = 'kv', version: int | None = None, *, pause: float = LOOK, timeout: float | None = None) -> Iterator[Change]:
-        """Yields each change of a service's map after this version of it, without end and without a gap. Without a version it begins with the whole map, and
-        it yields one again if the monitors no longer have the changes in between. The monitors are asked every `pause` seconds, and more often while
-        there are more changes. Raises NotServed if none answers within the timeout of one request; a new watch can go on after the last version."""
+        """Yields each change of a service's map after this version of it, without end and without a gap. That is no version of the log, as `set` returns it:
+        `Whole.version` and each change have it. Without a version it begins with the whole map, and it yields one again if the monitors no longer have the
+        changes in between. The monitors are asked every `pause` seconds, and more often while there are more changes. Raises NotServed if none answers
+        within the timeout of one request; a new watch can go on after the last version."""
         for changes in self.batches(service, version, pause=pause, timeout=timeout):
             yield from changes
 

@@ -71,9 +71,14 @@ class Lock:
 
     def acquire(self, timeout: float | None = None) -> int:
         """Waits until it is held, and returns the token. Raises TimedOut if it isn't within these seconds, by default those of the client's requests.
-        Then it may take some seconds more to leave. A holder that died is passed over after some `patience` periods, also of several calls together."""
-        if self.keeper:
-            raise RuntimeError('it is already acquired')
+        Then it may take some seconds more to leave. A holder that died is passed over after some `patience` periods, also of several calls together. A lock
+        that was lost can be acquired again."""
+        if self.keeper and self.contender:
+            if not self.contender.is_lost:
+                raise RuntimeError('it is already acquired')
+            self.keeper.stop()
+            lost, self.keeper, self.contender = self.contender, None, None
+            left_quietly(lost)
         end = ended_at(timeout, self.client.timeout)
         while time.monotonic() < end:
             contender = Contender(Replica(self.client, self.prefix), self.prefix, self.period, self.patience, self.waited)
