@@ -83,7 +83,7 @@ class JsonDoor:
                 if request is None or not await self.answered(request, reader, writer):
                     break
         except Bad as why:
-            await reply(writer, why.status, json.dumps({'error': why.text, 'message': why.text, 'code': 3}), True)
+            await refuse(why, reader, writer)
         except (OSError, asyncio.TimeoutError):
             pass
         finally:
@@ -153,6 +153,21 @@ async def reply(writer: asyncio.StreamWriter, status: int, text: str, is_last: b
     writer.write(head.encode() + body)
     await writer.drain()
     return not is_last
+
+
+async def refuse(why: Bad, reader: asyncio.StreamReader, writer: asyncio.StreamWriter) -> None:
+    """Sends an answer, and takes what the client still sends until it ends the connection. If bytes were left when the connection ends, the client would
+    lose the answer."""
+    async def taken() -> None:
+        await reply(writer, why.status, json.dumps({'error': why.text, 'message': why.text, 'code': 3}), True)
+        if writer.can_write_eof():
+            writer.write_eof()
+        while await reader.read(BODY):
+            pass
+    try:
+        await asyncio.wait_for(taken(), PATIENCE)
+    except (OSError, asyncio.TimeoutError):
+        pass
 
 
 async def serve(gateway: Gateway, gate: Gate, host: str, port: int, context: ssl.SSLContext | None) -> asyncio.AbstractServer:
