@@ -32,11 +32,28 @@ pub(crate) struct Node<V> {
     pub(crate) right: Tree<V>,
 }
 
-/// The order of two keys, byte by byte.
+/// The order of two keys, byte by byte. Most nodes that a look-up passes differ from the key in the first byte, so that
+/// case is inlined.
+#[inline(always)]
 pub(crate) fn compare(a: &[u8], b: &[u8]) -> Ordering
     ensures { result ≡ bytes_cmp a.now b.now }
 {
-    a.iter().cmp(b.iter())
+    if let [x, ..] = a {
+        if let [y, ..] = b {
+            if x != y {
+                return x.cmp(y);
+            }
+        }
+    }
+    compare_all(a, b)
+}
+
+/// The order of two keys, byte by byte. It isn't inlined, so that what compares keys stays small.
+#[inline(never)]
+fn compare_all(a: &[u8], b: &[u8]) -> Ordering
+    ensures { result ≡ bytes_cmp a.now b.now }
+{
+    a.cmp(&b)
 }
 
 impl<V> Tree<V> {
@@ -53,18 +70,19 @@ impl<V> Tree<V> {
         matches!(self, Tree::Leaf)
     }
 
-    /// The value at the key.
+    /// The value at the key. It takes one comparison per node on the way down, and no recursion.
     pub(crate) fn get(&self, key: &[u8]) -> Option<&V>
         ensures { IsInOrder self.now → option_copied result ≡ find bytes_cmp key.now (entries self.now) }
     {
-        match self {
-            Tree::Leaf => None,
-            Tree::Fork(node) => match compare(key, node.key.as_slice()) {
-                Ordering::Less => node.left.get(key),
-                Ordering::Equal => Some(&node.value),
-                Ordering::Greater => node.right.get(key),
-            },
+        let mut tree = self;
+        while let Tree::Fork(node) = tree {
+            match compare(key, node.key.as_slice()) {
+                Ordering::Less => tree = &node.left,
+                Ordering::Equal => return Some(&node.value),
+                Ordering::Greater => tree = &node.right,
+            }
         }
+        None
     }
 }
 
