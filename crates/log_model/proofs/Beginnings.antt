@@ -16,9 +16,6 @@ use Rattle.log_model.proofs.Committed.{texts, shorts, grown}
 use Rattle.log_model.proofs.Logs.{IsPrefixOf, entry_stays, fold_stays, incrementals_stay}
 
 module _ (log : List (List ℕ)) (c : ℕ) (h : c ≤ length log) where
-  abbrev begun : List (List ℕ)
-  begun = take c log
-
   long : length (take c log) ≡ c
   long = length-take-le c log h
 

@@ -82,10 +82,6 @@ learns log fits all c h w K =
 pub shown : (log : List (List ℕ)) → length log ≤ 2 ^ 62 → AllValues log → (c : ℕ) → c ≤ length log → (w : Readings) → Keeps log c w → Shows log c w
 shown log fits all c h w K = shows log c w (omega arith) (holds log fits all c h).chains K.rows
 
--- what a value over such a store makes next
-pub next_in : (log : List (List ℕ)) → length log ≤ 2 ^ 62 → AllValues log → (c : ℕ) → c ≤ length log → c < 2 ^ 62 → (w : Readings) → Keeps log c w → w.last ≡ c → (older : List Op) → (V : IsValue w older) → Next log c V.newer
-next_in log fits all c h room w K at older V = next_at log c room (holds log fits all c h) w K at older V
-
 pub texts : (log : List (List ℕ)) → length log < 2 ^ 62 → AllValues log → (w : Readings) → Keeps log (length log) w → w.last ≡ length log → (value : List Op) → IsValue w value → HasText value
 texts log fits all w K at older V = value_text log (length log) fits (holds log (omega arith) all (length log) (omega arith)) w K at older V
 

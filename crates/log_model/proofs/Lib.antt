@@ -8,15 +8,12 @@ pub mod FoldWindows
 pub mod Holds
 pub mod KeptKeys
 pub mod KvSteps
-pub mod Learned
 pub mod Lists
 pub mod LogSteps
 pub mod Logs
 pub mod MapSteps
 pub mod Older
-pub mod Own
 pub mod Places
-pub mod PutOnce
 pub mod Puts
 pub mod ReadMaps
 pub mod Records

@@ -39,13 +39,3 @@ module _ {log more : List (List ℕ)} (log_prefix : IsPrefixOf log more) where
   unfolding incrementals
   incrementals_stay s zero h = refl
   incrementals_stay s (suc c) h = λ i. incrementals_stay s c (omega arith) i ++ put_in s (ops_in (entry_stays (suc c) h i))
-
--- one more version
-module _ (log : List (List ℕ)) (x : List ℕ) where
-  pub fold_push : fold (log ++ x ∷ []) (suc (length log)) ≡ apply (put area.Paxos (key.Version (suc (length log))) x ∷ ops_in x) (fold log (length log))
-  unfolding fold
-  fold_push = λ i. apply (put area.Paxos (key.Version (suc (length log))) (entry_push log x i) ∷ ops_in (entry_push log x i)) (fold_stays (log_prefix_push log x) (length log) (omega arith) i)
-
-  pub incrementals_push : (s : Service) → incrementals s (log ++ x ∷ []) (suc (length log)) ≡ incrementals s log (length log) ++ put_in s (ops_in x)
-  unfolding incrementals
-  incrementals_push s = λ i. incrementals_stay (log_prefix_push log x) s (length log) (omega arith) i ++ put_in s (ops_in (entry_push log x i))

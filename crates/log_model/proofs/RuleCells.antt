@@ -39,9 +39,6 @@ drops_full (suc k) from v c =
 
 -- ---- the first version of a service, after n versions
 
-pub first_low : (n : ℕ) → 1 ≤ service_from n
-first_low n = omega arith
-
 pub first_high : (n : ℕ) → 1 ≤ n → service_from n ≤ n
 first_high n h = omega arith
 

@@ -1,16 +1,11 @@
 -- What a monitor shares after changes that put none of its own keys.
-use Rattle.std.proofs.Common.{◌≡◌, ℕ, ◌+◌, Bool, true, false, not, cond, ◌||◌, List, None, refl, sym, ap, subst, ◌∙◌}
-use Rattle.std.specs.FinMap.{get, retain_keys, same_map}
+use Rattle.std.proofs.Common.{◌≡◌, ℕ, ◌+◌, Bool, true, false, ◌||◌, refl, subst}
 use Rattle.std.specs.Ordering.{eq_by_cmp}
 use Rattle.mon_tx.specs.declared.key.Area.TheVariants as area
 use Rattle.mon_tx.specs.declared.key.Key.TheVariants as key
-use Rattle.mon_tx.specs.declared.op.Op.{Op}
-use Rattle.mon_tx.specs.Decision.{Cell, decision, or_before}
 use Rattle.mon_tx.specs.Keys.{place, is_local}
-use Rattle.mon_tx.specs.Map.{Place, place_cmp, Store, apply}
-use Rattle.mon_tx.proofs.After.{get-apply}
-use Rattle.mon_tx.proofs.Places.{places_total, exact_places}
-use Rattle.log_model.proofs.Places.{same_place, get_kept, is_shared}
+use Rattle.mon_tx.specs.Map.{Place, place_cmp}
+use Rattle.log_model.proofs.Places.{same_place}
 
 -- P holds of each key that is a monitor's own, if `last` is its last version
 pub record OfOwn (P : Place → Type 0) (last : ℕ) : Type 0 where
@@ -37,22 +32,3 @@ module _ (P : Place → Type 0) where
   of_own last h q =
       or_later _ q _ h.last_committed (or_later _ q _ h.last_pn (or_later _ q _ h.accepted_pn (or_later _ q _ h.pending_v (or_later _ q _ h.pending_pn
       (or_later _ q _ h.behind (or_later _ q _ h.epoch (or_later _ q _ h.boots (or_later _ q _ h.mark (or_later _ q _ h.floor (λ e. absurd cc))))))))))
-
--- changes that leave nothing under some places
-module _ (ops : List Op) (stays : Place → Bool) (gone : (q : Place) → stays q ≡ false → or_before (decision ops q) None ≡ None) (m : Store) where
-  pub kept_apply : retain_keys (apply ops m) stays ≡ apply ops (retain_keys m stays)
-  kept_apply = same_map places_total exact_places _ _ (λ q.
-      get_kept (apply ops m) stays q ∙ ap (λ (c : Cell). cond (stays q) c None) (get-apply ops m q) ∙ by q (stays q) refl
-      ∙ sym (get-apply ops (retain_keys m stays) q ∙ ap (or_before (decision ops q)) (get_kept m stays q)))
-    where
-      by : (q : Place) (b : Bool) → stays q ≡ b → cond b (or_before (decision ops q) (get m q)) None ≡ or_before (decision ops q) (cond b (get m q) None)
-      by q true e = refl
-      by q false e = sym (gone q e)
-
-flipped : (b : Bool) → not b ≡ false → b ≡ true
-flipped true e = refl
-flipped false e = absurd cc
-
--- changes that put none of a monitor's own keys
-pub shared_apply : (ops : List Op) (last : ℕ) → OfOwn (λ q. or_before (decision ops q) None ≡ None) last → (m : Store) → retain_keys (apply ops m) (is_shared last) ≡ apply ops (retain_keys m (is_shared last))
-shared_apply ops last h m = kept_apply ops (is_shared last) (λ q e. of_own (λ q. or_before (decision ops q) None ≡ None) last h q (flipped (is_local last q) e)) m
