@@ -1,6 +1,6 @@
--- What a set in the order of insertion does to a list, as the clients of a link say it.
-use Rattle.std.proofs.Common.{◌≡◌, ℕ, ◌+◌, ◌-◌, ◌%◌, ◌<◌, ◌≤◌, Bool, true, false, List, [], ◌∷◌, ◌++◌, length, take, slice_get, slice_set, Option, Some, None, IfSome, refl, sym, ap, ◌∙◌, subst, arith, inl, inr}
-use Rattle.std.specs.Prelude.{swap_remove}
+-- What a set in the order of insertion does to a list, and the hand to the ring, as the clients of a link say it.
+use Rattle.std.proofs.Common.{◌≡◌, ℕ, suc, ◌+◌, ◌-◌, ◌<◌, ◌≤◌, Bool, true, false, not, List, [], ◌∷◌, ◌++◌, length, take, slice_get, slice_set, Option, Some, None, IfSome, refl, sym, ap, ◌∙◌, subst, arith, inl, inr}
+use Rattle.std.specs.Prelude.{swap_remove, slice_index_or}
 use Rattle.std.specs.List.{list_any, position_or_len}
 use Rattle.std.specs.declared.net.socket_addr.SocketAddr.{SocketAddr}
 use Rattle.std.proofs.Math.Numerals.{one-add}
@@ -9,7 +9,8 @@ use Rattle.std.proofs.lemmas.Bool.{cases_Bool, lt-ltb, le-ltb, both_ways}
 use Rattle.std.proofs.lemmas.List.{get_or-set_same, length-append, length-set, set-append_left}
 use Rattle.std.proofs.lemmas.Option.{none-some, slice_get_cases, slice_get_read}
 use Rattle.indexmap.specs.IndexSet.{insert_key}
-use Rattle.mon_link.specs.Clients.{MOST_CLIENTS, same_address, seen}
+use Rattle.mon_link.specs.declared.clients.Ring.{Ring}
+use Rattle.mon_link.specs.Clients.{MOST_CLIENTS, same_address, next, seen, stopped}
 
 module _ {X : Type 0} (p : X → Bool) where
   absent_last : (xs : List X) → list_any p xs ≡ false → position_or_len p xs ≡ length xs
@@ -43,24 +44,52 @@ takes_place xs x d i h =
     rw (one_more, get_or-append_seam xs x [] d, set-append_left xs (x ∷ []) i x h)
     (subst (λ n. take n (slice_set xs i x ++ x ∷ []) ≡ slice_set xs i x) (length-set xs i x) (take-append_seam (slice_set xs i x) (x ∷ [])))
 
-module _ (a : SocketAddr) (ks : List SocketAddr) (most : length ks ≤ MOST_CLIENTS) where
-  -- an address that is known, or that gets the next number
-  pub seen_within : (oldest : ℕ) → position_or_len (same_address a) ks < MOST_CLIENTS → record { addresses = insert_key same_address ks a; oldest = oldest } ≡ seen a (record { addresses = ks; oldest = oldest })
-  seen_within oldest h =
-      elim (cases_Bool (list_any (same_address a) ks)) [
-        | inl known ↦ rw known refl
-        | inr new ↦ rw (new, lt-ltb (length ks) MOST_CLIENTS (omega (arith, absent_last (same_address a) ks new))) refl
-      ]
+-- the hand passes a number with a mark
+pub passes : (count i : ℕ) (marks : List Bool) (hand : ℕ) (total : Ring) → i < count → slice_index_or marks hand false ≡ true → stopped (count - i) (record { marks = marks; hand = hand }) ≡ total
+    → stopped (count - (i + 1)) (record { marks = slice_set marks hand false; hand = next hand }) ≡ total
+unfolding stopped
+passes count i marks hand total lt marked so_far =
+    let more : count - i ≡ suc (count - (i + 1)) = omega arith in
+    let one : stopped (count - i) (record { marks = marks; hand = hand }) ≡ stopped (count - (i + 1)) (record { marks = slice_set marks hand false; hand = next hand }) =
+    rw (more, marked) refl in
+    sym one ∙ so_far
 
-  pub most_within : position_or_len (same_address a) ks < MOST_CLIENTS → length (insert_key same_address ks a) ≤ MOST_CLIENTS
-  most_within h =
-      elim (cases_Bool (list_any (same_address a) ks)) [
-        | inl known ↦ rw known most
-        | inr new ↦ rw new (omega (arith, length-append ks (a ∷ []), absent_last (same_address a) ks new))
-      ]
+-- the hand stops at a number without a mark
+pub stops : (count i : ℕ) (marks : List Bool) (hand : ℕ) (total : Ring) → i < count → slice_index_or marks hand false ≡ false → stopped (count - i) (record { marks = marks; hand = hand }) ≡ total
+    → record { marks = marks; hand = hand } ≡ total
+unfolding stopped
+stops count i marks hand total lt free so_far =
+    let more : count - i ≡ suc (count - (i + 1)) = omega arith in
+    let one : stopped (count - i) (record { marks = marks; hand = hand }) ≡ record { marks = marks; hand = hand } = rw (more, free) refl in
+    sym one ∙ so_far
+
+-- the hand came round
+pub came_round : (count i : ℕ) (ring total : Ring) → count ≤ i → stopped (count - i) ring ≡ total → ring ≡ total
+unfolding stopped
+came_round count i ring total le so_far =
+    let none : count - i ≡ 0 = omega arith in
+    let last : stopped (count - i) ring ≡ ring = rw none refl in
+    sym last ∙ so_far
+
+-- an address that isn't known
+pub is_absent : {X : Type 0} (p : X → Bool) (xs : List X) (is_new : Bool) → is_new ≡ not (list_any p xs) → is_new ≡ true → list_any p xs ≡ false
+is_absent p xs is_new added new =
+    elim (cases_Bool (list_any p xs)) [
+      | inl known ↦ absurd (both_ways is_new (added ∙ rw known refl) new)
+      | inr absent ↦ absent
+    ]
+
+module _ (a : SocketAddr) (ks : List SocketAddr) (most : length ks ≤ MOST_CLIENTS) where
+  -- an address that gets the next number
+  pub seen_within : (ring : Ring) → list_any (same_address a) ks ≡ false → position_or_len (same_address a) ks < MOST_CLIENTS
+      → record { addresses = insert_key same_address ks a; ring = ring } ≡ seen a (record { addresses = ks; ring = ring })
+  seen_within ring new h = rw (new, lt-ltb (length ks) MOST_CLIENTS (omega (arith, absent_last (same_address a) ks new))) refl
+
+  pub most_within : list_any (same_address a) ks ≡ false → position_or_len (same_address a) ks < MOST_CLIENTS → length (insert_key same_address ks a) ≤ MOST_CLIENTS
+  most_within new h = rw new (omega (arith, length-append ks (a ∷ []), absent_last (same_address a) ks new))
 
   module _ (i : ℕ) (within : i < MOST_CLIENTS) (past : MOST_CLIENTS ≤ position_or_len (same_address a) ks) where
-    -- an address that gets the number of the oldest
+    -- an address that gets the number at which the hand stopped
     pub replaces : (gone : Option SocketAddr) (new : List SocketAddr) → gone ≡ slice_get (insert_key same_address ks a) i → IfSome gone (λ d. new ≡ swap_remove (insert_key same_address ks a) i d) → new ≡ slice_set ks i a
     replaces (Some d) new e h =
         let full = beyond (same_address a) ks MOST_CLIENTS most past in
@@ -73,10 +102,11 @@ module _ (a : SocketAddr) (ks : List SocketAddr) (most : length ks ≤ MOST_CLIE
           | inr out ↦ absurd (omega (arith, out.0, ap length keys, length-append ks (a ∷ [])))
         ]
 
-    pub seen_beyond : (new : List SocketAddr) → new ≡ slice_set ks i a → record { addresses = new; oldest = (i + 1) % MOST_CLIENTS } ≡ seen a (record { addresses = ks; oldest = i })
-    seen_beyond new e =
+    pub seen_beyond : (ring after : Ring) (new : List SocketAddr) → after ≡ stopped MOST_CLIENTS ring → after.hand ≡ i → new ≡ slice_set ks i a
+        → record { addresses = new; ring = record { marks = after.marks; hand = next i } } ≡ seen a (record { addresses = ks; ring = ring })
+    seen_beyond ring after new stop at e =
         let full = beyond (same_address a) ks MOST_CLIENTS most past in
-        rw (full.0, le-ltb (length ks) MOST_CLIENTS (omega arith), e) refl
+        rw (full.0, le-ltb (length ks) MOST_CLIENTS (omega arith), e, ← at, stop) refl
 
     pub most_beyond : (new : List SocketAddr) → new ≡ slice_set ks i a → length new ≤ MOST_CLIENTS
     most_beyond new e = omega (arith, ap length e, length-set ks i a)

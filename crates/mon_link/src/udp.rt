@@ -52,7 +52,8 @@ impl Address {
 }
 
 /// A socket for datagrams. What comes from a monitor's address comes from that monitor, and what comes from any other
-/// one from a client: the newest 1,024 of these addresses are the clients 0 to 1,023.
+/// one from a client. 1,024 of these addresses are the clients 0 to 1,023. If all numbers are taken, a new address takes
+/// that of another.
 #[derive(Drop)]
 pub struct UdpLink<R: Net + Copy> {
     rt: R,

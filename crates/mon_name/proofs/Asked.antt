@@ -12,7 +12,7 @@ use Rattle.mon_name.specs.Naming.{HandsOn, IsOpened, is_foreign}
 use Rattle.mon_name.specs.declared.named.TheConstants.{MOST_FOREIGN}
 use Rattle.mon_name.proofs.Past.{foreign_idle}
 
--- So many foreign datagrams came, and the next wait is `rest`.
+-- `count` foreign datagrams came, and the next wait is `rest`.
 pub record CameForeign (tag wait rest count : ℕ) (calls : List Happened) : Type 0 where
   pub past : List (Result Got Stop)
   pub are : calls ≡ asked wait past
