@@ -136,27 +136,7 @@ module _ (log : List (List ℕ)) (fits : length log ≤ 2 ^ 62) (all : AllValues
     heard f t (body.Chunk cookie p values entries done) y h e = takes_chunk log fits all me before floor m s now f cookie p values entries done y h e I
     heard f t (body.LastChunk cookie p values entries last) y h e = takes_last log fits all me before floor m s now f cookie p values entries last y h e I
     heard f t (body.ProbeReply quorum first last) y h e = probe_reply f quorum first last y e
-    heard f t body.Probe y h e = other f t body.Probe y tt e
-    heard f t (body.Propose table) y h e = other f t (body.Propose table) y tt e
-    heard f t body.Ack y h e = other f t body.Ack y tt e
-    heard f t (body.Victory quorum) y h e = other f t (body.Victory quorum) y tt e
-    heard f t (body.Collect pn first own) y h e = other f t (body.Collect pn first own) y tt e
-    heard f t (body.Last pn first own whole from values pending) y h e = other f t (body.Last pn first own whole from values pending) y tt e
-    heard f t (body.Begin pn v value) y h e = other f t (body.Begin pn v value) y tt e
-    heard f t (body.Accept pn v) y h e = other f t (body.Accept pn v) y tt e
-    heard f t (body.Commit from values) y h e = other f t (body.Commit from values) y tt e
-    heard f t (body.Lease own) y h e = other f t (body.Lease own) y tt e
-    heard f t (body.LeaseAck own) y h e = other f t (body.LeaseAck own) y tt e
-    heard f t (body.Forward seq c) y h e = other f t (body.Forward seq c) y tt e
-    heard f t (body.Route seq r) y h e = other f t (body.Route seq r) y tt e
-    heard f t body.GetCookieFull y h e = other f t body.GetCookieFull y tt e
-    heard f t (body.GetCookieRecent own) y h e = other f t (body.GetCookieRecent own) y tt e
-    heard f t (body.GetChunk cookie p) y h e = other f t (body.GetChunk cookie p) y tt e
-    heard f t (body.NoCookie cookie) y h e = other f t (body.NoCookie cookie) y tt e
-    heard f t (body.Ping table) y h e = other f t (body.Ping table) y tt e
-    heard f t (body.PingReply table) y h e = other f t (body.PingReply table) y tt e
-    heard f t (body.Request id r) y h e = other f t (body.Request id r) y tt e
-    heard f t (body.Reply id r) y h e = other f t (body.Reply id r) y tt e
+    heard f t rest y h e = other f t rest y tt e
 
     delivered : (d : Message) (y : Course) → BodyOf log d.body → deliver me shared now d x0 ≡ Ok y → Stands log before floor (written m y) y.state
     delivered d y h = by (is_heard me d)
@@ -175,16 +155,7 @@ module _ (log : List (List ℕ)) (fits : length log ≤ 2 ^ 62) (all : AllValues
 
     rung : (t : Timer) (y : Course) → timer_comes me now t (disarm t x0) ≡ Ok y → Stands log before floor (written m y) y.state
     rung timer.Step y e = step y e
-    rung timer.Probe y e = other_timer timer.Probe y tt e
-    rung timer.Election y e = other_timer timer.Election y tt e
-    rung timer.Collect y e = other_timer timer.Collect y tt e
-    rung timer.Accept y e = other_timer timer.Accept y tt e
-    rung timer.Renew y e = other_timer timer.Renew y tt e
-    rung timer.LeaseAck y e = other_timer timer.LeaseAck y tt e
-    rung timer.Lease y e = other_timer timer.Lease y tt e
-    rung timer.Sync y e = other_timer timer.Sync y tt e
-    rung timer.Propose y e = other_timer timer.Propose y tt e
-    rung timer.Ping y e = other_timer timer.Ping y tt e
+    rung rest y e = other_timer rest y tt e
 
     takes_timer : (t : Timer) (y : Course) → take_timer me now t x0 ≡ Ok y → Stands log before floor (written m y) y.state
     takes_timer t y = by (is_some (end_of t s.timers))

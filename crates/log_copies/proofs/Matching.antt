@@ -26,7 +26,7 @@ use Rattle.log_model.specs.LogOfValues.{AllValues}
 use Rattle.log_model.specs.Windows.{log_from, within, service_from, first_read, Keeps, Shows}
 use Rattle.log_model.proofs.Committed.{ops_again, keeps, keeps_shared, shown_shared}
 use Rattle.log_model.proofs.Logs.{IsPrefixOf, incrementals_stay}
-use Rattle.log_model.proofs.Records.{IsVersion, AreVersions, value_has_text, run_versions, run_from_length, keeps_held}
+use Rattle.log_model.proofs.Records.{IsVersion, AreVersions, value_has_text, run_versions, keeps_held}
 use Rattle.log_model.proofs.RowReadings.{read_some}
 use Rattle.log_model.proofs.LongestPrefix.{longest_is_prefix, others_remain}
 
@@ -94,10 +94,6 @@ module _ (log : List (List ℕ)) (fits : length log ≤ 2 ^ 62) (all : AllValues
       by (inr within) =
           run_versions log fits all (λ u. cell m area.Paxos (key.Version u)) (suc c - suc v) v (let w = V.within in omega arith)
           (λ u from to. keeps_held log fits all c (readings_of m) monitor_keeps (suc u) (omega arith))
-
-  -- and how many these are at most
-  pub run_short : (v : ℕ) → length (run_from (readings_of m).record_of c (suc v)) ≤ c - v
-  run_short v = run_from_length (readings_of m).record_of c v
 
   -- ---- services
 

@@ -1,18 +1,16 @@
 -- Which keys are a monitor's own whichever its last version is.
-use Rattle.std.proofs.Common.{◌≡◌, ℕ, ◌+◌, true, false, ◌&&◌, List, None, ◌⊎◌, inl, inr, refl, sym, ap, ◌∙◌, arith}
+use Rattle.std.proofs.Common.{◌≡◌, ℕ, ◌+◌, true, false, ◌&&◌, ◌⊎◌, inl, inr, refl, sym, ap, ◌∙◌, arith}
 use Rattle.std.proofs.lemmas.Bool.{and_parts, cases_eq, ne_eqb}
 use Rattle.mon_tx.specs.declared.key.Area.{Area}
 use Rattle.mon_tx.specs.declared.key.Area.TheVariants as area
 use Rattle.mon_tx.specs.declared.key.Key.{Key}
 use Rattle.mon_tx.specs.declared.key.Key.TheVariants as key
-use Rattle.mon_tx.specs.declared.op.Op.{Op}
-use Rattle.mon_tx.specs.Decision.{decision}
 use Rattle.mon_tx.specs.Keys.{place, is_local}
 use Rattle.mon_tx.specs.Map.{Place}
 use Rattle.log_copies.specs.Copies.{is_own}
 use Rattle.log_model.proofs.Places.{local_named, tied}
 use Rattle.log_model.proofs.Sharing.{of_own}
-use Rattle.log_model.proofs.Spares.{Spares, is_number, at_name}
+use Rattle.log_model.proofs.Spares.{is_number}
 
 pub own_named : (a : Area) (k : Key) → is_own (place a k) ≡ (tied 0 a k && tied 1 a k)
 own_named a k = λ i. local_named 0 a k i && local_named 1 a k i
@@ -61,7 +59,3 @@ own_number a k t = own_named a k ∙ (λ i. number_is_local 0 a k t i && number_
 -- they are its own with each last version
 pub own_local : (last : ℕ) (at : Place) → is_own at ≡ true → is_local last at ≡ true
 own_local last = of_numbers (λ q. is_local last q ≡ true) (λ a k t. local_named last a k ∙ number_is_local last a k t)
-
--- changes that leave a monitor's own numbers decide nothing of a key that is its own
-pub own_undecided : (ops : List Op) → Spares ops → (at : Place) → is_own at ≡ true → decision ops at ≡ None
-own_undecided ops s = of_numbers (λ q. decision ops q ≡ None) (λ a k t. at_name ops s a k t)

@@ -29,9 +29,6 @@ use Rattle.log_model.proofs.FoldKeys.{kept_is}
 use Rattle.log_model.proofs.Places.{same_place, get_kept, is_shared, shared_is}
 use Rattle.log_model.proofs.Sharing.{of_own}
 
-pub empty_shaped : IsShaped empty
-empty_shaped at shared out = get-empty place_cmp at
-
 -- ---- changes that keep the shape
 
 abbrev pub PutsShaped : Op → Type 0

@@ -10,8 +10,6 @@ use Rattle.mon_wire.specs.declared.body.Body.TheVariants as body
 use Rattle.mon_wire.specs.declared.phase.Phase.TheVariants as phase
 use Rattle.mon_msg.specs.declared.input.Input.{Input}
 use Rattle.mon_msg.specs.declared.input.Input.TheVariants as input
-use Rattle.mon_msg.specs.declared.plan.Sent.{Sent}
-use Rattle.mon_msg.specs.declared.plan.Sent.TheVariants as sent
 use Rattle.mon_msg.specs.declared.view.Me.{Me}
 use Rattle.mon_msg.specs.Protocol.Course.{Course}
 use Rattle.mon_msg.specs.Protocol.Elections.{is_whole}
@@ -29,7 +27,7 @@ use Rattle.log_copies.proofs.Asking.{asks_only}
 use Rattle.log_copies.proofs.Events.{BodyOf, InputOf, marked_is, marked_shaped, reacts}
 use Rattle.log_copies.proofs.Growing.{versions_stay, chunk_stays, marked_stays}
 use Rattle.log_copies.proofs.Rows.{HasOthers}
-use Rattle.log_copies.proofs.Sending.{ToldOf, ReplyMatches, BodyMatches, SentMatches, AllMatch}
+use Rattle.log_copies.proofs.Sending.{ToldOf, ReplyMatches, BodyMatches, AllMatch}
 use Rattle.mon_wire.specs.declared.reply.Reply.{Reply}
 use Rattle.mon_wire.specs.declared.reply.Reply.TheVariants as reply
 use Rattle.log_copies.proofs.Matching.{told_stays, read_last, one_within}
@@ -183,7 +181,3 @@ module _ {log more : List (List ℕ)} (F : IsPrefixOf log more) where
   body_stays (body.Chunk cookie p values entries end) h = chunk_stays F (body.Chunk cookie p values entries end) h
   body_stays (body.LastChunk cookie p values entries last) h = chunk_stays F (body.LastChunk cookie p values entries last) h
   body_stays other h = tt
-
-  pub sent_stays : (x : Sent) → SentMatches log x → SentMatches more x
-  sent_stays (sent.Message to m) h = body_stays m.body h
-  sent_stays (sent.Reply session r) h = reply_stays r h

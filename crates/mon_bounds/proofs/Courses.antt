@@ -172,9 +172,6 @@ module _ (me : Me) where
     pub leading : (more : Leader) → Keeps p l e q c s → IsPlaced me.member.monitors p more → IsLeader me.member.monitors more → Keeps p more e q c s
     leading more K a h = record { placed = a; leader = h; others = K.others }
 
-    pub placing : (at : Phase) → Keeps p l e q c s → IsPlaced me.member.monitors at l → Keeps at l e q c s
-    placing at K a = record { placed = a; leader = K.leader; others = K.others }
-
     pub electing : (more : Elector) → Keeps p l e q c s → IsElector me.member.monitors me.member.rank more → Keeps p l more q c s
     electing more K h = let O = K.others in record { placed = K.placed; leader = K.leader; others = record { elector = h; peon = O.peon; clients = O.clients; requester = O.requester } }
 

@@ -28,7 +28,7 @@ use Rattle.mon_types.specs.declared.names.Which.TheVariants as which
 use Rattle.mon_types.specs.declared.names.Which.{Which}
 use Rattle.mon_wire.specs.Message.Bodies.{encoded}
 use Rattle.mon_wire.specs.Message.Parts as parts
-use Rattle.mon_wire.specs.Message.PartLengths.{told_length, value_length}
+use Rattle.mon_wire.specs.Message.PartLengths.{value_length}
 use Rattle.mon_wire.specs.declared.body.Body.TheVariants as body
 use Rattle.mon_wire.specs.declared.parts.Told.{Told}
 use Rattle.mon_wire.specs.declared.phase.Phase.TheVariants as phase
@@ -104,10 +104,6 @@ module _ (me : Me) (now : ℕ) where
   told_of_form : (t : Option Told) → (parts.optional parts.told).Form t → said.IsTold me t
   told_of_form None h = tt
   told_of_form (Some t) h = h
-
-  told_part : (t : Option Told) → 1 ≤ told_length t
-  told_part None = omega arith
-  told_part (Some t) = omega arith
 
   pub hear_last_ok : (f e : ℕ) (pn first last : ℕ) (whole : Bool) (from : ℕ) (values : List (List Op)) (t : Option Told) (x : Course) → eqb f me.member.rank ≡ false → f < n
       → (encoded n f (body.Last pn first last whole from values t)).Form → fits n (body.Last pn first last whole from values t) ≡ true → Under me 0 x

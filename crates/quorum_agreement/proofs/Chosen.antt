@@ -8,8 +8,7 @@ use Rattle.mon_msg.specs.Protocol.Records.{transaction_in}
 use Rattle.mon_tx.specs.Text.{text}
 use Rattle.mon_tx.specs.declared.op.Op.{Op}
 use Rattle.mon_types.specs.Ranks.{has, is_majority}
-use Rattle.quorum_history.proofs.Frame.{accepted_lasts}
-use Rattle.quorum_history.proofs.History.{Accepted, Ext, Ghost, TriplesHold}
+use Rattle.quorum_history.proofs.History.{Accepted, Ghost, TriplesHold}
 use Rattle.quorum_walk.proofs.Ranks.{Below, majorities}
 use Rattle.std.proofs.Common.{Bool, List, Some, [], ap, arith, false, inl, inr, length, refl, subst, suc, sym, true, ℕ, ◌++◌, ◌<◌, ◌^◌, ◌∙◌, ◌∷◌, ◌≡◌, ◌≤◌, ◌⊎◌}
 use Rattle.std.proofs.lemmas.Bool.{cases_order, false≢true}
@@ -60,9 +59,6 @@ module _ (n : ℕ) (g : Ghost) (T : TriplesHold n g.signs g.accepts) where
       by (inr (inl lt)) = lower v x y a b lt (same_text x y)
       by (inr (inr lt)) = sym (lower v y x b a lt (same_text y x))
 
-pub chosen_lasts : (n i : ℕ) (g h : Ghost) → Ext i g h → (v : ℕ) (x : List Op) → Chosen n g v x → Chosen n h v x
-chosen_lasts n i g h E v x a = record { pn = a.pn; by = a.by; major = a.major; below = a.below; all = λ m k. accepted_lasts i g h E m v a.pn x (a.all m k) }
-
 -- ---- the log
 
 -- each entry of the log encodes a value that was chosen for its version
@@ -73,9 +69,6 @@ pub record IsEntry (n : ℕ) (g : Ghost) (log : List (List ℕ)) (v : ℕ) : Typ
 
 abbrev pub AllChosen : ℕ → Ghost → List (List ℕ) → Type 0
 AllChosen n g log = (v : ℕ) → v < length log → IsEntry n g log (suc v)
-
-pub all_last : (n i : ℕ) (g h : Ghost) → Ext i g h → (log : List (List ℕ)) → AllChosen n g log → AllChosen n h log
-all_last n i g h E log A v lt = let e = A v lt in record { x = e.x; chosen = chosen_lasts n i g h E (suc v) e.x e.chosen; encodes = e.encodes }
 
 module _ (n : ℕ) (g : Ghost) (T : TriplesHold n g.signs g.accepts) (log : List (List ℕ)) (A : AllChosen n g log) where
   -- what is chosen for a version that the log has is the log's
