@@ -30,7 +30,6 @@ use Rattle.mon_wire.specs.declared.body.Body.TheVariants as body
 use Rattle.mon_wire.specs.declared.body.Body.{Body}
 use Rattle.mon_wire.specs.declared.phase.Phase.TheVariants as phase
 use Rattle.mon_wire.specs.declared.phase.Phase.{Phase}
-use Rattle.mon_wire.specs.declared.phase.Timer.TheVariants as timer
 use Rattle.mon_wire.specs.declared.phase.Timer.{Timer}
 use Rattle.mon_wire.specs.declared.reply.Reply.TheVariants as reply
 use Rattle.mon_wire.specs.declared.reply.Reply.{Reply}
@@ -38,7 +37,8 @@ use Rattle.mon_wire.specs.declared.request.Session.{Session}
 use Rattle.quorum_commands.proofs.Sends.{HandsNone}
 use Rattle.quorum_commands.specs.Unmade.{AcknowledgesNone}
 use Rattle.quorum_history.proofs.Phases.{no}
-use Rattle.std.proofs.Common.{Bool, List, None, Option, Some, [], ap, arith, eqb, false, inl, inr, ltb, map, not, refl, subst, suc, sym, true, ℕ, ◌++◌, ◌<◌, ◌∙◌, ◌∷◌, ◌≡◌, ◌⊎◌}
+use Rattle.quorum_history.proofs.Rows.{body_brings, brings}
+use Rattle.std.proofs.Common.{List, None, Option, Some, [], ap, arith, eqb, false, inl, inr, ltb, map, not, refl, subst, suc, sym, true, ℕ, ◌++◌, ◌<◌, ◌∙◌, ◌∷◌, ◌≡◌, ◌⊎◌}
 use Rattle.std.proofs.lemmas.Bool.{cond_both, eqb-false, eqb-true, not-true}
 use Rattle.std.specs.List.{AllByRecursion, filter}
 use Rattle.table_walk.proofs.Acts.{acts_of}
@@ -46,22 +46,6 @@ use Rattle.table_walk.proofs.Lists.{Among, all_append, all_map, all_of}
 use Rattle.table_walk.proofs.Steps.{ActSteps, FoundOf, HeardFrom, HeardLast, InHand, IsOwn, MayAnswer, MayCopy, MayLead, MayLearn, MayRaise, MaySay, MaySend, MayTell, MayWrite, Nothing, Steps, ValueOf, accepted_by_all, alone, brought, chosen, copied_chunk, copied_last_chunk, from_chunk, from_commit, from_last, from_last_chunk, leads_still, only_member, stood, unserved}
 use Rattle.table_walk.proofs.Table.{walked}
 use Rattle.table_walk.proofs.Walk.{Then, and_three}
-
--- ---- which input may bring a command
-
-abbrev pub body_brings : Body → Bool
-body_brings (body.Forward seq c) = true
-body_brings other = false
-
-abbrev pub timer_brings : Timer → Bool
-timer_brings timer.Propose = true
-timer_brings other = false
-
-abbrev pub brings : Input → Bool
-brings input.Start = false
-brings (input.Deliver m) = body_brings m.body
-brings (input.Timer t) = timer_brings t
-brings (input.Client t r) = true
 
 -- those that wait, and those that were taken of peons, are the same
 abbrev pub SameClients : Clients → Clients → Type 0

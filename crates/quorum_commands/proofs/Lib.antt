@@ -4,7 +4,6 @@ pub mod Coming
 pub mod Exchange
 pub mod Idle
 pub mod Places
-pub mod Repeating
 pub mod Runs
 pub mod Sends
 pub mod Sources

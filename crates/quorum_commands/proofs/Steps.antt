@@ -33,16 +33,15 @@ use Rattle.quorum_agreement.proofs.Premises.{requests_in}
 use Rattle.quorum_agreement.proofs.Result.{OneLog}
 use Rattle.quorum_commands.proofs.Coming.{Brought, Does, leads_unmarked, me, next, phase_holds, versions}
 use Rattle.quorum_commands.proofs.Sends.{AllOther, HandsNone, IsCalm, IsOther, others_calm}
-use Rattle.quorum_commands.proofs.Idle.{AllFair, Alone, Idle, IsFair, Leads, SameClients, brings}
+use Rattle.quorum_commands.proofs.Idle.{AllFair, Alone, Idle, IsFair, Leads, SameClients}
 use Rattle.quorum_commands.proofs.Places.{AllWait, AskedAt, HasOwn, IsAt, IsForwarded, MadeAt, MadeOf, Moves, Place, Places, Nowhere, Handed, Queued, Begun, StillAt, Tickets, Waits, is_moved, moved_to, moves, own_lasts, wait_last, wait_push, was_there}
-use Rattle.quorum_commands.proofs.Repeating.{AllKnown, FitsIn, repeats}
 use Rattle.quorum_commands.proofs.Sources as sources
 use Rattle.quorum_commands.proofs.Sources.{HasAsker, SettledBy, asks_longer, asks_more}
 use Rattle.quorum_commands.proofs.Taking.{Becomes, Commits, Hands, Outcome, Proposes, Takes, TakesNone}
 use Rattle.quorum_history.proofs.History.{ext_refl}
 use Rattle.quorum_history.proofs.Holds.{Core, FollowsIn, Good, InPhase, StageHolds, core_of}
 use Rattle.quorum_history.proofs.Phases.{electing_is, no, peon_is_peon, votes_in_odd}
-use Rattle.quorum_history.proofs.Rows.{InputHolds}
+use Rattle.quorum_history.proofs.Rows.{HasForm, InputHolds, brings, reacts_plain}
 use Rattle.quorum_history.proofs.Steps.{tied_refl}
 use Rattle.quorum_laws.proofs.Invariant.{InvOf}
 use Rattle.quorum_laws.proofs.Later.{Stays, is_in}
@@ -271,14 +270,16 @@ module _ (ms : Monitors) (w : World) (p : Plain) (I : InvOf ms w) (L : OneLog ms
     input_holds (input.Timer t) b none = tt
     input_holds (input.Client t r) b none = no (sym none)
 
-    fits_in : (came : Input) → Brought ms w p i came → FitsIn self d.at I.g Known w0 d.state good came
+    fits_in : (came : Input) → Brought ms w p i came → HasForm came
     fits_in input.Start b = tt
     fits_in (input.Deliver m) b = (sources.said ms w p I places T d m b).1
     fits_in (input.Timer t) b = tt
     fits_in (input.Client t r) b = tt
 
     repeated : brings d.came ≡ false → (v q : ℕ) (x : List Op) → Among (Vote v q x) d.y.changes → Known v x
-    repeated none = (subst (Then (AllKnown self d.at I.g Known w0 d.state good)) d.is (repeats self d.at I.g Known w0 d.state good several (shared_entries (w.store i)) d.came none (input_holds d.came d.brought none) (I.mine i).fine.records (fits_in d.came d.brought))).holds
+    repeated none v q x a =
+        let B = (subst (Then (Good self I.g Known)) d.is (reacts_plain self d.at I.g Known (shared_entries (w.store i)) w0 d.state d.came none (input_holds d.came d.brought none) (fits_in d.came d.brought) (I.mine i).fine.records good)).holds in
+        B.known self.member.rank v q x (B.tied.votes v q x a)
 
   alone : n ≡ 1 → Alone self d.at w0 d.state Settled
   unfolding pending_of

@@ -50,9 +50,10 @@ use Rattle.mon_wire.specs.declared.request.Request.{Request}
 use Rattle.mon_wire.specs.declared.request.Session.{Session}
 use Rattle.quorum_agreement.proofs.Accepting.{then_map}
 use Rattle.quorum_agreement.proofs.Lone.{active_is}
-use Rattle.quorum_commands.proofs.Idle.{AllFair, BodyReturns, Heard, Idle, Returns, body_brings, brings, idles, says, timer_brings}
+use Rattle.quorum_commands.proofs.Idle.{AllFair, BodyReturns, Heard, Idle, Returns, idles, says}
 use Rattle.quorum_commands.proofs.Sends.{AllOther, IsOther}
 use Rattle.quorum_history.proofs.Phases.{any_leads, no}
+use Rattle.quorum_history.proofs.Rows.{body_brings, brings, timer_brings}
 use Rattle.std.proofs.Common.{Bool, Err, List, Ok, Option, Result, Some, [], ap, eqb, false, inl, inr, leb, length, ltb, not, refl, subst, suc, sym, true, ℕ, ◌&&◌, ◌++◌, ◌<◌, ◌∙◌, ◌∷◌, ◌≡◌, ◌⊎◌}
 use Rattle.std.proofs.lemmas.Bool.{and_parts, eqb-false, eqb-true, not-false, not-true}
 use Rattle.std.specs.Prelude.{is_some, slice_index_or, slice_set}

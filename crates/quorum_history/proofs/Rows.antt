@@ -29,13 +29,14 @@ use Rattle.quorum_history.proofs.ActsElections.{bootstrap_holds}
 use Rattle.quorum_history.proofs.ActsLeading.{sound}
 use Rattle.quorum_history.proofs.History.{ALevel, ANumber, APromise, AnEpoch, Ghost, Rising}
 use Rattle.quorum_history.proofs.Holds.{BodyHolds, Good, Kept, MessageHolds, Nothing, Sound, With, number_of}
+use Rattle.quorum_history.proofs.Phases.{no}
 use Rattle.quorum_history.proofs.RowsClients.{IsAsked, Makes, hear_client_holds, hear_forward_holds, hear_route_holds, propose_due_holds, replies}
 use Rattle.quorum_history.proofs.RowsElections.{election_ends_holds, hear_ack_holds, hear_probe_holds, hear_probe_reply_holds, hear_propose_holds, hear_victory_holds}
 use Rattle.quorum_history.proofs.RowsLeader.{hear_accept_holds, hear_last_holds, hear_lease_ack_holds, renew_holds}
 use Rattle.quorum_history.proofs.RowsPeon.{hear_begin_holds, hear_collect_holds, hear_commit_holds, hear_lease_holds}
 use Rattle.quorum_history.proofs.RowsSync.{anew_holds, hear_chunk_holds, hear_cookie_holds, hear_get_chunk_holds, hear_get_cookie_full_holds, hear_get_cookie_recent_holds, hear_last_chunk_holds, hear_no_cookie_holds, replay_step_holds}
 use Rattle.quorum_history.proofs.Steps.{moves, rises, tells, tells_each}
-use Rattle.quorum_walk.proofs.FineCourses.{still, BodyFine, EntryFine, Fine, Made, MessageFine}
+use Rattle.quorum_walk.proofs.FineCourses.{still, BodyFine, EntryFine, Fine, Made, MessageFine, RecordsFine}
 use Rattle.quorum_walk.proofs.FineTable.{ComesFine}
 use Rattle.quorum_walk.proofs.Sparing.{Copied, own_of}
 use Rattle.quorum_walk.proofs.Walk.{Then, by_test, done, where_fits}
@@ -51,6 +52,26 @@ InputHolds me g input.Start = Unit {0}
 InputHolds me g (input.Deliver m) = (m.from < me.member.monitors) × MessageHolds g me.member.rank m
 InputHolds me g (input.Timer t) = Unit {0}
 InputHolds me g (input.Client s r) = IsAsked g me.member.rank s r
+
+-- which input may bring a command
+abbrev pub body_brings : Body → Bool
+body_brings (body.Forward seq c) = true
+body_brings other = false
+
+abbrev pub timer_brings : Timer → Bool
+timer_brings timer.Propose = true
+timer_brings other = false
+
+abbrev pub brings : Input → Bool
+brings input.Start = false
+brings (input.Deliver m) = body_brings m.body
+brings (input.Timer t) = timer_brings t
+brings (input.Client t r) = true
+
+-- what is known of the form of what comes
+abbrev pub HasForm : Input → Type 0
+HasForm (input.Deliver m) = MessageFine m
+HasForm other = Unit {0}
 
 module _ (me : Me) (now : ℕ) (g : Ghost) (Known : ℕ → List Op → Type 0) where
   -- ---- pings, and the start
@@ -96,58 +117,80 @@ module _ (me : Me) (now : ℕ) (g : Ghost) (Known : ℕ → List Op → Type 0) 
       let y : Course = change (Boot boot) x in
       where_fits (Good me g Known) which.Boot boot _ (λ _. bootstrap_holds me now g Known _ (epoch_put y (not (is_some x.readings.epoch)) refl (booted boot x A)))
 
+  -- ---- what brings no command
+
+  module _ (shared : List Copied) where
+    plain_holds : (f e : ℕ) (b : Body) (x : Course) → body_brings b ≡ false → f < me.member.monitors → BodyHolds g f me.member.rank e b → BodyFine b → Good me g Known x → Then (Good me g Known) (hear me shared now f e b x)
+    plain_holds f e body.Probe x o z k V A = hear_probe_holds me now g Known f x A
+    plain_holds f e (body.ProbeReply q first last) x o z k V A = hear_probe_reply_holds me now g Known f q first last x k A
+    plain_holds f e (body.Propose table) x o z k V A = hear_propose_holds me now g Known f e table x A
+    plain_holds f e body.Ack x o z k V A = hear_ack_holds me now g Known f e x z A
+    plain_holds f e (body.Victory q) x o z k V A = hear_victory_holds me now g Known f e q x k A
+    plain_holds f e (body.Collect pn first last) x o z k V A = hear_collect_holds me now g Known f e pn first last x k.2 A
+    plain_holds f e (body.Last pn first last whole from values told) x o z k V A = hear_last_holds me now g Known f e pn first last whole from values told x V k A
+    plain_holds f e (body.Begin pn v value) x o z k V A = hear_begin_holds me now g Known f e pn v value x k A
+    plain_holds f e (body.Accept pn v) x o z k V A = hear_accept_holds me now g Known f e pn v x k.1 k.2 A
+    plain_holds f e (body.Commit from values) x o z k V A = hear_commit_holds me now g Known f e from values x V A
+    plain_holds f e (body.Lease last) x o z k V A = hear_lease_holds me now g Known f e last x k A
+    plain_holds f e (body.LeaseAck last) x o z k V A = hear_lease_ack_holds me now g Known f e last x A
+    plain_holds f e (body.Forward seq c) x o z k V A = no (sym o)
+    plain_holds f e (body.Route seq r) x o z k V A = hear_route_holds me now g Known f e seq r x A
+    plain_holds f e body.GetCookieFull x o z k V A = hear_get_cookie_full_holds me now g Known f x A
+    plain_holds f e (body.GetCookieRecent last) x o z k V A = hear_get_cookie_recent_holds me now g Known f last x A
+    plain_holds f e (body.Cookie full c last) x o z k V A = hear_cookie_holds me now g Known f full c last x k A
+    plain_holds f e (body.GetChunk c p) x o z k V A = hear_get_chunk_holds me now g Known shared f c p x k A
+    plain_holds f e (body.Chunk c p values entries is_done) x o z k V A = hear_chunk_holds me now g Known f c p values entries is_done x k V.0 V.1 A
+    plain_holds f e (body.LastChunk c p values entries last) x o z k V A = hear_last_chunk_holds me now g Known f c p values entries last x k.0 k.1 V.0 V.1 A
+    plain_holds f e (body.NoCookie c) x o z k V A = hear_no_cookie_holds me now g Known f c x A
+    plain_holds f e (body.Ping table) x o z k V A = hear_ping_holds f table x A
+    plain_holds f e (body.PingReply table) x o z k V A = hear_ping_reply_holds f table x A
+    plain_holds f e (body.Request id r) x o z k V A = done A
+    plain_holds f e (body.Reply id r) x o z k V A = done A
+
+  plain_timer_holds : (t : Timer) (x : Course) → timer_brings t ≡ false → RecordsFine x.readings.record_of → Good me g Known x → Then (Good me g Known) (timer_comes me now t x)
+  plain_timer_holds timer.Probe x o R A = anew_holds me now g Known x A
+  plain_timer_holds timer.Election x o R A = election_ends_holds me now g Known x A
+  plain_timer_holds timer.Collect x o R A = anew_holds me now g Known x A
+  plain_timer_holds timer.Accept x o R A = anew_holds me now g Known x A
+  plain_timer_holds timer.Renew x o R A = renew_holds me now g Known x A
+  plain_timer_holds timer.LeaseAck x o R A = anew_holds me now g Known x A
+  plain_timer_holds timer.Lease x o R A = anew_holds me now g Known x A
+  plain_timer_holds timer.Sync x o R A = anew_holds me now g Known x A
+  plain_timer_holds timer.Step x o R A = replay_step_holds me now g Known x R A
+  plain_timer_holds timer.Propose x o R A = no (sym o)
+  plain_timer_holds timer.Ping x o R A = ping_holds x A
+
+  before_holds : (came : Input) (x : Course) → Good me g Known x → Then (Good me g Known) (before_start me now came x)
+  before_holds input.Start x A = start_holds x (sound me g Known _ x A)
+  before_holds (input.Deliver m) x A = done A
+  before_holds (input.Timer t) x A = done A
+  before_holds (input.Client s r) x A = done (replies me now g Known _ s reply.Unavailable x A)
+
+  module _ (shared : List Copied) (w : Readings) (s : State) where
+    running_plain : (came : Input) (x : Course) → brings came ≡ false → InputHolds me g came → HasForm came → RecordsFine x.readings.record_of → Good me g Known x → Then (Good me g Known) (running me shared now came x)
+    running_plain input.Start x o k V R A = done A
+    running_plain (input.Deliver m) x o k V R A = by_test (is_heard me m) (λ _. plain_holds shared m.from m.epoch m.body x o k.0 k.1.body V.1 A) (λ _. done A)
+    running_plain (input.Timer t) x o k V R A = by_test (is_some (end_of t x.state.timers)) (λ _. plain_timer_holds t (disarm t x) o R A) (λ _. done A)
+    running_plain (input.Client u r) x o k V R A = no (sym o)
+
+    pub reacts_plain : (came : Input) → brings came ≡ false → InputHolds me g came → HasForm came → RecordsFine w.record_of → Good me g Known (at_rest w s) → Then (Good me g Known) (react me shared now w s came)
+    unfolding react
+    reacts_plain came o k V R A = by_test (same_phase s.phase phase.Booting) (λ _. before_holds came (at_rest w s) A) (λ _. running_plain came (at_rest w s) o k V R A)
+
   -- ---- the table
 
   module _ (made : Made) (w0 : Readings) where
     module _ (shared : List Copied) where
       hear_holds : (f e : ℕ) (b : Body) (x : Course) → f < me.member.monitors → BodyHolds g f me.member.rank e b → BodyFine b → Fine (still me w0) x → Makes me now g Known x.readings → Good me g Known x → Then (Good me g Known) (hear me shared now f e b x)
-      hear_holds f e body.Probe x z k V F M A = hear_probe_holds me now g Known f x A
-      hear_holds f e (body.ProbeReply q first last) x z k V F M A = hear_probe_reply_holds me now g Known f q first last x k A
-      hear_holds f e (body.Propose table) x z k V F M A = hear_propose_holds me now g Known f e table x A
-      hear_holds f e body.Ack x z k V F M A = hear_ack_holds me now g Known f e x z A
-      hear_holds f e (body.Victory q) x z k V F M A = hear_victory_holds me now g Known f e q x k A
-      hear_holds f e (body.Collect pn first last) x z k V F M A = hear_collect_holds me now g Known f e pn first last x k.2 A
-      hear_holds f e (body.Last pn first last whole from values told) x z k V F M A = hear_last_holds me now g Known f e pn first last whole from values told x V k A
-      hear_holds f e (body.Begin pn v value) x z k V F M A = hear_begin_holds me now g Known f e pn v value x k A
-      hear_holds f e (body.Accept pn v) x z k V F M A = hear_accept_holds me now g Known f e pn v x k.1 k.2 A
-      hear_holds f e (body.Commit from values) x z k V F M A = hear_commit_holds me now g Known f e from values x V A
-      hear_holds f e (body.Lease last) x z k V F M A = hear_lease_holds me now g Known f e last x k A
-      hear_holds f e (body.LeaseAck last) x z k V F M A = hear_lease_ack_holds me now g Known f e last x A
       hear_holds f e (body.Forward seq c) x z k V F M A = hear_forward_holds me now g Known made f e seq c x (let m = me.member.most in omega arith) V F.readings.own.last M k.0 k.1 A
-      hear_holds f e (body.Route seq r) x z k V F M A = hear_route_holds me now g Known f e seq r x A
-      hear_holds f e body.GetCookieFull x z k V F M A = hear_get_cookie_full_holds me now g Known f x A
-      hear_holds f e (body.GetCookieRecent last) x z k V F M A = hear_get_cookie_recent_holds me now g Known f last x A
-      hear_holds f e (body.Cookie full c last) x z k V F M A = hear_cookie_holds me now g Known f full c last x k A
-      hear_holds f e (body.GetChunk c p) x z k V F M A = hear_get_chunk_holds me now g Known shared f c p x k A
-      hear_holds f e (body.Chunk c p values entries is_done) x z k V F M A = hear_chunk_holds me now g Known f c p values entries is_done x k V.0 V.1 A
-      hear_holds f e (body.LastChunk c p values entries last) x z k V F M A = hear_last_chunk_holds me now g Known f c p values entries last x k.0 k.1 V.0 V.1 A
-      hear_holds f e (body.NoCookie c) x z k V F M A = hear_no_cookie_holds me now g Known f c x A
-      hear_holds f e (body.Ping table) x z k V F M A = hear_ping_holds f table x A
-      hear_holds f e (body.PingReply table) x z k V F M A = hear_ping_reply_holds f table x A
-      hear_holds f e (body.Request id r) x z k V F M A = done A
-      hear_holds f e (body.Reply id r) x z k V F M A = done A
+      hear_holds f e other x z k V F M A = plain_holds shared f e other x refl z k V A
 
       deliver_holds : (m : Message) (x : Course) → (m.from < me.member.monitors) × MessageHolds g me.member.rank m → MessageFine m → Fine (still me w0) x → Makes me now g Known x.readings → Good me g Known x → Then (Good me g Known) (deliver me shared now m x)
       deliver_holds m x k V F M A = by_test (is_heard me m) (λ _. hear_holds m.from m.epoch m.body x k.0 k.1.body V.1 F M A) (λ _. done A)
 
     timer_holds : (t : Timer) (x : Course) → Fine (still me w0) x → Makes me now g Known x.readings → Good me g Known x → Then (Good me g Known) (timer_comes me now t x)
-    timer_holds timer.Probe x F M A = anew_holds me now g Known x A
-    timer_holds timer.Election x F M A = election_ends_holds me now g Known x A
-    timer_holds timer.Collect x F M A = anew_holds me now g Known x A
-    timer_holds timer.Accept x F M A = anew_holds me now g Known x A
-    timer_holds timer.Renew x F M A = renew_holds me now g Known x A
-    timer_holds timer.LeaseAck x F M A = anew_holds me now g Known x A
-    timer_holds timer.Lease x F M A = anew_holds me now g Known x A
-    timer_holds timer.Sync x F M A = anew_holds me now g Known x A
-    timer_holds timer.Step x F M A = replay_step_holds me now g Known x F.readings.records A
     timer_holds timer.Propose x F M A = propose_due_holds me now g Known made x F.state.queue F.readings.own.last M A
-    timer_holds timer.Ping x F M A = ping_holds x A
-
-    before_holds : (came : Input) (x : Course) → Good me g Known x → Then (Good me g Known) (before_start me now came x)
-    before_holds input.Start x A = start_holds x (sound me g Known _ x A)
-    before_holds (input.Deliver m) x A = done A
-    before_holds (input.Timer t) x A = done A
-    before_holds (input.Client s r) x A = done (replies me now g Known _ s reply.Unavailable x A)
+    timer_holds other x F M A = plain_timer_holds other x refl F.readings.records A
 
     module _ (shared : List Copied) (sharing : AllByRecursion EntryFine shared) where
       running_holds : (came : Input) (x : Course) → InputHolds me g came → ComesFine me now w0 made shared sharing came → Fine (still me w0) x → Makes me now g Known x.readings → Good me g Known x → Then (Good me g Known) (running me shared now came x)

@@ -238,29 +238,8 @@ module _ (me : Me) (now : ℕ) (g : Ghost) (made : Made) (w : Readings) (shared 
   body_fits : (f f_epoch : ℕ) (b : Body) → BodyHolds g f i f_epoch b → Fits f f_epoch b
   body_fits f f_epoch (body.Victory q) v = victory f f_epoch q v (cases_eq f i)
   body_fits f f_epoch (body.Last pn first last whole from values told) v = inr (inr (last_dropped f f_epoch pn first last whole from values told))
-  body_fits f f_epoch body.Probe v = inl v
-  body_fits f f_epoch (body.ProbeReply q first last) v = inl v
-  body_fits f f_epoch (body.Propose table) v = inl v
-  body_fits f f_epoch body.Ack v = inl v
-  body_fits f f_epoch (body.Collect pn first last) v = inl v
-  body_fits f f_epoch (body.Begin pn v value) a = inl a
-  body_fits f f_epoch (body.Accept pn v) a = inl a
-  body_fits f f_epoch (body.Commit lowest values) v = inl v
   body_fits f f_epoch (body.Lease last) v = inr (inr (lease_dropped f f_epoch last))
-  body_fits f f_epoch (body.LeaseAck last) v = inl v
-  body_fits f f_epoch (body.Forward seq c) v = inl v
-  body_fits f f_epoch (body.Route seq r) v = inl v
-  body_fits f f_epoch body.GetCookieFull v = inl v
-  body_fits f f_epoch (body.GetCookieRecent last) v = inl v
-  body_fits f f_epoch (body.Cookie full c last) v = inl v
-  body_fits f f_epoch (body.GetChunk c p) v = inl v
-  body_fits f f_epoch (body.Chunk c p values entries is_done) v = inl v
-  body_fits f f_epoch (body.LastChunk c p values entries last) v = inl v
-  body_fits f f_epoch (body.NoCookie c) v = inl v
-  body_fits f f_epoch (body.Ping table) v = inl v
-  body_fits f f_epoch (body.PingReply table) v = inl v
-  body_fits f f_epoch (body.Request id r) v = inl v
-  body_fits f f_epoch (body.Reply id r) v = inl v
+  body_fits f f_epoch other v = inl v
 
   comes_from : (m : Message) → (m.from < n) → InputHolds me g (input.Deliver m) → ComesFine me now w made shared sharing (input.Deliver m) → Fits m.from m.epoch m.body → Then (IsLater e) (react me shared now w s (input.Deliver m))
   unfolding react

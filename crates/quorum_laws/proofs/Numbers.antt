@@ -87,31 +87,7 @@ module _ (ms : Monitors) (w : World) (I : InvOf ms w) where
   answer_covers from to e (body.Last pn first last true lowest values told) k = λ v lower bytes a lt.
       let t = accepted_as ms w I from v lower bytes a in
       elim (k.covers refl v lower t.0 t.2 lt) [ inl s ↦ inl s | inr c ↦ inr (record { next = c.0; value = c.1; tells = c.2; number = c.3 }) ]
-  answer_covers from to e (body.Last pn first last false lowest values told) k = tt
-  answer_covers from to e body.Probe k = tt
-  answer_covers from to e (body.ProbeReply q first last) k = tt
-  answer_covers from to e (body.Propose table) k = tt
-  answer_covers from to e body.Ack k = tt
-  answer_covers from to e (body.Victory q) k = tt
-  answer_covers from to e (body.Collect pn first last) k = tt
-  answer_covers from to e (body.Begin pn v value) k = tt
-  answer_covers from to e (body.Accept pn v) k = tt
-  answer_covers from to e (body.Commit lowest values) k = tt
-  answer_covers from to e (body.Lease last) k = tt
-  answer_covers from to e (body.LeaseAck last) k = tt
-  answer_covers from to e (body.Forward seq c) k = tt
-  answer_covers from to e (body.Route seq r) k = tt
-  answer_covers from to e body.GetCookieFull k = tt
-  answer_covers from to e (body.GetCookieRecent last) k = tt
-  answer_covers from to e (body.Cookie full c last) k = tt
-  answer_covers from to e (body.GetChunk c p) k = tt
-  answer_covers from to e (body.Chunk c p values entries is_done) k = tt
-  answer_covers from to e (body.LastChunk c p values entries last) k = tt
-  answer_covers from to e (body.NoCookie c) k = tt
-  answer_covers from to e (body.Ping table) k = tt
-  answer_covers from to e (body.PingReply table) k = tt
-  answer_covers from to e (body.Request id r) k = tt
-  answer_covers from to e (body.Reply id r) k = tt
+  answer_covers from to e other k = tt
 
   pub answers_cover : AnswersCover w
   answers_cover e c = answer_covers e.message.from e.to e.message.epoch e.message.body (sent_holds ms w I e c).body
