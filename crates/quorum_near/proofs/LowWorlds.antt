@@ -75,30 +75,7 @@ grown_longer log m = cond_both (is_marked m) log (log ++ records_after m (length
 
 body_low : (w : Readings) → (w.marked ≡ false → (w.first ≤ 1) ⊎ (w.first + 501 ≤ w.last)) → (b : Body) → AnswersAs w b → TellsLow b
 body_low w h (body.ProbeReply quorum first last) k = elim (h k.0) [ inl few ↦ inl (let e = k.1 in omega arith) | inr far ↦ inr (let e = k.1 in let f = k.2 in omega arith) ]
-body_low w h body.Probe k = tt
-body_low w h (body.Propose table) k = tt
-body_low w h body.Ack k = tt
-body_low w h (body.Victory q) k = tt
-body_low w h (body.Collect pn first last) k = tt
-body_low w h (body.Last pn first last whole from values pending) k = tt
-body_low w h (body.Begin pn v value) k = tt
-body_low w h (body.Accept pn v) k = tt
-body_low w h (body.Commit from values) k = tt
-body_low w h (body.Lease last) k = tt
-body_low w h (body.LeaseAck last) k = tt
-body_low w h (body.Forward seq c) k = tt
-body_low w h (body.Route seq r) k = tt
-body_low w h body.GetCookieFull k = tt
-body_low w h (body.GetCookieRecent last) k = tt
-body_low w h (body.Cookie full c last) k = tt
-body_low w h (body.GetChunk c p) k = tt
-body_low w h (body.Chunk c p values entries done) k = tt
-body_low w h (body.LastChunk c p values entries last) k = tt
-body_low w h (body.NoCookie c) k = tt
-body_low w h (body.Ping table) k = tt
-body_low w h (body.PingReply table) k = tt
-body_low w h (body.Request id r) k = tt
-body_low w h (body.Reply id r) k = tt
+body_low w h other k = tt
 
 envelopes_low : (w : Readings) → (w.marked ≡ false → (w.first ≤ 1) ⊎ (w.first + 501 ≤ w.last)) → (sends : List Sent) → AllByRecursion (SaysAs w) sends → AllByRecursion EnvelopeLow (messages_of sends)
 envelopes_low w h [] k = tt

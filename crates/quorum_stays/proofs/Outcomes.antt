@@ -338,29 +338,7 @@ module _ (me : Me) (sh : List Entry) (now : ℕ) (w : Readings) (s : State) wher
     hears : (m : Message) → is_heard me m ≡ true → (b : Body) → IsOfClients b → Then (Outcome (taken_body me w s m b) NobodyAsks (BringsRoute me w s m b)) (hear me sh now m.from m.epoch b (at_rest w s))
     hears m t (body.Forward seq c) k = forward_comes several _ NobodyAsks (BringsRoute me w s m (body.Forward seq c)) m seq c (λ t. rw t refl) (λ f. rw f refl) (λ _ k. absurd k) (no_route m seq c)
     hears m t (body.Route seq r) k = route_comes several None NobodyAsks (BringsRoute me w s m (body.Route seq r)) m.from m.epoch seq r refl (λ _ k. absurd k) (λ l. (refl, t, l)) (λ f z x k. false≢true (sym f ∙ k.2))
-    hears m t body.Probe k = absurd k
-    hears m t (body.ProbeReply quorum first last) k = absurd k
-    hears m t (body.Propose table) k = absurd k
-    hears m t body.Ack k = absurd k
-    hears m t (body.Victory quorum) k = absurd k
-    hears m t (body.Collect pn first last) k = absurd k
-    hears m t (body.Last pn first last whole from values pending) k = absurd k
-    hears m t (body.Begin pn v value) k = absurd k
-    hears m t (body.Accept pn v) k = absurd k
-    hears m t (body.Commit from values) k = absurd k
-    hears m t (body.Lease last) k = absurd k
-    hears m t (body.LeaseAck last) k = absurd k
-    hears m t body.GetCookieFull k = absurd k
-    hears m t (body.GetCookieRecent last) k = absurd k
-    hears m t (body.Cookie full cookie last) k = absurd k
-    hears m t (body.GetChunk cookie place) k = absurd k
-    hears m t (body.Chunk cookie place values entries finished) k = absurd k
-    hears m t (body.LastChunk cookie place values entries last) k = absurd k
-    hears m t (body.NoCookie cookie) k = absurd k
-    hears m t (body.Ping table) k = absurd k
-    hears m t (body.PingReply table) k = absurd k
-    hears m t (body.Request id r) k = absurd k
-    hears m t (body.Reply id r) k = absurd k
+    hears m t other k = absurd k
 
     -- ---- the rows
 

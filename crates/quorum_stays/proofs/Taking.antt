@@ -52,30 +52,7 @@ module _ (me : Me) (w : Readings) (s : State) where
 
   body_none : (m : Message) (b : Body) → (IsForward b → ⊥) → taken_body m b ≡ None
   body_none m (body.Forward seq c) nil = absurd (nil tt)
-  body_none m (body.Route seq r) nil = refl
-  body_none m body.Probe nil = refl
-  body_none m (body.ProbeReply quorum first last) nil = refl
-  body_none m (body.Propose table) nil = refl
-  body_none m body.Ack nil = refl
-  body_none m (body.Victory quorum) nil = refl
-  body_none m (body.Collect pn first last) nil = refl
-  body_none m (body.Last pn first last whole from values pending) nil = refl
-  body_none m (body.Begin pn v value) nil = refl
-  body_none m (body.Accept pn v) nil = refl
-  body_none m (body.Commit from values) nil = refl
-  body_none m (body.Lease last) nil = refl
-  body_none m (body.LeaseAck last) nil = refl
-  body_none m body.GetCookieFull nil = refl
-  body_none m (body.GetCookieRecent last) nil = refl
-  body_none m (body.Cookie full cookie last) nil = refl
-  body_none m (body.GetChunk cookie place) nil = refl
-  body_none m (body.Chunk cookie place values entries finished) nil = refl
-  body_none m (body.LastChunk cookie place values entries last) nil = refl
-  body_none m (body.NoCookie cookie) nil = refl
-  body_none m (body.Ping table) nil = refl
-  body_none m (body.PingReply table) nil = refl
-  body_none m (body.Request id r) nil = refl
-  body_none m (body.Reply id r) nil = refl
+  body_none m other nil = refl
 
   pub no_forward : (m : Message) → (IsForward m.body → ⊥) → taken_from (input.Deliver m) ≡ None
   no_forward m nil = cond_both (is_heard me m) (taken_body m m.body) None (λ (o : Option Origin). o ≡ None) (λ _. body_none m m.body nil) (λ _. refl)

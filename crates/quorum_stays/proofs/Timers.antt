@@ -17,16 +17,7 @@ kinds = timer.Probe ∷ timer.Election ∷ timer.Collect ∷ timer.Accept ∷ ti
 in_place : (t : Timer) → slice_index_or kinds (index_of t) timer.Probe ≡ t
 unfolding kinds
 in_place timer.Probe = refl
-in_place timer.Election = refl
-in_place timer.Collect = refl
-in_place timer.Accept = refl
-in_place timer.Renew = refl
-in_place timer.LeaseAck = refl
-in_place timer.Lease = refl
-in_place timer.Sync = refl
-in_place timer.Step = refl
-in_place timer.Propose = refl
-in_place timer.Ping = refl
+in_place other = refl
 
 -- kinds are told apart by their numbers
 pub kind_is : (t u : Timer) → index_of t ≡ index_of u → t ≡ u
@@ -95,16 +86,7 @@ maybe_propose test now before after T = cond_both test (armed now timer.Propose 
 
 pub only_ping_is : (ts : Timers) (kind : Timer) (end : ℕ) → end_of kind (only_ping ts) ≡ Some end → (kind ≡ timer.Ping) × (end_of timer.Ping ts ≡ Some end)
 only_ping_is ts timer.Ping end e = (refl, e)
-only_ping_is ts timer.Probe end e = absurd (none-some end e)
-only_ping_is ts timer.Election end e = absurd (none-some end e)
-only_ping_is ts timer.Collect end e = absurd (none-some end e)
-only_ping_is ts timer.Accept end e = absurd (none-some end e)
-only_ping_is ts timer.Renew end e = absurd (none-some end e)
-only_ping_is ts timer.LeaseAck end e = absurd (none-some end e)
-only_ping_is ts timer.Lease end e = absurd (none-some end e)
-only_ping_is ts timer.Sync end e = absurd (none-some end e)
-only_ping_is ts timer.Step end e = absurd (none-some end e)
-only_ping_is ts timer.Propose end e = absurd (none-some end e)
+only_ping_is ts other end e = absurd (none-some end e)
 
 -- ---- the timers of a leader that renewed the leases
 

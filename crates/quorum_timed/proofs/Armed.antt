@@ -31,29 +31,11 @@ lengths = 2000 ∷ 5000 ∷ 10000 ∷ 10000 ∷ 3000 ∷ 10000 ∷ 10000 ∷ 600
 by_index : (t : Timer) → slice_index_or lengths (index_of t) 0 ≡ length_of t
 unfolding lengths
 by_index timer.Probe = refl
-by_index timer.Election = refl
-by_index timer.Collect = refl
-by_index timer.Accept = refl
-by_index timer.Renew = refl
-by_index timer.LeaseAck = refl
-by_index timer.Lease = refl
-by_index timer.Sync = refl
-by_index timer.Step = refl
-by_index timer.Propose = refl
-by_index timer.Ping = refl
+by_index other = refl
 
 below : (t : Timer) → index_of t < 11
 below timer.Probe = omega arith
-below timer.Election = omega arith
-below timer.Collect = omega arith
-below timer.Accept = omega arith
-below timer.Renew = omega arith
-below timer.LeaseAck = omega arith
-below timer.Lease = omega arith
-below timer.Sync = omega arith
-below timer.Step = omega arith
-below timer.Propose = omega arith
-below timer.Ping = omega arith
+below other = omega arith
 
 same_length : (t u : Timer) → index_of t ≡ index_of u → length_of t ≡ length_of u
 same_length t u e = sym (by_index t) ∙ ap (λ (k : ℕ). slice_index_or lengths k 0) e ∙ by_index u
@@ -98,17 +80,8 @@ module _ (b : ℕ) where
   ping_good ts G = record { size = refl; soon = soon }
     where
       soon : (t : Timer) (end : ℕ) → end_of t (only_ping ts) ≡ Some end → end ≤ b + length_of t
-      soon timer.Probe end h = absurd (none-some end h)
-      soon timer.Election end h = absurd (none-some end h)
-      soon timer.Collect end h = absurd (none-some end h)
-      soon timer.Accept end h = absurd (none-some end h)
-      soon timer.Renew end h = absurd (none-some end h)
-      soon timer.LeaseAck end h = absurd (none-some end h)
-      soon timer.Lease end h = absurd (none-some end h)
-      soon timer.Sync end h = absurd (none-some end h)
-      soon timer.Step end h = absurd (none-some end h)
-      soon timer.Propose end h = absurd (none-some end h)
       soon timer.Ping end h = G.soon timer.Ping end h
+      soon other end h = absurd (none-some end h)
 
   pub in_good : (p : Phase) (s : State) → Good b s.timers → Good b (timers_in p s)
   in_good p s G = cond_both (same_phase s.phase p) s.timers (only_ping s.timers) (Good b) (λ _. G) (λ _. ping_good s.timers G)
@@ -121,16 +94,7 @@ unarmed_good b = record { size = refl; soon = soon }
   where
     soon : (t : Timer) (end : ℕ) → end_of t unarmed ≡ Some end → end ≤ b + length_of t
     soon timer.Probe end h = absurd (none-some end h)
-    soon timer.Election end h = absurd (none-some end h)
-    soon timer.Collect end h = absurd (none-some end h)
-    soon timer.Accept end h = absurd (none-some end h)
-    soon timer.Renew end h = absurd (none-some end h)
-    soon timer.LeaseAck end h = absurd (none-some end h)
-    soon timer.Lease end h = absurd (none-some end h)
-    soon timer.Sync end h = absurd (none-some end h)
-    soon timer.Step end h = absurd (none-some end h)
-    soon timer.Propose end h = absurd (none-some end h)
-    soon timer.Ping end h = absurd (none-some end h)
+    soon other end h = absurd (none-some end h)
 
 -- ---- what stays armed
 
