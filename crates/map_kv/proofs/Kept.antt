@@ -9,16 +9,15 @@ use Rattle.mon_bytes.proofs.Ascii.{IsUtf8-graphic, both}
 use Rattle.std.specs.Map.{lookup, keys_of}
 use Rattle.std.specs.Ordering.{eq_by_cmp}
 use Rattle.std.specs.BTreeMap as tree
-use Rattle.std.specs.BTreeMap.{insert_entry}
-use Rattle.std.specs.FinMap.{get, keys, entries, insert, remove, empty, empty_of_len, from_sorted, find, put, is_sorted, IsAntisymmetric, slice_cmp-IsAntisymmetric, nat_cmp-IsAntisymmetric, entries-from_sorted, entries_sorted, entries-insert, get-entries, get-from_sorted, get-insert, get-remove, len-entries, same_map}
+use Rattle.std.specs.FinMap.{get, keys, entries, insert, remove, empty, empty_of_len, find, is_sorted, IsAntisymmetric, slice_cmp-IsAntisymmetric, nat_cmp-IsAntisymmetric, entries-from_sorted, entries_sorted, entries-insert, get-entries, get-from_sorted, get-insert, get-remove, len-entries, same_map}
 use Rattle.std.proofs.lemmas.Map.Text.{btree_map_updates_text, is_eq-slice_cmp}
-use Rattle.std.proofs.lemmas.List.{append-nil}
+use Rattle.std.proofs.lemmas.List.{append-nil, map-append}
 use Rattle.std.proofs.lemmas.Option.{slice_get-map}
 use Rattle.map_kv.specs.Map.{Kv}
 use Rattle.map_kv.specs.Text.{map_text, EntryFits, IsShort, MapFits, MapIsShort}
 use Rattle.map_kv.specs.Kept.{pairs, kept_map, size_of, entry_size, held, IsPair, IsKept}
 use Rattle.map_kv.proofs.Lengths.{length-map_text}
-use Rattle.map_kv.proofs.Pairs.{Node, is_sorted-pairs, find-pairs, size_of-put, pairs-insert_entry, put_above, front_below}
+use Rattle.map_kv.proofs.Pairs.{Node, is_sorted-pairs, find-pairs, size_of-put}
 
 pub entries-kept_map : (es : List Node) → T (is_sorted (slice_cmp nat_cmp) (pairs es)) → entries (kept_map es) ≡ pairs es
 unfolding kept_map
@@ -100,16 +99,12 @@ key_at es size m i k h is at =
     ap (option_map string_bytes) at ∙ sym (slice_get-map string_bytes (keys_of es) i) ∙ ap (λ (ks : List (List ℕ)). slice_get ks i) (sym (keys-pairs es) ∙ ap (map (λ e. e.0)) (same_entries es size m h is))
 
 -- copying the entries one after the other
-pub one_more : (done : List Node) (k : String Global) (v : List ℕ) (key : List ℕ) (rest all : List Node) → string_bytes k ≡ key → pairs done ++ (key, v) ∷ pairs rest ≡ pairs all → T (is_sorted (slice_cmp nat_cmp) (pairs all))
-    → pairs (insert_entry string_cmp done k v) ++ pairs rest ≡ pairs all
-one_more done k v key rest all same so_far sorted =
-    let last = put_above (pairs done) key v (front_below (pairs done) (key, v) (pairs rest) (subst (λ ps. T (is_sorted (slice_cmp nat_cmp) ps)) (sym so_far) sorted)) in
-    ap (λ (ps : List (List ℕ × List ℕ)). ps ++ pairs rest) (pairs-insert_entry done k v ∙ ap (λ q. put (slice_cmp nat_cmp) q v (pairs done)) same ∙ last) ∙ append_assoc (pairs done) ((key, v) ∷ []) (pairs rest) ∙ so_far
+pub one_more : (done : List Node) (k : String Global) (v key : List ℕ) (rest all : List Node) → string_bytes k ≡ key → pairs done ++ (key, v) ∷ pairs rest ≡ pairs all → pairs (done ++ (k, v) ∷ []) ++ pairs rest ≡ pairs all
+one_more done k v key rest all same so_far =
+    ap (λ (ps : List (List ℕ × List ℕ)). ps ++ pairs rest) (map-append _ done ((k, v) ∷ []) ∙ ap (λ q. pairs done ++ (q, v) ∷ []) same) ∙ append_assoc (pairs done) ((key, v) ∷ []) (pairs rest) ∙ so_far
 
-pub all_copied : (done rest all : List Node) (m : Kv) → rest ≡ [] → pairs done ++ pairs rest ≡ pairs all → kept_map all ≡ m → kept_map done ≡ m
-unfolding kept_map
-all_copied done rest all m none same is =
-    ap (λ (ps : List (List ℕ × List ℕ)). from_sorted ps) (sym (append-nil (pairs done)) ∙ ap (λ (es : List Node). pairs done ++ pairs es) (sym none) ∙ same) ∙ is
+pub all_copied : (done rest all : List Node) → rest ≡ [] → pairs done ++ pairs rest ≡ pairs all → pairs done ≡ pairs all
+all_copied done rest all none same = sym (append-nil (pairs done)) ∙ ap (λ (es : List Node). pairs done ++ pairs es) (sym none) ∙ same
 
 shorter : (n : ℕ) (es : List (List ℕ × List ℕ)) → size_of es < n → AllByRecursion (λ e. length e.1 < n) es
 shorter n [] h = tt

@@ -1,6 +1,7 @@
 pub mod Pairs
 pub mod Lengths
 pub mod Kept
+pub mod Rising
 pub mod Loop
 pub mod Found
 pub mod Laws

@@ -84,24 +84,5 @@ put_above (x ∷ front) k v h =
     let above : slice_cmp nat_cmp k x.0 ≡ Greater = nat_list_cmp_total.antisymm k x.0 ∙ ap ordering_reverse h.0 in
     rw above (ap (λ (es : List Entry). x ∷ es) (put_above front k v h.1))
 
--- in a list in order each key is above those before it
-pub front_below : (front : List Entry) (e : Entry) (rest : List Entry) → T (is_sorted (slice_cmp nat_cmp) (front ++ e ∷ rest)) → AllByRecursion (λ d. slice_cmp nat_cmp d.0 e.0 ≡ Less) front
-front_below [] e rest h = tt
-front_below (x ∷ front) e rest h = (middle x.0 front e rest (first _ _ h), front_below front e rest (second _ _ h))
-  where
-    middle : (x : List ℕ) (front : List Entry) (e : Entry) (rest : List Entry) → T (below_all (slice_cmp nat_cmp) x (front ++ e ∷ rest)) → slice_cmp nat_cmp x e.0 ≡ Less
-    middle x [] e rest h = less _ (first _ _ h)
-    middle x (y ∷ front) e rest h = middle x front e rest (second _ _ h)
-
-pub pairs-insert_entry : (es : List Node) (k : String Global) (v : List ℕ) → pairs (insert_entry string_cmp es k v) ≡ put (slice_cmp nat_cmp) (string_bytes k) v (pairs es)
-pairs-insert_entry [] k v = refl
-pairs-insert_entry (e ∷ es) k v =
-    elim (string_cmp k e.0) as (λ r. pairs (match_ordering r ((k, v) ∷ e ∷ es) ((e.0, v) ∷ es) (e ∷ insert_entry string_cmp es k v))
-    ≡ by_order r ((string_bytes k, v) ∷ pairs (e ∷ es)) ((string_bytes e.0, v) ∷ pairs es) ((string_bytes e.0, e.1) ∷ put (slice_cmp nat_cmp) (string_bytes k) v (pairs es))) [
-      | Less ↦ refl
-      | Equal ↦ refl
-      | Greater ↦ ap (λ (ps : List Entry). (string_bytes e.0, e.1) ∷ ps) (pairs-insert_entry es k v)
-    ]
-
 pub below_less : (x y : List ℕ) (es : List Entry) → slice_cmp nat_cmp x y ≡ Less → T (below_all (slice_cmp nat_cmp) y es) → T (below_all (slice_cmp nat_cmp) x es)
 below_less = ordered.below_less nat_list_cmp_total

@@ -1,6 +1,7 @@
 //! The key-value service's map: its incrementals, the step that each takes, and their bytes.
 #![tactic(auto)]
 
+mod ascending;
 mod command;
 mod encode;
 mod inc;

@@ -6,7 +6,7 @@ ghost use Rattle.std.specs.Str.{is_utf8};
 ghost use Rattle.mon_bytes.specs.Texts.{is_name};
 ghost use Rattle.map_kv.specs.Map.{with_inc};
 ghost use Rattle.map_kv.specs.Text.{map_text, MapFits, MapIsShort};
-ghost use Rattle.map_kv.specs.Kept.{pairs, held, entry_size};
+ghost use Rattle.map_kv.specs.Kept.{pairs, held, entry_size, IsKept, kept_map};
 
 use crate::encode::put_name;
 use crate::inc::KvInc;
@@ -42,7 +42,7 @@ impl Model for KvMap {
 }
 
 /// How many bytes an entry takes in the map's text.
-fn entry_size(key: &str, value: &Text) -> u64
+pub(crate) fn entry_size(key: &str, value: &Text) -> u64
     requires { IsTrue (is_name key.now) }
     ensures size { result ≡ entry_size (key.now, value.now) }
     ensures most { result < 2 ^ 63 + 2 ^ 10 }
@@ -63,6 +63,22 @@ impl KvMap {
             entries: BTreeMap::new(alloc),
             size: 4,
         }
+    }
+
+    /// The map of entries in ascending order of key, whose text has `size` bytes. No key is searched for.
+    pub(crate) fn from_sorted(
+        alloc: Global,
+        entries: Vec<(String, Text)>,
+        size: u64,
+    ) -> Result<KvMap, OutOfMemory>
+        requires { IsKept entries.items size }
+        ensures { IfOk result (λ map. map ≡ kept_map entries.items) }
+    {
+        Ok(KvMap {
+            alloc,
+            entries: BTreeMap::from_iter(alloc, entries)?,
+            size,
+        })
     }
 
     /// The value of the key, `None` if and only if the key isn't there.
@@ -107,16 +123,12 @@ impl KvMap {
     pub fn copy(&self) -> Result<KvMap, OutOfMemory>
         ensures { IfOk result (λ map. map ≡ self.now) }
     {
-        let mut entries = BTreeMap::new(self.alloc);
+        let mut entries = Vec::with_capacity(self.alloc, self.entries.len())?;
         for (key, value) in &self.entries {
             let key = String::from_str(self.alloc, key.as_str())?;
-            entries.insert(key, value.copy(self.alloc)?)?;
+            entries.push((key, value.copy(self.alloc)?))?;
         }
-        Ok(KvMap {
-            alloc: self.alloc,
-            entries,
-            size: self.size,
-        })
+        KvMap::from_sorted(self.alloc, entries, self.size)
     }
 
     /// The length of the encoded map. It takes no memory.
@@ -208,7 +220,7 @@ impl KvMap {
         ensures text { IfOk result (λ bytes. bytes.items ≡ map_text self.now) }
         ensures form { IfOk result (λ _. MapFits self.now) }
     {
-        let mut out = Out::new(self.alloc);
+        let mut out = Out::with_capacity(self.alloc, self.size as usize)?;
         write_count(&mut out, self.len() as u32)?;
         for (key, value) in &self.entries {
             put_name(&mut out, key.as_str())?;

@@ -4,6 +4,7 @@ ghost use Rattle.mon_bytes.specs.Texts.{is_name};
 ghost use Rattle.mon_bytes.specs.Forms.{Reads};
 ghost use Rattle.map_kv.specs.Decode.{name_at, set_at, remove_at, key_at, entries_at};
 
+use crate::ascending::Ascending;
 use crate::inc::KvInc;
 use crate::map::KvMap;
 use mon_bytes::{Cursor, Decode, MapRefused, Name, read_text};
@@ -81,15 +82,15 @@ fn key_at<'a>(before: &[u8], cursor: &mut Cursor<'a>) -> Result<&'a [u8], MapRef
 fn entries_at(alloc: Global, count: u32, cursor: &mut Cursor<'_>) -> Result<KvMap, MapRefused>
     ensures { Reads entries result cursor.new (entries_at count [] cursor.old) }
 {
-    let mut map = KvMap::new(alloc);
+    let mut map = Ascending::new(alloc);
     let mut before: &[u8] = &[];
     for _ in 0..count {
         let key = key_at(before, cursor)?;
         let value = read_text(alloc, cursor)?;
-        map.put(Name::from_slice(alloc, key)?, value)?;
+        map.push(Name::from_slice(alloc, key)?, value)?;
         before = key;
     }
-    Ok(map)
+    Ok(map.into_map()?)
 }
 
 impl Decode for KvMap {

@@ -1,8 +1,9 @@
-use Rattle.std.proofs.Common.{[], ap, ◌∙◌}
+use Rattle.std.proofs.Common.{[], ap, sym, subst, ◌∙◌}
 use Rattle.std.proofs.lemmas.Result.{err_from_is_err_and}
 use Rattle.std.specs.FinMap.{entries, insert}
 use Rattle.map_kv.specs.Decode.{entries_at}
 use Rattle.map_kv.proofs.Loop.{begins, above_none, goes_on, ends_at_key, ends_at_value, is_done, key_rises, stays_above, entries_after}
+use Rattle.map_kv.proofs.Rising.{IsBelow}
 use Rattle.map_kv.proofs.reading.entries_at.Goals as goal
 
 pub loop-init : goal.loop-init
@@ -23,11 +24,16 @@ pub loop-preserved : goal.loop-preserved
 loop-preserved c =
     let key = c.in_ok-key.key.now in
     let rises = key_rises c.loop.before.now c.loop.cursor (key, c.key_at.new.cursor) c.in_ok-key.ensures.bytes in
-    let after = ap entries (c.in_ok-put.ensures.ok ∙ ap (λ k. insert c.loop.map k c.in_ok-value.value) c.in_ok-from_slice.ensures) ∙ entries_after c.loop.map c.loop.before.now key c.in_ok-value.value rises c.loop.invariant.1 in
+    let after = ap entries (c.in_ok-push.ensures ∙ ap (λ k. insert c.loop.map k c.in_ok-value.value) c.in_ok-from_slice.ensures) ∙ entries_after c.loop.map c.loop.before.now key c.in_ok-value.value rises c.loop.invariant.1 in
     rw after (
       goes_on (entries c.loop.map) c.args.count c.loop.counter c.loop.before.now key c.in_ok-value.value c.loop.cursor c.key_at.new.cursor c.read_text.new.cursor (entries_at c.args.count [] c.args.cursor.now) c.loop-test.true c.in_ok-key.ensures.bytes c.in_ok-value.ensures c.loop.invariant.0,
       stays_above c.loop.before.now key c.in_ok-value.value (entries c.loop.map) rises c.loop.invariant.1,
     )
 
 pub returns : goal.returns
-returns c = is_done (entries c.loop.map) c.args.count c.loop.counter c.loop.before.now c.loop.cursor (entries_at c.args.count [] c.args.cursor.now) c.loop-test.false c.loop.invariant.0
+returns c = rw c.in_ok-into_map.ensures (is_done (entries c.loop.map) c.args.count c.loop.counter c.loop.before.now c.loop.cursor (entries_at c.args.count [] c.args.cursor.now) c.loop-test.false c.loop.invariant.0)
+
+pub push-requires : goal.push-requires
+push-requires c =
+    let key = c.in_ok-key.key.now in
+    subst (λ k. IsBelow k (entries c.loop.map)) (sym c.in_ok-from_slice.ensures) (c.loop.invariant.1 key (key_rises c.loop.before.now c.loop.cursor (key, c.key_at.new.cursor) c.in_ok-key.ensures.bytes))
