@@ -1,5 +1,5 @@
 -- The map that a tree of texts represents.
-use Rattle.std.proofs.Common.{◌≡◌, ℕ, ◌+◌, ◌<◌, ◌≤◌, ◌^◌, List, [], ◌∷◌, ◌++◌, length, map, slice_get, option_map, cond, leb, ◌&&◌, Option, Some, None, Less, Equal, Greater, String, Global, BTreeMap, string_bytes, string_cmp, nat_cmp, is_eq, bytes_eq, T, IsTrue, append_assoc, refl, sym, ap, subst, ◌∙◌, arith}
+use Rattle.std.proofs.Common.{◌≡◌, ℕ, ◌+◌, ◌<◌, ◌≤◌, ◌^◌, List, [], ◌∷◌, ◌++◌, length, map, slice_get, option_map, cond, leb, ◌&&◌, Option, Some, None, Less, Equal, Greater, String, Global, BTreeMap, string_bytes, string_cmp, nat_cmp, is_eq, bytes_eq, T, IsTrue, refl, sym, ap, subst, ◌∙◌, arith}
 use Rattle.std.specs.Cmp.Lexicographic.{slice_cmp, nat_list_cmp_total}
 use Rattle.std.specs.Cmp.{eq_by_cmp_equiv}
 use Rattle.std.specs.List.{AllByRecursion, list_all}
@@ -11,7 +11,7 @@ use Rattle.std.specs.Ordering.{eq_by_cmp}
 use Rattle.std.specs.BTreeMap as tree
 use Rattle.std.specs.FinMap.{get, keys, entries, insert, remove, empty, empty_of_len, find, is_sorted, IsAntisymmetric, slice_cmp-IsAntisymmetric, nat_cmp-IsAntisymmetric, entries-from_sorted, entries_sorted, entries-insert, get-entries, get-from_sorted, get-insert, get-remove, len-entries, same_map}
 use Rattle.std.proofs.lemmas.Map.Text.{btree_map_updates_text, is_eq-slice_cmp}
-use Rattle.std.proofs.lemmas.List.{append-nil, map-append}
+use Rattle.std.proofs.lemmas.List.{append-nil}
 use Rattle.std.proofs.lemmas.Option.{slice_get-map}
 use Rattle.map_kv.specs.Map.{Kv}
 use Rattle.map_kv.specs.Text.{map_text, EntryFits, IsShort, MapFits, MapIsShort}
@@ -98,11 +98,7 @@ pub key_at : (es : List Node) (size : ℕ) (m : Kv) (i : ℕ) (k : Option (Strin
 key_at es size m i k h is at =
     ap (option_map string_bytes) at ∙ sym (slice_get-map string_bytes (keys_of es) i) ∙ ap (λ (ks : List (List ℕ)). slice_get ks i) (sym (keys-pairs es) ∙ ap (map (λ e. e.0)) (same_entries es size m h is))
 
--- copying the entries one after the other
-pub one_more : (done : List Node) (k : String Global) (v key : List ℕ) (rest all : List Node) → string_bytes k ≡ key → pairs done ++ (key, v) ∷ pairs rest ≡ pairs all → pairs (done ++ (k, v) ∷ []) ++ pairs rest ≡ pairs all
-one_more done k v key rest all same so_far =
-    ap (λ (ps : List (List ℕ × List ℕ)). ps ++ pairs rest) (map-append _ done ((k, v) ∷ []) ∙ ap (λ q. pairs done ++ (q, v) ∷ []) same) ∙ append_assoc (pairs done) ((key, v) ∷ []) (pairs rest) ∙ so_far
-
+-- entries that were copied one after the other
 pub all_copied : (done rest all : List Node) → rest ≡ [] → pairs done ++ pairs rest ≡ pairs all → pairs done ≡ pairs all
 all_copied done rest all none same = sym (append-nil (pairs done)) ∙ ap (λ (es : List Node). pairs done ++ pairs es) (sym none) ∙ same
 
