@@ -34,15 +34,20 @@ def disks(rank, monitors, entries):
 
 
 class Recorded:
-    """The records of the monitors of a schedule, by rank, as it is played."""
+    """The records of the monitors of a schedule, by rank, as it is played. What happened while all were down for the last time, and before, isn't recorded if
+    `is_late`. `stores` has the maps with which the records begin."""
 
-    def __init__(self, lines):
+    def __init__(self, lines, is_late=False):
         from played import Play
         self.play, self.lines = Play(lines[0]), lines[1:]
         self.records = {rank: b'' for rank in range(self.play.n)}
+        self.stores = dict.fromkeys(self.records, {})
         self.lives = dict.fromkeys(self.records, 0)
         for line in self.lines:
             self.take(line)
+            if is_late and not any(self.play.state(rank) for rank in self.records):
+                self.records = dict.fromkeys(self.records, b'')
+                self.stores = {rank: dict(self.play.world.store(rank).entries) for rank in self.records}
 
     def rank_of(self, line):
         words = line.split(' ')

@@ -14,6 +14,10 @@ ASKED = frozenset((SENT, LOST, UNSENT))
 PARTIES = {1: 'monitor', 2: 'client'}
 
 
+class Faulty(Exception):
+    """The records can't be merged, for this reason."""
+
+
 class Entry(NamedTuple):
     """An entry: its kind, a peer, a number, the bytes that it counts, and its offset in the file."""
     kind: int

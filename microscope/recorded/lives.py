@@ -42,6 +42,12 @@ class Life(NamedTuple):
     # Why steps are missing at its end, or None; and whether the record ends within an entry.
     lack: str | None
     is_cut: bool
+    # The messages to monitors that are recorded, by receiver and bytes, wherever the record begins.
+    sent: frozenset[tuple[int, bytes]]
+
+    def time(self, step: Step) -> int:
+        """The time of day of a step."""
+        return self.begin.time + step.time - self.steps[0].time
 
 
 class Pieces:
@@ -138,6 +144,15 @@ class Iterations:
             yield self.step('came', (later or began).number, message, began.at)
 
 
+def sent_in(entries: list[Entry]) -> Iterator[tuple[int, bytes]]:
+    """The whole messages to monitors in some entries."""
+    pieces = Pieces()
+    for entry in entries:
+        if entry.kind in ASKED and PARTIES[entry.party] == 'monitor':
+            if message := pieces.take('monitor', entry.who, entry.octets):
+                yield message.who, message.octets
+
+
 def life_of(parts: list[Segment]) -> Life:
     """The life whose segments these are, in order."""
     begin = parts[0].begin
@@ -150,7 +165,8 @@ def life_of(parts: list[Segment]) -> Life:
         entries += part.entries
     reading = Iterations(entries, begin.monitors)
     steps = [] if begin.part else list(reading.steps())
-    return Life(begin, parts[0].disks, steps, reading.status, lack or reading.lack, any(part.is_cut for part in parts))
+    sent = frozenset(message for part in parts for message in sent_in(part.entries))
+    return Life(begin, parts[0].disks, steps, reading.status, lack or reading.lack, any(part.is_cut for part in parts), sent)
 
 
 def follows(part: Segment, other: Segment) -> bool:

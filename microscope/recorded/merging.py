@@ -12,6 +12,7 @@ from typing import Iterator, NamedTuple, Tuple
 from played import Play
 from fields import At
 from loaded import fn
+from recorded.beginning import Beginning, beginning
 from recorded.disks import Map, map_on
 from recorded.lives import Life, Message, Step
 from recorded.messages import message, reply_message
@@ -60,7 +61,7 @@ class Monitor:
     def time(self, step: Step) -> int:
         """The time of a step, in milliseconds since the first life of all began."""
         life = self.lives[self.life]
-        return life.begin.time - self.began + step.time - life.steps[0].time
+        return life.time(step) - self.began
 
     def end(self) -> int | None:
         """The time before which this life ended, if another one follows."""
@@ -75,19 +76,20 @@ class Monitor:
 class Merge:
     """A schedule that is made of lives by rank, and what was noted: what differs from the records, and what isn't known."""
 
-    def __init__(self, lives: dict[int, list[Life]]):
-        begin = next(iter(lives.values()))[0].begin
-        self.count = begin.monitors
-        self.lines = [f'monitors {begin.monitors} {begin.rule}']
-        self.play = Play(self.lines[0])
+    def __init__(self, begun: Beginning):
+        self.begun, lives = begun, begun.lives
+        self.count = next(iter(lives.values()))[0].begin.monitors
+        self.lines, self.play = list(begun.stage.lines), begun.stage.play.copy()
+        # How many events lead to the stores with which the lives begin.
+        self.before = self.play.events
         began = min(life.begin.time for found in lives.values() for life in found)
         self.monitors = {rank: Monitor(rank, found, began) for rank, found in lives.items()}
         # The numbers of the messages by sender, receiver and bytes, and how many messages and replies were read.
         self.sent: dict[Key, int] = {}
         self.came = set(keys_of(lives))
-        self.messages = self.replies = 0
+        self.messages, self.replies = len(self.play.world.messages), len(self.play.world.replied)
         self.differences: list[Note] = []
-        self.unknown: list[Note] = []
+        self.unknown: list[Note | str] = list(begun.notes)
         self.compared = self.stores = 0
         # By the rank of each monitor without a record: how many events were supposed, and which messages arrived in them.
         self.supposed = {rank: 0 for rank in range(self.count) if rank not in self.monitors}
@@ -180,11 +182,11 @@ class Merge:
     def begin_life(self, monitor: Monitor) -> None:
         """Compares the store with which a life begins, if it is known."""
         life = monitor.lives[monitor.life]
-        recorded = map_on(life.disks)
+        recorded = map_on(life.disks) if monitor.life else self.begun.stores[monitor.rank]
         if recorded is None:
             self.lacks(monitor.rank, 'the store at the beginning of a life isn\'t recorded')
-        elif recorded and monitor.life == 0:
-            self.lacks(monitor.rank, f'its store had {len(recorded)} keys when its record began, and every schedule begins with new stores')
+        elif recorded and not self.before and not monitor.life:
+            self.lacks(monitor.rank, f'its store had {len(recorded)} keys when its record began, to which no events lead')
             monitor.is_stopped = True
         elif recorded != self.store(monitor.rank):
             self.differs(monitor.rank, f'the store of life {monitor.life + 1} began with {len(recorded)} keys that aren\'t those of the schedule')
@@ -345,10 +347,11 @@ class Merge:
         self.differs(rank, f'it sent {shown(step.sent)}, and the schedule sends {shown(wanted)} ({step.at} in its record)')
 
 
-def merged(lives: dict[int, list[Life]]) -> Merge:
-    """The merge of these lives; if a monitor has none, the one that goes furthest among those that are tried."""
+def merged(lives: dict[int, list[Life]], exports: dict[int, Map] | None = None) -> Merge:
+    """The merge of these lives; if a monitor has none, the one that goes furthest among those that are tried. The exports are of the stores with which the lives
+    of some monitors begin. Raises Unreachable if no events are found that lead to the stores."""
     others: list[Merge] = []
-    best = Merge(lives)
+    best = Merge(beginning(lives, exports or {}))
     best.run(others)
     for _ in range(MOST_TRIED):
         if not best.unknown or not others:

@@ -4,13 +4,12 @@ from __future__ import annotations
 import os
 from typing import Iterator
 
-from recorded.entries import VERSION, Segment, other_version, segments
+from fields import At
+from recorded.disks import Map
+from recorded.entries import VERSION, Faulty, Segment, other_version, segments
 from recorded.lives import Life, lives
 from recorded.merging import Merge
-
-
-class Faulty(Exception):
-    """The records can't be merged, for this reason."""
+from stopped import Full, read_export
 
 
 def segments_in(path: str) -> list[Segment]:
@@ -40,9 +39,28 @@ def lives_in(paths: list[str]) -> dict[int, list[Life]]:
     return {rank: lives([of_rank(file, rank) for file in files if of_rank(file, rank)]) for rank in ranks}
 
 
+def exports_in(words: list[str]) -> dict[int, Map]:
+    """The stores of the exports that RANK=EXPORT name, by rank. Raises Faulty if one is none, or is another monitor's."""
+    found = {}
+    for word in words:
+        rank, _, path = word.partition('=')
+        with open(path, 'rb') as file:
+            octets = file.read()
+        try:
+            member, _, entries = read_export(octets)
+        except (At, Full):
+            raise Faulty(f'{path} is no export') from None
+        if rank != str(member):
+            raise Faulty(f'{path} is the export of monitor {member}, and not of {rank}')
+        found[member] = entries
+    return found
+
+
 def said_of(merge: Merge) -> Iterator[str]:
     """What was checked, what isn't known and what differs."""
     yield f'{merge.play.events} events; {merge.compared} sends and {merge.stores} stores are those of the records'
+    if merge.before:
+        yield f'{merge.before} events lead from new stores to those with which the records begin'
     for rank, count in merge.supposed.items():
         yield f'not known: monitor {rank} has no record' + f'; {count} events of it are supposed, after which it sends what came from it' * bool(count)
     yield from (f'not known: {note}' for note in merge.unknown)

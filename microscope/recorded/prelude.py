@@ -1,0 +1,462 @@
+"""A prelude: events that lead from new stores to those with which records begin.
+
+A schedule can't give a monitor a store, so a run of all monitors is made that ends with these stores: the same elections as far as epochs and proposal numbers show
+them (`reigns`), the same commands (`history`), and as many starts. It isn't the run in which the stores came about, but ends like it: each key of each store is compared.
+"""
+from __future__ import annotations
+
+from itertools import islice
+from typing import Any, Iterator, NamedTuple
+
+from fields import At
+from played import Play
+from recorded.disks import Map
+from recorded.held import Held, Unreachable, held
+from recorded.history import Command, Shared, proposed_in
+from recorded.requests import Unwritable
+from recorded.reigns import Course, Planner, Ranking, Reign, course_of, winners
+from schedules import MOST_EVENTS, TIMERS
+from store import number_at
+
+# By the phase: the timer at which a monitor leaves it and probes.
+LEAVING = dict(Peon='lease', Collecting='collect', Previous='accept', Updating='accept', Active='leaseack', Synchronizing='sync', Electing='')
+# The client that asks for what the stores hold.
+CLIENT = 4_000_000_002
+# A store copies what it lacks from another one if it lacks more versions than this.
+FEW = 10
+# The most sequences of elections that are tried.
+MOST_COURSES = 20
+# The most that a copy takes: its messages and steps.
+MOST_STEPS = 100_000
+
+
+class Failing(Exception):
+    """An event of a prelude didn't do what it was to do."""
+
+
+class Stage:
+    """A run that is made event by event."""
+
+    def __init__(self, first: str):
+        self.play, self.lines, self.asked = Play(first), [first], 0
+
+    def event(self, line: str) -> None:
+        if self.play.events >= MOST_EVENTS or not self.play.take(line):
+            raise Failing(f'{line}: {self.play.stop or "too many events"}')
+        self.lines.append(line)
+
+    # ---- what monitors are in
+
+    def state(self, rank: int) -> Any:
+        return self.play.state(rank)
+
+    def phase(self, rank: int) -> str:
+        state = self.state(rank)
+        return state.phase.name if state else 'Down'
+
+    def store(self, rank: int) -> Map:
+        return self.play.world.store(rank).entries
+
+    def number(self, rank: int, prefix: bytes, key: bytes) -> int:
+        return number_at(self.store(rank), prefix, key)
+
+    def last(self, rank: int) -> int:
+        return self.number(rank, b'paxos', b'last_committed')
+
+    def first(self, rank: int) -> int:
+        return self.number(rank, b'paxos', b'first_committed')
+
+    def epoch(self, rank: int) -> int:
+        return self.number(rank, b'monitor', b'election_epoch')
+
+    def promised(self, rank: int) -> int:
+        return self.number(rank, b'paxos', b'accepted_pn')
+
+    def up(self) -> list[int]:
+        return [rank for rank in range(self.play.n) if self.state(rank)]
+
+    # ---- events
+
+    def timer(self, rank: int, name: str) -> None:
+        self.event(f'timer {rank} {name} 0')
+
+    def newest(self, sender: int, receiver: int, *names: str, epoch: int | None = None) -> int | None:
+        """The number of the newest such message, of these kinds and perhaps of an epoch."""
+        sent = self.play.world.messages
+        for number in range(len(sent), 0, -1):
+            it = sent[number - 1]
+            if it.to == receiver and it.message.from_ == sender and it.message.body.name in names and epoch in (None, it.message.epoch):
+                return number
+        return None
+
+    def deliver(self, sender: int, receiver: int, *names: str, epoch: int | None = None) -> None:
+        number = self.newest(sender, receiver, *names, epoch=epoch)
+        if number is None:
+            raise Failing(f'no {"/".join(names)} from {sender} to {receiver}')
+        self.event(f'deliver {number} 0')
+
+    def ask(self, rank: int, words: str) -> None:
+        self.asked += 1
+        self.event(f'client {rank} 0 {CLIENT} {self.asked} {words}')
+
+    def stop(self, rank: int) -> None:
+        """Stops a monitor by a crash in a timer that isn't set."""
+        state = self.state(rank)
+        if state:
+            name = next(name for name, timer in zip(TIMERS, state.timers) if not timer.args)
+            self.event(f'crash a 1 0 timer {rank} {name} 0')
+
+    # ---- elections
+
+    def leave(self, rank: int) -> None:
+        """Lets a monitor probe."""
+        if self.phase(rank) != 'Probing':
+            self.timer(rank, LEAVING[self.phase(rank)])
+        if self.phase(rank) != 'Probing':
+            raise Failing(f'monitor {rank} is {self.phase(rank)}, and was to probe')
+
+    def answers(self, rank: int) -> list[int]:
+        """Whose answers to a PROBE lead to no copy."""
+        last = self.last(rank)
+        return [it for it in self.up() if it != rank and last + FEW >= self.last(it) and (last >= self.first(it) or self.first(it) <= 1)]
+
+    def elect(self, rank: int) -> None:
+        """Lets a monitor begin an election, or go on with that in which it is."""
+        if self.phase(rank) == 'Electing':
+            return
+        self.leave(rank)
+        for other in self.answers(rank):
+            self.deliver(rank, other, 'Probe')
+            self.deliver(other, rank, 'ProbeReply')
+            if self.phase(rank) == 'Electing':
+                return
+        raise Failing(f'monitor {rank} begins no election')
+
+    def join(self, rank: int, other: int, epoch: int) -> None:
+        """Lets a monitor join the election of an epoch in which another one is."""
+        if self.phase(rank) == 'Probing':
+            self.elect(rank)
+        if self.epoch(rank) < epoch:
+            self.deliver(other, rank, 'Propose', epoch=epoch)
+        if (self.epoch(rank), self.phase(rank)) != (epoch, 'Electing'):
+            raise Failing(f'monitor {rank} is in epoch {self.epoch(rank)}, and was to be in {epoch}')
+
+    def gather(self, ranks: list[int], epoch: int) -> None:
+        """Lets monitors join the election of an epoch, which the one of them begins that is furthest."""
+        first = max(ranks, key=lambda rank: (self.epoch(rank), self.last(rank)))
+        self.elect(first)
+        for rank in ranks:
+            if rank != first:
+                self.join(rank, first, epoch)
+
+    def win(self, winner: int, voters: list[int], epoch: int) -> None:
+        """Lets a monitor win the election of an epoch by the votes of others that are in it."""
+        if not self.state(winner).elector.candidate:
+            self.timer(winner, 'election')
+        for rank in voters:
+            deferred = self.state(rank).elector.deferred
+            if deferred.args and deferred.args[0] != winner:
+                self.timer(rank, 'election')
+            self.deliver(winner, rank, 'Propose', epoch=epoch)
+            self.deliver(rank, winner, 'Ack', epoch=epoch)
+        if self.phase(winner) == 'Electing':
+            self.timer(winner, 'election')
+        if (self.phase(winner), self.epoch(winner)) != ('Collecting', epoch + 1):
+            raise Failing(f'monitor {winner} didn\'t win the election of epoch {epoch}')
+
+    # ---- values
+
+    def collect(self, reign: Reign, hears: list[int], answer: list[int]) -> None:
+        """Lets those who are to hear a leader's number promise it. The leader takes the answers of some."""
+        leader = reign.winner
+        while self.state(leader).leader.pn < reign.pn:
+            before = self.state(leader).leader.pn
+            voters = [rank for rank in self.up() if self.newest(leader, rank, 'Collect', epoch=2 * reign.number)]
+            other = next((rank for rank in voters if self.promised(rank) > before and self.promised(rank) // 100 == reign.level() - 1), None)
+            if other is not None:
+                self.exchange(leader, other)
+            if self.state(leader).leader.pn == before:
+                raise Failing(f'monitor {leader} makes {before}, and was to make {reign.pn}')
+        if self.state(leader).leader.pn != reign.pn:
+            raise Failing(f'monitor {leader} makes {self.state(leader).leader.pn}, and was to make {reign.pn}')
+        for rank in hears:
+            self.deliver(leader, rank, 'Collect')
+            if rank in answer:
+                self.deliver(rank, leader, 'Last')
+
+    def exchange(self, leader: int, rank: int) -> None:
+        self.deliver(leader, rank, 'Collect')
+        self.deliver(rank, leader, 'Last')
+
+    def begin(self, leader: int, command: Command) -> None:
+        """Lets a leader propose a command's value, unless it recovers one."""
+        if self.phase(leader) == 'Previous':
+            return
+        asked = leader if command.asked is None else command.asked
+        self.ask(asked, command.words)
+        if asked != leader:
+            self.deliver(asked, leader, 'Forward')
+        if self.phase(leader) not in ('Updating', 'Active'):
+            raise Failing(f'monitor {leader} is {self.phase(leader)}, and was to propose')
+
+    def accept(self, leader: int, ranks: list[int], is_answered: bool) -> None:
+        for rank in ranks:
+            self.deliver(leader, rank, 'Begin')
+            if is_answered:
+                self.deliver(rank, leader, 'Accept')
+
+    # ---- copies
+
+    def copy(self, rank: int, provider: int) -> None:
+        """Lets a monitor copy what it lacks."""
+        self.leave(rank)
+        self.deliver(rank, provider, 'Probe')
+        self.deliver(provider, rank, 'ProbeReply')
+        self.deliver(rank, provider, 'GetCookieFull', 'GetCookieRecent')
+        self.deliver(provider, rank, 'Cookie')
+        for _ in range(MOST_STEPS):
+            if self.phase(rank) != 'Synchronizing':
+                return
+            if self.state(rank).requester.stage.name == 'Replay':
+                self.timer(rank, 'step')
+            else:
+                self.deliver(rank, provider, 'GetChunk')
+                self.deliver(provider, rank, 'Chunk', 'LastChunk')
+        raise Failing(f'monitor {rank} doesn\'t finish its copy')
+
+
+class Work(NamedTuple):
+    """What is done in a reign: by which voters, who learns that it was won, who hears its number, whose answers the leader takes, up to which version values are
+    committed, and the version that is only begun, or 0."""
+    voters: list[int]
+    follow: list[int]
+    hears: list[int]
+    answer: list[int]
+    end: int = 0
+    begun: int = 0
+
+
+class Leading:
+    """Makes the run of a course."""
+
+    def __init__(self, first: str, stores: dict[int, Held], ranking: Ranking, commands: list[Command]):
+        self.stage, self.stores, self.ranking, self.commands = Stage(first), stores, ranking, commands
+
+    def made(self, course: Course) -> Stage:
+        """The run of a course. Raises Failing if it goes another way."""
+        for rank in self.stores:
+            self.stage.event(f'start {rank} 0')
+        for number in sorted({reign.number for reign in course.plan}):
+            self.epoch(number, course)
+        for rank, it in self.stores.items():
+            self.copied(rank, it.last)
+        self.raised()
+        for rank, it in self.stores.items():
+            for _ in range(it.starts - 1):
+                self.stage.event(f'start {rank} 0')
+            self.stage.stop(rank)
+        return self.stage
+
+    # ---- one epoch
+
+    def epoch(self, number: int, course: Course) -> None:
+        """Lets those win who win the elections of this number, and do their work."""
+        rivals = winners(course.plan, number)
+        works = [(reign, self.work(reign, follow, hears, rivals))
+                 for reign, follow, hears in zip(course.plan, course.follow, course.hears) if reign.number == number]
+        voting = {rank for _, work in works for rank in work.voters}
+        top = max(map(self.stage.last, voting | rivals))
+        for rank in sorted(voting | rivals):
+            if self.stage.phase(rank) == 'Probing' and self.stores[rank].last >= top:
+                self.copied(rank, top)
+        self.stage.gather(sorted(voting | rivals), 2 * number - 1)
+        for reign, work in works:
+            self.stage.win(reign.winner, work.voters, 2 * number - 1)
+        for reign, work in works:
+            self.reign(reign, work)
+
+    def work(self, reign: Reign, follow: set[int], hears: set[int], rivals: set[int]) -> Work:
+        """What is done in a reign."""
+        stores, pn, leader = self.stores, reign.pn, self.stores[reign.winner]
+        ends = {rank for rank in follow if stores[rank].epoch == 2 * reign.number or pn in (stores[rank].promised, stores[rank].accepted_pn)}
+        accepting = {rank for rank in hears if stores[rank].accepted_pn >= pn}
+        quorum = {leader.rank} | accepting
+        is_majority = self.ranking.is_majority(quorum) and leader.accepted_pn >= pn and ends <= accepting
+        base = max(map(self.stage.last, quorum if is_majority else hears | {leader.rank}))
+        end = self.end(reign, quorum) if is_majority else 0
+        ranks = sorted(accepting if is_majority and end > base else hears)
+        begun = self.begun(reign, {*ranks, leader.rank}, max(base, end) + 1)
+        if begun and is_majority:
+            ranks = sorted(accepting)
+        if end > base or begun or any(self.stage.last(rank) < base == stores[rank].last for rank in hears):
+            return Work(ranks, ranks, ranks, ranks, end, begun)
+        voters = {rank for rank, it in stores.items() if it.epoch >= 2 * reign.number - 1 and self.ranking.outranks(leader.rank, rank)} - rivals
+        teacher = [rank for rank in ranks if self.stage.last(rank) == base == leader.last][:self.stage.last(leader.rank) < base]
+        return Work(sorted(voters), sorted(follow), ranks, teacher)
+
+    def end(self, reign: Reign, quorum: set[int]) -> int:
+        """The last version that this quorum commits, so that each monitor can still accept its last value, and learn no more than it has."""
+        stores, pn = self.stores.values(), reign.pn
+        later = [it.accepted - 1 for it in stores if it.accepted_pn > pn]
+        lagging = [it.last for it in stores if it.last > it.accepted and it.promised > pn]
+        here = [it.accepted for it in stores if it.rank in quorum and it.accepted_pn == pn]
+        leader = self.stores[reign.winner]
+        own = [leader.last] if leader.accepted_pn == pn else []
+        return min([len(self.commands), *later, *lagging, *here, *own])
+
+    def begun(self, reign: Reign, quorum: set[int], version: int) -> int:
+        """The version after the last one, if a member of a quorum accepts its value as its last one under this number; otherwise 0."""
+        return version * any((self.stores[rank].accepted_pn, self.stores[rank].accepted) == (reign.pn, version) for rank in quorum)
+
+    def reign(self, reign: Reign, work: Work) -> None:
+        stage, leader = self.stage, reign.winner
+        for rank in work.follow:
+            stage.deliver(leader, rank, 'Victory', epoch=2 * reign.number)
+        stage.collect(reign, work.hears, work.answer)
+        if not work.answer or stage.phase(leader) == 'Collecting':
+            return
+        for rank in work.hears:
+            if stage.last(rank) < stage.last(leader) <= self.stores[rank].last:
+                stage.deliver(leader, rank, 'Commit')
+        self.catch_up(reign, work)
+        while stage.last(leader) < work.end:
+            self.commit(reign, work, stage.last(leader) + 1)
+            self.catch_up(reign, work)
+        if work.begun:
+            self.start(reign, work)
+
+    def commit(self, reign: Reign, work: Work, version: int) -> None:
+        """Lets a quorum commit a version, and those learn it who are to."""
+        self.stage.begin(reign.winner, self.commands[version - 1])
+        self.stage.accept(reign.winner, work.hears, True)
+        self.learn(reign, work, version)
+
+    def learn(self, reign: Reign, work: Work, version: int) -> None:
+        for rank in work.hears:
+            it = self.stores[rank]
+            if it.last >= version and not (it.accepted_pn > reign.pn and it.accepted == version):
+                self.stage.deliver(reign.winner, rank, 'Commit')
+
+    def start(self, reign: Reign, work: Work) -> None:
+        """Lets a leader begin a value which not all accept, or of which not all learn that it is committed."""
+        version, leader = work.begun, self.stores[reign.winner]
+        if self.stage.last(leader.rank) != version - 1:
+            raise Failing(f'monitor {leader.rank} has version {self.stage.last(leader.rank)}, and was to begin {version}')
+        self.stage.begin(leader.rank, self.command(reign.pn, version))
+        is_committed = leader.last >= version and leader.accepted_pn == reign.pn
+        here = [rank for rank in work.hears if is_committed or (self.stores[rank].accepted_pn, self.stores[rank].accepted) == (reign.pn, version)]
+        self.stage.accept(leader.rank, here, is_committed)
+        if is_committed:
+            self.learn(reign, work, version)
+
+    def command(self, pn: int, version: int) -> Command:
+        """The command of a value that is begun under a number, as a store shows it, or as it was committed."""
+        for it in self.stores.values():
+            value = it.pending()
+            if value is not None and (it.accepted_pn, it.accepted) == (pn, version):
+                return proposed_in(value).command()
+        return self.commands[version - 1]
+
+    def catch_up(self, reign: Reign, work: Work) -> None:
+        """Lets those copy what they lack who aren't in the quorum, and have no later version."""
+        version = self.stage.last(reign.winner)
+        for rank, it in self.stores.items():
+            if it.last == version and rank != reign.winner and rank not in work.voters and it.accepted_pn <= reign.pn:
+                self.copied(rank, version)
+
+    def copied(self, rank: int, version: int) -> None:
+        """Lets a monitor copy the versions up to one from another monitor that has just these, if it lacks them and may."""
+        stage = self.stage
+        last = stage.last(rank)
+        if last >= version:
+            return
+        for other in stage.up():
+            if stage.last(other) == version and (version - last > FEW or stage.first(other) > max(last, 1)):
+                stage.copy(rank, other)
+                return
+
+    # ---- after the last reign
+
+    def raised(self) -> None:
+        """Lets those begin or join an election whose store has its epoch."""
+        odd = [rank for rank, it in self.stores.items() if it.epoch % 2 and it.epoch > self.stage.epoch(rank)]
+        for rank in sorted(odd, key=self.stage.epoch, reverse=True):
+            epoch = self.stores[rank].epoch
+            caller = next((other for other in self.stores if other != rank and self.stage.newest(other, rank, 'Propose', epoch=epoch)), None)
+            if caller is None:
+                self.stage.elect(rank)
+            else:
+                self.stage.join(rank, caller, epoch)
+
+
+def alone(first: str, store: Held, commands: list[Command]) -> Stage:
+    """The run of a quorum of one monitor."""
+    stage = Stage(first)
+    stage.event('start 0 0')
+    for command in commands:
+        stage.ask(0, command.words)
+    for _ in range(store.starts - 1):
+        stage.event('start 0 0')
+    stage.stop(0)
+    return stage
+
+
+def difference(stage: Stage, stores: dict[int, Map]) -> str | None:
+    """In what the stores of a run differ from those that are wanted."""
+    for rank in range(stage.play.n):
+        wanted, found = stores.get(rank, {}), dict(stage.store(rank))
+        places = sorted(place for place in {*wanted, *found} if wanted.get(place) != found.get(place))
+        if places:
+            names = ', '.join(f'{prefix.decode()}/{key.decode()} ({shown(wanted.get((prefix, key)))} instead of {shown(found.get((prefix, key)))})' for prefix, key in places[:3])
+            return f'the store of monitor {rank} differs in {len(places)} keys from what a schedule was found to lead to: {names}'
+    return None
+
+
+def shown(value: bytes | None) -> str:
+    if value is None:
+        return 'none'
+    return str(int.from_bytes(value, 'little')) if len(value) == 8 else f'{len(value)} bytes'
+
+
+def prelude(first: str, maps: dict[int, Map]) -> Stage:
+    """A run that ends with these stores, by rank, and with all monitors down. Raises Unreachable if none is found, and Unwritable if a value is in no line."""
+    _, count, rule = first.split(' ')
+    stores = {rank: held(rank, entries) for rank, entries in sorted(maps.items()) if entries}
+    if not stores:
+        return Stage(first)
+    shared = Shared(list(stores.values()))
+    least = shared.last * (1 if count == '1' else 4 * (int(count) // 2))
+    if least > MOST_EVENTS:
+        raise Unreachable(f'the last version {shared.last} takes {least} events, and a schedule has at most {MOST_EVENTS}')
+    try:
+        commands = shared.commands()
+    except (At, Unwritable) as fault:
+        raise Unreachable(f'{fault}: no events lead to it') from None
+    if count == '1':
+        return checked(alone(first, stores[0], commands), maps)
+    ranking = Ranking(int(count), rule)
+    why: list[Exception] = []
+    for course in islice(courses(ranking, stores), MOST_COURSES):
+        try:
+            return checked(Leading(first, stores, ranking, commands).made(course), maps)
+        except (Failing, Unreachable) as fault:
+            why.append(fault)
+    raise Unreachable(str(why[0]) if why else 'no sequence of elections was found after which the stores have their epochs (monitor/election_epoch) and proposal numbers '
+                      '(paxos/last_pn, paxos/accepted_pn, paxos/pending_pn): ' + numbers_of(stores))
+
+
+def courses(ranking: Ranking, stores: dict[int, Held]) -> Iterator[Course]:
+    """The sequences of elections that are found for these stores."""
+    for plan in Planner(ranking, stores).plans():
+        if course := course_of(plan, ranking, stores):
+            yield course
+
+
+def checked(stage: Stage, maps: dict[int, Map]) -> Stage:
+    if why := difference(stage, maps):
+        raise Unreachable(why)
+    return stage
+
+
+def numbers_of(stores: dict[int, Held]) -> str:
+    return '; '.join(f'monitor {it.rank} {it.epoch}, {it.made}, {it.promised}, {it.accepted_pn}' for it in stores.values())
