@@ -283,7 +283,7 @@ class Leading:
         quorum = {leader.rank} | accepting
         is_majority = self.ranking.is_majority(quorum) and leader.accepted_pn >= pn and ends <= accepting
         base = max(map(self.stage.last, quorum if is_majority else hears | {leader.rank}))
-        end = self.end(reign, quorum) if is_majority else 0
+        end = self.end(reign, quorum, base) if is_majority else 0
         ranks = sorted(accepting if is_majority and end > base else hears)
         begun = self.begun(reign, {*ranks, leader.rank}, max(base, end) + 1)
         if begun and is_majority:
@@ -294,15 +294,17 @@ class Leading:
         teacher = [rank for rank in ranks if self.stage.last(rank) == base == leader.last][:self.stage.last(leader.rank) < base]
         return Work(sorted(voters), sorted(follow), ranks, teacher)
 
-    def end(self, reign: Reign, quorum: set[int]) -> int:
-        """The last version that this quorum commits, so that each monitor can still accept its last value, and learn no more than it has."""
+    def end(self, reign: Reign, quorum: set[int], base: int) -> int:
+        """The last version that this quorum commits, after one that it has, so that each monitor can still accept its last value, and learn no more than it has."""
         stores, pn = self.stores.values(), reign.pn
         later = [it.accepted - 1 for it in stores if it.accepted_pn > pn]
         lagging = [it.last for it in stores if it.last > it.accepted and it.promised > pn]
         here = [it.accepted for it in stores if it.rank in quorum and it.accepted_pn == pn]
         leader = self.stores[reign.winner]
         own = [leader.last] if leader.accepted_pn == pn else []
-        return min([len(self.commands), *later, *lagging, *here, *own])
+        end = min([len(self.commands), *later, *lagging, *here, *own])
+        # A monitor that has to be asked has to be in the quorum.
+        return next((at for at in range(base, end) if self.commands[at].asked not in (None, *quorum)), end)
 
     def begun(self, reign: Reign, quorum: set[int], version: int) -> int:
         """The version after the last one, if a member of a quorum accepts its value as its last one under this number; otherwise 0."""
@@ -425,7 +427,7 @@ def prelude(first: str, maps: dict[int, Map]) -> Stage:
     if not stores:
         return Stage(first)
     shared = Shared(list(stores.values()))
-    least = shared.last * (1 if count == '1' else 4 * (int(count) // 2))
+    least = shared.last * (1 + 3 * (int(count) // 2))
     if least > MOST_EVENTS:
         raise Unreachable(f'the last version {shared.last} takes {least} events, and a schedule has at most {MOST_EVENTS}')
     try:

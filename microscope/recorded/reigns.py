@@ -87,11 +87,10 @@ class Planner:
         found += [it._replace(number=number) for it in found if number and it.winner not in winners(begun, number)]
         able = [it for it in found if max(last, HUNDRED - 1) < it.pn <= limit and self.stores[it.winner].made >= it.pn
                 and self.leaves_room(it, place) and self.wins(it, winners(begun, it.number))]
-        slack = (self.due[limit] or self.count) - number - (limit // HUNDRED - level)
 
         def unlikeliness(it: Reign) -> tuple:
             is_early = it.pn == limit and it.number < self.due[limit]
-            return it.number == number, slack <= 0 and it.level() == level, is_early, it.pn != limit, it.pn
+            return it.number == number, is_early, it.level() == level, it.pn != limit, it.pn
         return sorted(able, key=unlikeliness)
 
     def wins(self, reign: Reign, others: set[int]) -> bool:
