@@ -8,8 +8,16 @@ from recorded.entries import Faulty
 from store import number_at
 
 
+# Proposal numbers of one rank are the same in their last two digits.
+HUNDRED = 100
+
+
 class Unreachable(Faulty):
     """No events are found that lead to these stores, for this reason."""
+
+
+# More than any number of a store.
+MORE = 2**63 + 1
 
 
 class Held(NamedTuple):
@@ -24,6 +32,10 @@ class Held(NamedTuple):
     accepted_pn: int
     accepted: int
     map: Map
+
+    def is_known(self) -> bool:
+        """Whether this is what a store holds. If it isn't known, anything may lead to it."""
+        return bool(self.map)
 
     def pending(self) -> bytes | None:
         """The accepted value of the version after the last one, if there is one."""
@@ -40,6 +52,12 @@ class Held(NamedTuple):
     def latest(self) -> int:
         """The number of the last quorum whose epoch the monitor has had. The one of epoch 2 has the number 1."""
         return self.epoch // 2
+
+
+def unknown(rank: int, stores: list[Held]) -> Held:
+    """A monitor whose store isn't known. It made the greatest of its numbers that the other stores have."""
+    numbers = [pn for it in stores for pn in (it.promised, it.accepted_pn) if pn % HUNDRED == rank]
+    return Held(rank, 1, MORE, max(numbers, default=0), MORE, MORE, MORE, MORE, {})
 
 
 def held(rank: int, entries: Map) -> Held:

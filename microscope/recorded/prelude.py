@@ -11,7 +11,7 @@ from typing import Any, Iterator, NamedTuple
 from fields import At
 from played import Play
 from recorded.disks import Map
-from recorded.held import Held, Unreachable, held
+from recorded.held import HUNDRED, Held, Unreachable, held, unknown
 from recorded.history import Command, Shared, proposed_in
 from recorded.requests import Unwritable
 from recorded.reigns import Course, Planner, Ranking, Reign, course_of, winners
@@ -172,7 +172,7 @@ class Stage:
         while self.state(leader).leader.pn < reign.pn:
             before = self.state(leader).leader.pn
             voters = [rank for rank in self.up() if self.newest(leader, rank, 'Collect', epoch=2 * reign.number)]
-            other = next((rank for rank in voters if self.promised(rank) > before and self.promised(rank) // 100 == reign.level() - 1), None)
+            other = next((rank for rank in voters if self.promised(rank) > before and self.promised(rank) // HUNDRED == reign.level() - 1), None)
             if other is not None:
                 self.exchange(leader, other)
             if self.state(leader).leader.pn == before:
@@ -249,7 +249,7 @@ class Leading:
         for number in sorted({reign.number for reign in course.plan}):
             self.epoch(number, course)
         for rank, it in self.stores.items():
-            self.copied(rank, it.last)
+            self.copied(rank, it.last if it.is_known() else len(self.commands))
         self.raised()
         for rank, it in self.stores.items():
             for _ in range(it.starts - 1):
@@ -381,7 +381,7 @@ class Leading:
 
     def raised(self) -> None:
         """Lets those begin or join an election whose store has its epoch."""
-        odd = [rank for rank, it in self.stores.items() if it.epoch % 2 and it.epoch > self.stage.epoch(rank)]
+        odd = [rank for rank, it in self.stores.items() if it.is_known() and it.epoch % 2 and it.epoch > self.stage.epoch(rank)]
         for rank in sorted(odd, key=self.stage.epoch, reverse=True):
             epoch = self.stores[rank].epoch
             caller = next((other for other in self.stores if other != rank and self.stage.newest(other, rank, 'Propose', epoch=epoch)), None)
@@ -405,8 +405,8 @@ def alone(first: str, store: Held, commands: list[Command]) -> Stage:
 
 def difference(stage: Stage, stores: dict[int, Map]) -> str | None:
     """In what the stores of a run differ from those that are wanted."""
-    for rank in range(stage.play.n):
-        wanted, found = stores.get(rank, {}), dict(stage.store(rank))
+    for rank, wanted in stores.items():
+        found = dict(stage.store(rank))
         places = sorted(place for place in {*wanted, *found} if wanted.get(place) != found.get(place))
         if places:
             names = ', '.join(f'{prefix.decode()}/{key.decode()} ({shown(wanted.get((prefix, key)))} instead of {shown(found.get((prefix, key)))})' for prefix, key in places[:3])
@@ -421,7 +421,8 @@ def shown(value: bytes | None) -> str:
 
 
 def prelude(first: str, maps: dict[int, Map]) -> Stage:
-    """A run that ends with these stores, by rank, and with all monitors down. Raises Unreachable if none is found, and Unwritable if a value is in no line."""
+    """A run that ends with these stores, by rank, and with all monitors down. A monitor that isn't among them may have any store. Raises Unreachable if no such run
+    is found."""
     _, count, rule = first.split(' ')
     stores = {rank: held(rank, entries) for rank, entries in sorted(maps.items()) if entries}
     if not stores:
@@ -437,6 +438,8 @@ def prelude(first: str, maps: dict[int, Map]) -> Stage:
     if count == '1':
         return checked(alone(first, stores[0], commands), maps)
     ranking = Ranking(int(count), rule)
+    known = list(stores.values())
+    stores |= {rank: unknown(rank, known) for rank in range(int(count)) if rank not in maps}
     why: list[Exception] = []
     for course in islice(courses(ranking, stores), MOST_COURSES):
         try:
@@ -461,4 +464,4 @@ def checked(stage: Stage, maps: dict[int, Map]) -> Stage:
 
 
 def numbers_of(stores: dict[int, Held]) -> str:
-    return '; '.join(f'monitor {it.rank} {it.epoch}, {it.made}, {it.promised}, {it.accepted_pn}' for it in stores.values())
+    return '; '.join(f'monitor {it.rank} {it.epoch}, {it.made}, {it.promised}, {it.accepted_pn}' for it in stores.values() if it.is_known())

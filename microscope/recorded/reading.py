@@ -39,19 +39,19 @@ def lives_in(paths: list[str]) -> dict[int, list[Life]]:
     return {rank: lives([of_rank(file, rank) for file in files if of_rank(file, rank)]) for rank in ranks}
 
 
-def exports_in(words: list[str]) -> dict[int, Map]:
+def exports_in(words: list[str], lives: dict[int, list[Life]]) -> dict[int, Map]:
     """The stores of the exports that RANK=EXPORT name, by rank. Raises Faulty if one is none, or is another monitor's."""
-    found = {}
+    found, count = {}, next(iter(lives.values()))[0].begin.monitors
     for word in words:
         rank, _, path = word.partition('=')
         with open(path, 'rb') as file:
             octets = file.read()
         try:
-            member, _, entries = read_export(octets)
+            member, monitors, entries = read_export(octets)
         except (At, Full):
             raise Faulty(f'{path} is no export') from None
-        if rank != str(member):
-            raise Faulty(f'{path} is the export of monitor {member}, and not of {rank}')
+        if (rank, monitors) != (str(member), count):
+            raise Faulty(f'{path} is the export of monitor {member} of {monitors}, and not of {rank} of {count}')
         found[member] = entries
     return found
 

@@ -7,11 +7,10 @@ from __future__ import annotations
 
 from typing import Iterator, NamedTuple
 
-from recorded.held import Held, Unreachable
+from recorded.held import HUNDRED, Held, Unreachable
 
 # The most winners that are tried in all.
 MOST_TRIED = 50_000
-HUNDRED = 100
 
 
 class Reign(NamedTuple):
@@ -47,13 +46,14 @@ class Planner:
 
     def __init__(self, ranking: Ranking, stores: dict[int, Held]):
         self.ranking, self.stores = ranking, stores
-        self.count = max(it.latest() for it in stores.values())
-        self.needed = sorted({pn for it in stores.values() for pn in (it.made, it.promised, it.accepted_pn)} - {0})
+        known = [it for it in stores.values() if it.is_known()]
+        self.count = max(it.latest() for it in known)
+        self.needed = sorted({pn for it in known for pn in (it.made, it.promised, it.accepted_pn)} - {0})
         self.tried = 0
         for pn in self.needed:
             maker = stores.get(pn % HUNDRED)
             if maker is None or maker.made < pn:
-                who = next(it.rank for it in stores.values() if pn in (it.promised, it.accepted_pn))
+                who = next(it.rank for it in known if pn in (it.promised, it.accepted_pn))
                 raise Unreachable(f'monitor {who} knows the number {pn} (paxos/accepted_pn or paxos/pending_pn), which monitor {pn % HUNDRED} never made')
         self.latest = {pn: min(it.latest() for it in stores.values() if pn in (it.made, it.promised, it.accepted_pn) or it.rank == pn % HUNDRED) for pn in self.needed}
         self.due = {pn: min((it.latest() for it in stores.values() if it.promised == pn), default=0) for pn in self.needed}
@@ -135,7 +135,7 @@ def course_of(plan: list[Reign], ranking: Ranking, stores: dict[int, Held]) -> C
         course.hears.append(hears)
     ends = {rank for rank, it in stores.items() if it.epoch and it.epoch % 2 == 0}
     had = {rank for reign, follow in zip(plan, course.follow) for rank in follow | {reign.winner} if reign.number == stores[rank].latest()}
-    return course if ends <= had and all(promised[rank] == it.promised for rank, it in stores.items()) else None
+    return course if ends <= had and all(promised[rank] == it.promised for rank, it in stores.items() if it.is_known()) else None
 
 
 def follows(rank: int, reign: Reign, plan: list[Reign], ranking: Ranking, stores: dict[int, Held]) -> bool:
