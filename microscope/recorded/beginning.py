@@ -6,9 +6,12 @@ from typing import Dict, List, NamedTuple, Optional
 from recorded.disks import Map, map_on
 from recorded.held import Unreachable
 from recorded.lives import Life, Step
-from recorded.prelude import Stage, prelude
+from recorded.prelude import prelude
+from recorded.staging import Stage
 
 Lives = Dict[int, List[Life]]
+# What is said if the monitors were started one after the other, while others were up.
+NEVER_DOWN = 'no start of all monitors is recorded, before which all were down: stop all, and start them with records'
 # By rank; None if the store isn't known.
 Stores = Dict[int, Optional[Map]]
 
@@ -30,7 +33,7 @@ def beginning(lives: Lives, exports: dict[int, Map]) -> Beginning:
         return Beginning(lives, stores, Stage(first), [])
     places = cut(lives)
     if places is None:
-        return Beginning(lives, stores, Stage(first), ['no start of all monitors is recorded, before which all were down'])
+        return Beginning(lives, stores, Stage(first), [NEVER_DOWN])
     later = {rank: found[places[rank]:] for rank, found in lives.items()}
     notes = [f'the first {place} lives of monitor {rank} are left out, since not all began with them' for rank, place in places.items() if place]
     stores = stores_of(later, exports)
@@ -55,11 +58,16 @@ def cut(lives: Lives) -> dict[int, int] | None:
     for rank, found in lives.items():
         places[rank] = next((place for place, life in enumerate(found) if life.begin.part == 0), len(found))
     while all(places[rank] < len(found) for rank, found in lives.items()):
-        late = next((rank for rank in lives if any(is_from_before(step, rank, life, lives, places) for life in lives[rank][places[rank]:] for step in life.steps)), None)
+        late = next((rank for rank in lives if hears_from_before(rank, lives, places)), None)
         if late is None:
             return places
         places[late] += 1
     return None
+
+
+def hears_from_before(rank: int, lives: Lives, places: dict[int, int]) -> bool:
+    """Whether a message came to a monitor, in its lives from its place on, that was sent before the lives at these places."""
+    return any(is_from_before(step, rank, life, lives, places) for life in lives[rank][places[rank]:] for step in life.steps)
 
 
 def is_from_before(step: Step, rank: int, life: Life, lives: Lives, places: dict[int, int]) -> bool:

@@ -1,5 +1,5 @@
-"""The commands by which the versions of a log came about, as far as stores show them. Those of versions that no store has any more are supposed, so that all that
-is kept comes about as well."""
+"""The commands by which the versions of a log came about, as far as stores show them. Those of versions that no store has any more are supposed, so that all
+that is kept comes about as well."""
 from __future__ import annotations
 
 from typing import Iterator, NamedTuple, Optional, Tuple

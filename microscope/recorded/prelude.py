@@ -1,233 +1,31 @@
 """A prelude: events that lead from new stores to those with which records begin.
 
-A schedule can't give a monitor a store, so a run of all monitors is made that ends with these stores: the same elections as far as epochs and proposal numbers show
-them (`reigns`), the same commands (`history`), and as many starts. It isn't the run in which the stores came about, but ends like it: each key of each store is compared.
+A schedule can't give a monitor a store. So a run of all monitors is made that ends with these stores: the same elections as far as epochs and proposal
+numbers show them (`reigns`), the same commands (`history`), and as many starts. It isn't the run by which the stores came about, but it ends like it: each key
+of each store is compared.
 """
 from __future__ import annotations
 
+from functools import partial
 from itertools import islice
-from typing import Any, Iterator, NamedTuple
+from typing import Callable, Iterator, NamedTuple
 
 from fields import At
-from played import Play
 from recorded.disks import Map
-from recorded.held import HUNDRED, Held, Unreachable, held, unknown
+from recorded.held import Held, Unreachable, held, unknown
 from recorded.history import Command, Shared, proposed_in
-from recorded.requests import Unwritable
 from recorded.reigns import Course, Planner, Ranking, Reign, course_of, winners
-from schedules import MOST_EVENTS, TIMERS
-from store import number_at
+from recorded.requests import Unwritable
+from recorded.staging import FEW, Failing, Stage
+from schedules import MOST_EVENTS
 
-# By the phase: the timer at which a monitor leaves it and probes.
-LEAVING = dict(Peon='lease', Collecting='collect', Previous='accept', Updating='accept', Active='leaseack', Synchronizing='sync', Electing='')
-# The client that asks for what the stores hold.
-CLIENT = 4_000_000_002
-# A store copies what it lacks from another one if it lacks more versions than this.
-FEW = 10
-# The most sequences of elections that are tried.
-MOST_COURSES = 20
-# The most that a copy takes: its messages and steps.
-MOST_STEPS = 100_000
-
-
-class Failing(Exception):
-    """An event of a prelude didn't do what it was to do."""
-
-
-class Stage:
-    """A run that is made event by event."""
-
-    def __init__(self, first: str):
-        self.play, self.lines, self.asked = Play(first), [first], 0
-
-    def event(self, line: str) -> None:
-        if self.play.events >= MOST_EVENTS or not self.play.take(line):
-            raise Failing(f'{line}: {self.play.stop or "too many events"}')
-        self.lines.append(line)
-
-    # ---- what monitors are in
-
-    def state(self, rank: int) -> Any:
-        return self.play.state(rank)
-
-    def phase(self, rank: int) -> str:
-        state = self.state(rank)
-        return state.phase.name if state else 'Down'
-
-    def store(self, rank: int) -> Map:
-        return self.play.world.store(rank).entries
-
-    def number(self, rank: int, prefix: bytes, key: bytes) -> int:
-        return number_at(self.store(rank), prefix, key)
-
-    def last(self, rank: int) -> int:
-        return self.number(rank, b'paxos', b'last_committed')
-
-    def first(self, rank: int) -> int:
-        return self.number(rank, b'paxos', b'first_committed')
-
-    def epoch(self, rank: int) -> int:
-        return self.number(rank, b'monitor', b'election_epoch')
-
-    def promised(self, rank: int) -> int:
-        return self.number(rank, b'paxos', b'accepted_pn')
-
-    def up(self) -> list[int]:
-        return [rank for rank in range(self.play.n) if self.state(rank)]
-
-    # ---- events
-
-    def timer(self, rank: int, name: str) -> None:
-        self.event(f'timer {rank} {name} 0')
-
-    def newest(self, sender: int, receiver: int, *names: str, epoch: int | None = None) -> int | None:
-        """The number of the newest such message, of these kinds and perhaps of an epoch."""
-        sent = self.play.world.messages
-        for number in range(len(sent), 0, -1):
-            it = sent[number - 1]
-            if it.to == receiver and it.message.from_ == sender and it.message.body.name in names and epoch in (None, it.message.epoch):
-                return number
-        return None
-
-    def deliver(self, sender: int, receiver: int, *names: str, epoch: int | None = None) -> None:
-        number = self.newest(sender, receiver, *names, epoch=epoch)
-        if number is None:
-            raise Failing(f'no {"/".join(names)} from {sender} to {receiver}')
-        self.event(f'deliver {number} 0')
-
-    def ask(self, rank: int, words: str) -> None:
-        self.asked += 1
-        self.event(f'client {rank} 0 {CLIENT} {self.asked} {words}')
-
-    def stop(self, rank: int) -> None:
-        """Stops a monitor by a crash in a timer that isn't set."""
-        state = self.state(rank)
-        if state:
-            name = next(name for name, timer in zip(TIMERS, state.timers) if not timer.args)
-            self.event(f'crash a 1 0 timer {rank} {name} 0')
-
-    # ---- elections
-
-    def leave(self, rank: int) -> None:
-        """Lets a monitor probe."""
-        if self.phase(rank) != 'Probing':
-            self.timer(rank, LEAVING[self.phase(rank)])
-        if self.phase(rank) != 'Probing':
-            raise Failing(f'monitor {rank} is {self.phase(rank)}, and was to probe')
-
-    def answers(self, rank: int) -> list[int]:
-        """Whose answers to a PROBE lead to no copy."""
-        last = self.last(rank)
-        return [it for it in self.up() if it != rank and last + FEW >= self.last(it) and (last >= self.first(it) or self.first(it) <= 1)]
-
-    def elect(self, rank: int) -> None:
-        """Lets a monitor begin an election, or go on with that in which it is."""
-        if self.phase(rank) == 'Electing':
-            return
-        self.leave(rank)
-        for other in self.answers(rank):
-            self.deliver(rank, other, 'Probe')
-            self.deliver(other, rank, 'ProbeReply')
-            if self.phase(rank) == 'Electing':
-                return
-        raise Failing(f'monitor {rank} begins no election')
-
-    def join(self, rank: int, other: int, epoch: int) -> None:
-        """Lets a monitor join the election of an epoch in which another one is."""
-        if self.phase(rank) == 'Probing':
-            self.elect(rank)
-        if self.epoch(rank) < epoch:
-            self.deliver(other, rank, 'Propose', epoch=epoch)
-        if (self.epoch(rank), self.phase(rank)) != (epoch, 'Electing'):
-            raise Failing(f'monitor {rank} is in epoch {self.epoch(rank)}, and was to be in {epoch}')
-
-    def gather(self, ranks: list[int], epoch: int) -> None:
-        """Lets monitors join the election of an epoch, which the one of them begins that is furthest."""
-        first = max(ranks, key=lambda rank: (self.epoch(rank), self.last(rank)))
-        self.elect(first)
-        for rank in ranks:
-            if rank != first:
-                self.join(rank, first, epoch)
-
-    def win(self, winner: int, voters: list[int], epoch: int) -> None:
-        """Lets a monitor win the election of an epoch by the votes of others that are in it."""
-        if not self.state(winner).elector.candidate:
-            self.timer(winner, 'election')
-        for rank in voters:
-            deferred = self.state(rank).elector.deferred
-            if deferred.args and deferred.args[0] != winner:
-                self.timer(rank, 'election')
-            self.deliver(winner, rank, 'Propose', epoch=epoch)
-            self.deliver(rank, winner, 'Ack', epoch=epoch)
-        if self.phase(winner) == 'Electing':
-            self.timer(winner, 'election')
-        if (self.phase(winner), self.epoch(winner)) != ('Collecting', epoch + 1):
-            raise Failing(f'monitor {winner} didn\'t win the election of epoch {epoch}')
-
-    # ---- values
-
-    def collect(self, reign: Reign, hears: list[int], answer: list[int]) -> None:
-        """Lets those who are to hear a leader's number promise it. The leader takes the answers of some."""
-        leader = reign.winner
-        while self.state(leader).leader.pn < reign.pn:
-            before = self.state(leader).leader.pn
-            voters = [rank for rank in self.up() if self.newest(leader, rank, 'Collect', epoch=2 * reign.number)]
-            other = next((rank for rank in voters if self.promised(rank) > before and self.promised(rank) // HUNDRED == reign.level() - 1), None)
-            if other is not None:
-                self.exchange(leader, other)
-            if self.state(leader).leader.pn == before:
-                raise Failing(f'monitor {leader} makes {before}, and was to make {reign.pn}')
-        if self.state(leader).leader.pn != reign.pn:
-            raise Failing(f'monitor {leader} makes {self.state(leader).leader.pn}, and was to make {reign.pn}')
-        for rank in hears:
-            self.deliver(leader, rank, 'Collect')
-            if rank in answer:
-                self.deliver(rank, leader, 'Last')
-
-    def exchange(self, leader: int, rank: int) -> None:
-        self.deliver(leader, rank, 'Collect')
-        self.deliver(rank, leader, 'Last')
-
-    def begin(self, leader: int, command: Command) -> None:
-        """Lets a leader propose a command's value, unless it recovers one."""
-        if self.phase(leader) == 'Previous':
-            return
-        asked = leader if command.asked is None else command.asked
-        self.ask(asked, command.words)
-        if asked != leader:
-            self.deliver(asked, leader, 'Forward')
-        if self.phase(leader) not in ('Updating', 'Active'):
-            raise Failing(f'monitor {leader} is {self.phase(leader)}, and was to propose')
-
-    def accept(self, leader: int, ranks: list[int], is_answered: bool) -> None:
-        for rank in ranks:
-            self.deliver(leader, rank, 'Begin')
-            if is_answered:
-                self.deliver(rank, leader, 'Accept')
-
-    # ---- copies
-
-    def copy(self, rank: int, provider: int) -> None:
-        """Lets a monitor copy what it lacks."""
-        self.leave(rank)
-        self.deliver(rank, provider, 'Probe')
-        self.deliver(provider, rank, 'ProbeReply')
-        self.deliver(rank, provider, 'GetCookieFull', 'GetCookieRecent')
-        self.deliver(provider, rank, 'Cookie')
-        for _ in range(MOST_STEPS):
-            if self.phase(rank) != 'Synchronizing':
-                return
-            if self.state(rank).requester.stage.name == 'Replay':
-                self.timer(rank, 'step')
-            else:
-                self.deliver(rank, provider, 'GetChunk')
-                self.deliver(provider, rank, 'Chunk', 'LastChunk')
-        raise Failing(f'monitor {rank} doesn\'t finish its copy')
+# The most sequences of elections that are tried, and the most keys that are named.
+MOST_COURSES, MOST_NAMED = 20, 3
 
 
 class Work(NamedTuple):
-    """What is done in a reign: by which voters, who learns that it was won, who hears its number, whose answers the leader takes, up to which version values are
-    committed, and the version that is only begun, or 0."""
+    """What is done in a reign: by which voters, who learns that it was won, who hears its number, whose answers the leader takes, up to which version values
+    are committed, and the version that is only begun, or 0."""
     voters: list[int]
     follow: list[int]
     hears: list[int]
@@ -295,7 +93,8 @@ class Leading:
         return Work(sorted(voters), sorted(follow), ranks, teacher)
 
     def end(self, reign: Reign, quorum: set[int], base: int) -> int:
-        """The last version that this quorum commits, after one that it has, so that each monitor can still accept its last value, and learn no more than it has."""
+        """The last version that this quorum commits, after one that it has. Each monitor can then still accept its last value, and learns no more than it
+        has."""
         stores, pn = self.stores.values(), reign.pn
         later = [it.accepted - 1 for it in stores if it.accepted_pn > pn]
         lagging = [it.last for it in stores if it.last > it.accepted and it.promised > pn]
@@ -409,8 +208,8 @@ def difference(stage: Stage, stores: dict[int, Map]) -> str | None:
         found = dict(stage.store(rank))
         places = sorted(place for place in {*wanted, *found} if wanted.get(place) != found.get(place))
         if places:
-            names = ', '.join(f'{prefix.decode()}/{key.decode()} ({shown(wanted.get((prefix, key)))} instead of {shown(found.get((prefix, key)))})' for prefix, key in places[:3])
-            return f'the store of monitor {rank} differs in {len(places)} keys from what a schedule was found to lead to: {names}'
+            names = [f'{b"/".join(place).decode()} ({shown(wanted.get(place))} instead of {shown(found.get(place))})' for place in places[:MOST_NAMED]]
+            return f'the store of monitor {rank} differs in {len(places)} keys from what a schedule was found to lead to: {", ".join(names)}'
     return None
 
 
@@ -421,33 +220,47 @@ def shown(value: bytes | None) -> str:
 
 
 def prelude(first: str, maps: dict[int, Map]) -> Stage:
-    """A run that ends with these stores, by rank, and with all monitors down. A monitor that isn't among them may have any store. Raises Unreachable if no such run
-    is found."""
-    _, count, rule = first.split(' ')
+    """A run that ends with these stores, by rank, and with all monitors down. A monitor that isn't among them may have any store. Raises Unreachable if no
+    such run is found."""
     stores = {rank: held(rank, entries) for rank, entries in sorted(maps.items()) if entries}
     if not stores:
         return Stage(first)
-    shared = Shared(list(stores.values()))
-    least = shared.last * (1 + 3 * (int(count) // 2))
+    commands = commands_of(list(stores.values()), int(first.split(' ')[1]))
+    why: list[str] = []
+    for making in islice(makings(first, stores, maps, commands), MOST_COURSES):
+        try:
+            stage = making()
+            if fault := difference(stage, maps):
+                raise Failing(fault)
+            return stage
+        except (Failing, Unreachable) as fault:
+            why.append(str(fault))
+    raise Unreachable(why[0] if why else 'no sequence of elections was found after which the stores have their epochs (monitor/election_epoch) and proposal '
+                      'numbers (paxos/last_pn, paxos/accepted_pn, paxos/pending_pn): ' + numbers_of(stores))
+
+
+def commands_of(stores: list[Held], count: int) -> list[Command]:
+    """The commands of all versions. Raises Unreachable if they take too many events, or no line has one of them."""
+    last = max(it.last for it in stores)
+    least = last * (1 + 3 * (count // 2))
     if least > MOST_EVENTS:
-        raise Unreachable(f'the last version {shared.last} takes {least} events, and a schedule has at most {MOST_EVENTS}')
+        raise Unreachable(f'the last version {last} takes {least} events, and a schedule has at most {MOST_EVENTS}')
     try:
-        commands = shared.commands()
+        return Shared(stores).commands()
     except (At, Unwritable) as fault:
         raise Unreachable(f'{fault}: no events lead to it') from None
+
+
+def makings(first: str, stores: dict[int, Held], maps: dict[int, Map], commands: list[Command]) -> Iterator[Callable[[], Stage]]:
+    """Ways to make a run that may end with these stores."""
+    _, count, rule = first.split(' ')
     if count == '1':
-        return checked(alone(first, stores[0], commands), maps)
-    ranking = Ranking(int(count), rule)
-    known = list(stores.values())
-    stores |= {rank: unknown(rank, known) for rank in range(int(count)) if rank not in maps}
-    why: list[Exception] = []
-    for course in islice(courses(ranking, stores), MOST_COURSES):
-        try:
-            return checked(Leading(first, stores, ranking, commands).made(course), maps)
-        except (Failing, Unreachable) as fault:
-            why.append(fault)
-    raise Unreachable(str(why[0]) if why else 'no sequence of elections was found after which the stores have their epochs (monitor/election_epoch) and proposal numbers '
-                      '(paxos/last_pn, paxos/accepted_pn, paxos/pending_pn): ' + numbers_of(stores))
+        yield lambda: alone(first, stores[0], commands)
+        return
+    ranking, known = Ranking(int(count), rule), list(stores.values())
+    everyone = {**stores, **{rank: unknown(rank, known) for rank in range(int(count)) if rank not in maps}}
+    for course in courses(ranking, everyone):
+        yield partial(Leading(first, everyone, ranking, commands).made, course)
 
 
 def courses(ranking: Ranking, stores: dict[int, Held]) -> Iterator[Course]:
@@ -457,11 +270,5 @@ def courses(ranking: Ranking, stores: dict[int, Held]) -> Iterator[Course]:
             yield course
 
 
-def checked(stage: Stage, maps: dict[int, Map]) -> Stage:
-    if why := difference(stage, maps):
-        raise Unreachable(why)
-    return stage
-
-
 def numbers_of(stores: dict[int, Held]) -> str:
-    return '; '.join(f'monitor {it.rank} {it.epoch}, {it.made}, {it.promised}, {it.accepted_pn}' for it in stores.values() if it.is_known())
+    return '; '.join(f'monitor {it.rank} {it.epoch}, {it.made}, {it.promised}, {it.accepted_pn}' for it in stores.values())

@@ -1,7 +1,7 @@
 """A sequence of won elections after which monitors have made and promised given proposal numbers, in given epochs.
 
-Each won election makes the next even epoch and at least one proposal number. The winner's number has the next *level*, its hundreds, above what the winner knows:
-its own number, what it promised, and, by collecting again, what a member of its quorum promised.
+Each won election makes the next even epoch and at least one proposal number. The winner's number has the next *level*, its hundreds, above what the winner
+knows: its own number, what it promised, and, by collecting again, what a member of its quorum promised.
 """
 from __future__ import annotations
 
@@ -55,7 +55,8 @@ class Planner:
             if maker is None or maker.made < pn:
                 who = next(it.rank for it in known if pn in (it.promised, it.accepted_pn))
                 raise Unreachable(f'monitor {who} knows the number {pn} (paxos/accepted_pn or paxos/pending_pn), which monitor {pn % HUNDRED} never made')
-        self.latest = {pn: min(it.latest() for it in stores.values() if pn in (it.made, it.promised, it.accepted_pn) or it.rank == pn % HUNDRED) for pn in self.needed}
+        self.latest = {pn: min(it.latest() for it in stores.values() if pn in (it.made, it.promised, it.accepted_pn) or it.rank == pn % HUNDRED)
+                       for pn in self.needed}
         self.due = {pn: min((it.latest() for it in stores.values() if it.promised == pn), default=0) for pn in self.needed}
 
     def plans(self) -> Iterator[list[Reign]]:
