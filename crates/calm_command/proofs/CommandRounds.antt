@@ -34,7 +34,7 @@ use Rattle.calm_command.proofs.Quiet.{Quietly, asks_lead, forward_comes, forward
 use Rattle.calm_command.proofs.Roles.{Following, Holds, Leading, Role, Voting, to_each}
 use Rattle.calm_command.proofs.Values.{commits_alone, proposes}
 use Rattle.calm_command.proofs.Rounds.{Hears, Later, Standing, crew, leader_hears, one_hears, restand, to_rank}
-use Rattle.calm_command.proofs.ValueRows.{said}
+use Rattle.calm_command.proofs.States.{said}
 use Rattle.calm_command.proofs.Sets.{firsts}
 use Rattle.calm_command.proofs.ValueRounds.{peons, settles}
 use Rattle.calm_command.proofs.Stores.{Makes, long, longer, short, values}

@@ -12,6 +12,5 @@ pub mod Sets
 pub mod States
 pub mod Stores
 pub mod ValueRounds
-pub mod ValueRows
 pub mod Values
 pub mod Worlds

@@ -4,12 +4,15 @@ use Rattle.log_model.specs.LogOfValues.{AllValues}
 use Rattle.mon_bytes.specs.declared.command.Command.{Command}
 use Rattle.mon_bytes.specs.declared.command.CommandRefused.{CommandRefused}
 use Rattle.mon_lease.specs.Lease.{stands}
-use Rattle.mon_msg.specs.Protocol.Commands.{at_leader, is_too_long, too_long}
+use Rattle.mon_msg.specs.Protocol.Commands.{ask, at_leader, is_too_long, too_long}
+use Rattle.mon_msg.specs.Protocol.Course.{Course, clients_are, ◌▸◌}
 use Rattle.mon_msg.specs.Protocol.Proposing.{asked_of, refusal}
 use Rattle.mon_msg.specs.Protocol.Readings.{Readings, readings_of, shared_entries}
+use Rattle.mon_msg.specs.Protocol.Sending.{reply_to}
 use Rattle.mon_msg.specs.Protocol.State.{State}
 use Rattle.mon_msg.specs.Protocol.Table.{at_rest, react}
 use Rattle.mon_msg.specs.Protocol.Value.{service_of, value}
+use Rattle.mon_msg.specs.declared.clients.Asked.{Asked}
 use Rattle.mon_msg.specs.declared.input.Input.TheVariants as input
 use Rattle.mon_msg.specs.declared.input.Input.{Input}
 use Rattle.mon_msg.specs.declared.plan.Origin.TheVariants as origin
@@ -26,14 +29,14 @@ use Rattle.quorum_model.specs.CalmSchedule.{request_of}
 use Rattle.quorum_model.specs.Growth.{grown}
 use Rattle.quorum_model.specs.Monitors.{Monitors}
 use Rattle.quorum_model.specs.World.{Envelope}
-use Rattle.std.proofs.Common.{Bool, Err, List, [], ap, arith, false, length, ltb, refl, subst, suc, sym, true, ℕ, ◌-◌, ◌<◌, ◌^◌, ◌∙◌, ◌∷◌, ◌≡◌, ◌≤◌}
-use Rattle.std.proofs.lemmas.Bool.{lt-ltb}
+use Rattle.std.proofs.Common.{Bool, Err, List, Ok, [], ap, arith, false, length, ltb, refl, subst, suc, sym, true, ℕ, ◌-◌, ◌<◌, ◌^◌, ◌∙◌, ◌∷◌, ◌≡◌, ◌≤◌, ◌&&◌}
+use Rattle.table_rows.proofs.Commands as asking
+use Rattle.std.proofs.lemmas.Bool.{eq-eqb, lt-ltb}
 use Rattle.std.specs.Prelude.{slice_index_or, slice_set}
-use Rattle.calm_command.proofs.CommandRows as asking
+use Rattle.calm_command.proofs.CommandRows.{comes}
 use Rattle.calm_command.proofs.Rounds.{to_rank}
-use Rattle.calm_command.proofs.ValueRows.{said}
 use Rattle.calm_command.proofs.Sets.{has_firsts}
-use Rattle.calm_command.proofs.States.{active, is_active, is_following, reads}
+use Rattle.calm_command.proofs.States.{active, following, is_active, is_following, led, led_by, reads, said}
 use Rattle.calm_command.proofs.Stores.{Stored, is_read, long, nothing_written, service_fits, short}
 use Rattle.calm_command.proofs.Worlds.{Does}
 use Rattle.calm_sizes.proofs.Stores.{not_full}
@@ -61,6 +64,29 @@ module _ (ms : Monitors) where
         grown_none l (store_after [] m) T.unmarked
         (let r = read_last base fits all u (store_after [] m) T.versions in omega arith)
 
+    abbrev at_peon : Store → State → List Asked → ℕ → Course
+    at_peon m s sessions seq = at_rest (reads u (readings_of m)) (following n sessions seq s)
+
+    abbrev at_lead : Store → State → List Bool → List ℕ → Course
+    at_lead m s acks taken = at_rest (reads u (readings_of m)) (active n acks taken s)
+
+    asks : (k : ℕ) (m : Store) (s : State) (sessions : List Asked) (seq : ℕ) (lt : ltb k n ≡ true) (session : Session)
+        (c : Command)
+        → react (member_of ms k lt) (shared_entries m) 0 (reads u (readings_of m)) (following n sessions seq s)
+        (input.Client session (request_of c)) ≡ ask (member_of ms k lt) 0 session c (at_peon m s sessions seq)
+    asks k m s sessions seq lt session c =
+        comes (member_of ms k lt) (shared_entries m) 0 (reads u (readings_of m)) (following n sessions seq s) session c refl
+
+    route_row : (k : ℕ) (m : Store) (s : State) (seq : ℕ) (session : Session) (lt : ltb k n ≡ true) → (0 ≡ k → ⊥) → (r : Reply)
+        → react (member_of ms k lt) (shared_entries m) 0 (reads u (readings_of m))
+        (following n (record { seq = seq; session = session } ∷ []) (suc seq) s) (input.Deliver (said n 0 (body.Route seq r)))
+        ≡ Ok (at_peon m s (record { seq = seq; session = session } ∷ []) (suc seq)
+        ▸ clients_are (record s.clients { sessions = []; next_seq = suc seq }) ▸ reply_to session r)
+    route_row k m s seq session lt nz r =
+        asking.route_row (member_of ms k lt) (shared_entries m) 0
+        (led ms lt nz u (readings_of m) (record { seq = seq; session = session } ∷ []) (suc seq) s) seq r
+        ∙ rw (eq-eqb seq seq refl) refl
+
     module _ (k : ℕ) (seq : ℕ) (session : Session) where
       pub long_peon : (c : Command) → is_too_long c ≡ true
           → Quietly k (input.Client session (request_of c)) (Following u p true [] seq) (Following u p true [] seq)
@@ -68,7 +94,7 @@ module _ (ms : Monitors) where
       long_peon c long lt m s H = let next = unwritten m H.0 in let H1 = H.1 in record {
         y = _;
         is = as_seen _ _ _ _ _ _ _ _ (is_read base fits all u p m H.0) (is_following n true [] seq s H.1)
-            (asking.long_row ms k lt (shared_entries m) (readings_of m) s seq u session c long);
+            (asks k m s [] seq lt session c ∙ asking.refuses_long (member_of ms k lt) 0 c session (at_peon m s [] seq) refl long);
         small = not_full base fits all _ _ next.versions next.short;
         sends = refl;
         tells = refl;
@@ -86,7 +112,7 @@ module _ (ms : Monitors) where
       forwards c short few lt m s H = let next = unwritten m H.0 in let H1 = H.1 in record {
         y = _;
         is = as_seen _ _ _ _ _ _ _ _ (is_read base fits all u p m H.0) (is_following n true [] seq s H.1)
-            (asking.forward_row ms k lt (shared_entries m) (readings_of m) s seq u session c short few);
+            (asks k m s [] seq lt session c ∙ asking.forwards (member_of ms k lt) 0 c session (at_peon m s [] seq) refl short refl few);
         small = not_full base fits all _ _ next.versions next.short;
         sends = refl;
         tells = refl;
@@ -105,7 +131,7 @@ module _ (ms : Monitors) where
         y = _;
         is = as_seen _ _ _ _ _ _ _ _ (is_read base fits all u p m H.0)
             (is_following n leased (record { seq = seq; session = session } ∷ []) (suc seq) s H.1)
-            (asking.route_row ms k lt (shared_entries m) (readings_of m) s seq u session nz r);
+            (route_row k m s seq session lt nz r);
         small = not_full base fits all _ _ next.versions next.short;
         sends = refl;
         tells = refl;
@@ -116,6 +142,18 @@ module _ (ms : Monitors) where
         );
       }
 
+    -- what a leader does at which a command came, by itself or handed on
+    abbrev pub Leads_to : (came : Input) (acks : List Bool) (taken later : List ℕ) (c : Command) (o : Origin) → Type 0
+    Leads_to came acks taken later c o = (lt : ltb 0 n ≡ true) (m : Store) (s : State) → stands s.leader.lease 0 ≡ true
+        → react (member_of ms 0 lt) (shared_entries m) 0 (reads u (readings_of m)) (active n acks taken s) came
+        ≡ at_leader (member_of ms 0 lt) 0 c o (at_rest (reads u (readings_of m)) (active n acks later s))
+
+    pub asks_lead : (acks : List Bool) (taken : List ℕ) (c : Command) (session : Session) → suc u ≤ 2 ^ 62
+        → Leads_to (input.Client session (request_of c)) acks taken taken c (origin.Session session)
+    asks_lead acks taken c session room lt m s h =
+        comes (member_of ms 0 lt) (shared_entries m) 0 (reads u (readings_of m)) (active n acks taken s) session c refl
+        ∙ asking.asks_leader (member_of ms 0 lt) 0 c session (at_lead m s acks taken) refl
+
     pub long_lead : (acks : List Bool) (taken : List ℕ) (c : Command) (session : Session) → is_too_long c ≡ true
         → suc u ≤ 2 ^ 62
         → Quietly 0 (input.Client session (request_of c)) (Leading u p acks taken) (Leading u p acks taken) []
@@ -123,8 +161,8 @@ module _ (ms : Monitors) where
     long_lead acks taken c session long room lt m s H = let next = unwritten m H.0 in let H1 = H.1 in record {
       y = _;
       is = as_seen _ _ _ _ _ _ _ _ (is_read base fits all u p m H.0) (is_active n acks taken s H.1)
-          (asking.long_lead ms 0 lt (shared_entries m) (readings_of m) s acks u (standing n s H1.lease) room taken c
-          session long);
+          (asks_lead acks taken c session room lt m s H1.lease
+          ∙ asking.leader_refuses (member_of ms 0 lt) 0 c (origin.Session session) (at_lead m s acks taken) long);
       small = not_full base fits all _ _ next.versions next.short;
       sends = refl;
       tells = refl;
@@ -144,24 +182,13 @@ module _ (ms : Monitors) where
       );
     }
 
-    -- what a leader does at which a command came, by itself or handed on
-    abbrev pub Leads_to : (came : Input) (acks : List Bool) (taken later : List ℕ) (c : Command) (o : Origin) → Type 0
-    Leads_to came acks taken later c o = (lt : ltb 0 n ≡ true) (m : Store) (s : State) → stands s.leader.lease 0 ≡ true
-        → react (member_of ms 0 lt) (shared_entries m) 0 (reads u (readings_of m)) (active n acks taken s) came
-        ≡ at_leader (member_of ms 0 lt) 0 c o (at_rest (reads u (readings_of m)) (active n acks later s))
-
-    pub asks_lead : (acks : List Bool) (taken : List ℕ) (c : Command) (session : Session) → suc u ≤ 2 ^ 62
-        → Leads_to (input.Client session (request_of c)) acks taken taken c (origin.Session session)
-    asks_lead acks taken c session room lt m s h =
-        asking.asks_lead ms 0 lt (shared_entries m) (readings_of m) s acks u (standing n s h) room taken c session
-
     pub forward_comes : (acks : List Bool) (taken : List ℕ) (c : Command) (f seq : ℕ) → suc u ≤ 2 ^ 62 → 0 < f
         → f < n → slice_index_or taken f 0 < seq
         → Leads_to (input.Deliver (said n f (body.Forward seq c))) acks taken (slice_set taken f seq) c
         (origin.Forwarded f seq)
     forward_comes acks taken c f seq room pos below new lt m s h =
-        asking.forwarded ms 0 lt (shared_entries m) (readings_of m) s acks u (standing n s h) room taken c f seq
-        (λ e. omega arith) (has_firsts n ms.most f ∙ lt-ltb f n below) new
+        asking.forward_row (member_of ms 0 lt) (shared_entries m) 0 refl refl
+        (led_by ms lt (λ e. omega arith) (has_firsts n ms.most f ∙ lt-ltb f n below) u (readings_of m) acks taken s) seq c new
 
     pub refused : (came : Input) (acks : List Bool) (taken later : List ℕ) (c : Command) (o : Origin)
         (e : CommandRefused) → is_too_long c ≡ false → suc u ≤ 2 ^ 62
@@ -174,8 +201,8 @@ module _ (ms : Monitors) where
           y = _;
           is = as_seen _ _ _ _ _ _ _ _ (is_read base fits all u p m S) (is_active n acks taken s H1)
               (comes lt m s H1.lease
-              ∙ asking.refuses ms 0 lt (shared_entries m) (readings_of m) s acks u (standing n s H1.lease) room later c
-              short (service_fits base fits all u p m S (omega arith) (service_of c)) o e
+              ∙ asking.proposes (member_of ms 0 lt) 0 c o (at_lead m s acks later) short (ap (λ b. b && true) (standing n s H1.lease))
+              (service_fits base fits all u p m S (omega arith) (service_of c))
               (ap (λ (w : Readings). value w c (asked_of (member_of ms 0 lt) o))
               (sym (is_read base fits all u p m S))
               ∙ ap (λ (a : ℕ). value (readings_of m) c a) (asked_rank ms lt (refusal e) o)

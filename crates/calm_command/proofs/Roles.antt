@@ -30,9 +30,8 @@ use Rattle.std.proofs.lemmas.Bool.{ltb-true, or_right}
 use Rattle.std.proofs.lemmas.List.Elements.{filter_map-append}
 use Rattle.std.specs.List.{range_with_len}
 use Rattle.calm_command.proofs.Rounds.{to_rank}
-use Rattle.calm_command.proofs.ValueRows.{said}
 use Rattle.calm_command.proofs.Sets.{firsts, others_are}
-use Rattle.calm_command.proofs.States.{Follows, Leads, Updates}
+use Rattle.calm_command.proofs.States.{Follows, Leads, Updates, said}
 use Rattle.calm_command.proofs.Stores.{Stored}
 use Rattle.calm_command.proofs.Worlds.{answer_in, answers_in}
 

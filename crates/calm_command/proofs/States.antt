@@ -4,8 +4,14 @@ use Rattle.mon_msg.specs.Protocol.State.{State}
 use Rattle.mon_msg.specs.declared.clients.Asked.{Asked}
 use Rattle.mon_msg.specs.declared.plan.Origin.{Origin}
 use Rattle.mon_tx.specs.declared.op.Op.{Op}
+use Rattle.mon_types.specs.Ranks.{has}
+use Rattle.mon_wire.specs.declared.body.Body.{Body}
+use Rattle.mon_wire.specs.declared.message.Message.{Message}
 use Rattle.mon_wire.specs.declared.phase.Phase.TheVariants as phase
-use Rattle.std.proofs.Common.{Bool, List, Some, [], false, ℕ, ◌≡◌}
+use Rattle.quorum_model.proofs.Members.{member_of}
+use Rattle.quorum_model.specs.Monitors.{Monitors}
+use Rattle.std.proofs.Common.{Bool, List, Some, [], false, ltb, refl, true, ℕ, ◌≡◌}
+use Rattle.table_rows.proofs.Hearing.{IsLeader, IsMember}
 pub use Rattle.calm_command.specs.Resting.{Follows, Leads, firsts}
 
 -- an active leader of all n
@@ -77,3 +83,23 @@ is_following n leased sessions seq s H = λ i. record s {
 -- what the readers of a store with the last version v return
 abbrev pub reads : ℕ → Readings → Readings
 reads v w = record w { epoch = Some 2; promise = Some 100; last = v; marked = false }
+
+-- a message of monitor `from`, in the epoch of a calm run
+abbrev pub said : (n from : ℕ) → Body → Message
+said n from b = record { from = from; monitors = n; epoch = 2; body = b }
+
+module _ (ms : Monitors) {i : ℕ} (lt : ltb i ms.count ≡ true) where
+  -- monitor 0 is the leader of such a peon
+  pub led : (0 ≡ i → ⊥) → (v : ℕ) (w : Readings) (sessions : List Asked) (seq : ℕ) (s : State)
+      → IsLeader (member_of ms i lt) (reads v w) (following ms.count sessions seq s) 0 2
+  led other v w sessions seq s = record { other = other; follows = refl; epoch = refl; leader = refl }
+
+  module _ {f : ℕ} (other : f ≡ i → ⊥) (member : has (firsts ms.count) f ≡ true) (v : ℕ) (w : Readings) where
+    -- and the first n ranks are the quorum of such a leader
+    pub led_by : (acks : List Bool) (taken : List ℕ) (s : State)
+        → IsMember (member_of ms i lt) (reads v w) (active ms.count acks taken s) phase.Active f 2
+    led_by acks taken s = record { other = other; leads = refl; epoch = refl; member = member }
+
+    pub led_in_update : (accepted : List Bool) (value : List Op) (o : Origin) (taken : List ℕ) (s : State)
+        → IsMember (member_of ms i lt) (reads v w) (updating ms.count accepted value o taken s) phase.Updating f 2
+    led_in_update accepted value o taken s = record { other = other; leads = refl; epoch = refl; member = member }

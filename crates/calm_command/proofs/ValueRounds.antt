@@ -19,7 +19,7 @@ use Rattle.std.specs.List.{range_with_len}
 use Rattle.calm_command.proofs.Roles.{Following, Holds, Leading, Role, Voting, replied, routed, to_each}
 use Rattle.calm_command.proofs.Values.{accepts, begins, commits, completes, counts, leases}
 use Rattle.calm_command.proofs.Rounds.{Later, Standing, crew, gather, leader_hears, nothing_sent, spread, to_rank}
-use Rattle.calm_command.proofs.ValueRows.{said}
+use Rattle.calm_command.proofs.States.{said}
 use Rattle.calm_command.proofs.Sets.{firsts}
 use Rattle.calm_command.proofs.Stores.{Makes}
 use Rattle.calm_command.proofs.Worlds.{and_then}

@@ -5,15 +5,19 @@ use Rattle.log_model.specs.LogOfValues.{view_at}
 use Rattle.mon_bytes.specs.declared.command.Command.{Command}
 use Rattle.mon_kv.specs.Readers.{most_size, size_of}
 use Rattle.mon_msg.specs.Protocol.Changes.{Last, Learn, Vote, ops_of}
-use Rattle.mon_msg.specs.Protocol.Commands.{is_too_long}
+use Rattle.mon_msg.specs.Protocol.Commands.{at_leader, is_too_long}
 use Rattle.mon_msg.specs.Protocol.Leading.{be_active, begin_with, extend}
-use Rattle.mon_msg.specs.Protocol.Proposing.{asked_of}
+use Rattle.mon_msg.specs.Protocol.Proposing.{asked_of, begin_made}
 use Rattle.mon_msg.specs.Protocol.Services.{service_last}
 use Rattle.mon_msg.specs.Protocol.Readings.{Readings, after, epoch_of, epoch_or_first, readings_of, shared_entries}
 use Rattle.mon_msg.specs.Protocol.Sending.{answer_to, members, message_to}
 use Rattle.mon_msg.specs.Protocol.Sets.{are_within, is_empty}
 use Rattle.mon_msg.specs.Protocol.State.{State}
+use Rattle.mon_lease.specs.Lease.{stands}
+use Rattle.mon_msg.specs.Protocol.Course.{Course}
+use Rattle.mon_msg.specs.Protocol.Table.{at_rest}
 use Rattle.mon_msg.specs.Protocol.Value.{service_of, value}
+use Rattle.mon_msg.specs.declared.paxos.LeaderStage.TheVariants as stage
 use Rattle.mon_msg.specs.declared.clients.Asked.{Asked}
 use Rattle.mon_msg.specs.declared.input.Input.{Input}
 use Rattle.mon_msg.specs.declared.plan.Origin.{Origin}
@@ -31,15 +35,14 @@ use Rattle.quorum_model.specs.Growth.{grown}
 use Rattle.quorum_model.specs.Monitors.{Monitors}
 use Rattle.quorum_model.specs.World.{Envelope}
 use Rattle.quorum_walk.proofs.Sparing.{Own, learned_own}
-use Rattle.std.proofs.Common.{Bool, List, Ok, [], ap, arith, false, length, ltb, map, refl, subst, suc, sym, true, zero, ℕ, ◌-◌, ◌++◌, ◌<◌, ◌^◌, ◌∙◌, ◌∷◌, ◌≡◌, ◌≤◌}
+use Rattle.std.proofs.Common.{Bool, List, Ok, Some, [], ap, arith, false, inr, is_some, length, ltb, map, refl, subst, suc, sym, true, zero, ℕ, ◌-◌, ◌++◌, ◌<◌, ◌^◌, ◌∙◌, ◌∷◌, ◌≡◌, ◌≤◌, ◌&&◌}
 use Rattle.std.proofs.lemmas.Bool.{lt-ltb}
 use Rattle.std.specs.List.{range_with_len}
-use Rattle.calm_command.proofs.CommandRows as asking
+use Rattle.table_rows.proofs.Commands as asking
 use Rattle.calm_command.proofs.Rounds.{Hears, to_rank}
-use Rattle.calm_command.proofs.ValueRows as rows
-use Rattle.calm_command.proofs.ValueRows.{said}
+use Rattle.table_rows.proofs.Values as rows
 use Rattle.calm_command.proofs.Sets.{covers_all, covers_not, firsts, has_firsts, one_more, only_first, others_are}
-use Rattle.calm_command.proofs.States.{is_active, is_following, is_updating, reads}
+use Rattle.calm_command.proofs.States.{active, is_active, is_following, is_updating, led, led_by, led_in_update, reads, said}
 use Rattle.calm_command.proofs.Stores.{Makes, Stored, adds_none, adds_one, is_read, long, more, nothing_written, service_fits, short, stored_learned, stored_voted, value_is, values}
 use Rattle.calm_command.proofs.Worlds.{Does}
 use Rattle.calm_sizes.specs.Sizes.{AllShort, longest}
@@ -101,7 +104,7 @@ module _ (ms : Monitors) where
     begins k nz sessions seq lt m s H = let next = voted v m H.0 in record {
       y = _;
       is = as_seen _ _ _ _ _ _ _ _ (reading v v m H.0) (is_following n true sessions seq s H.1)
-          (rows.begin_row ms k lt (shared_entries m) (readings_of m) s nz sessions seq v x);
+          (rows.begin_row (member_of ms k lt) (shared_entries m) 0 (led ms lt nz v (readings_of m) sessions seq s) 100 (suc v) x refl refl);
       small = small_then _ _ next.versions next.short;
       sends = refl;
       tells = refl;
@@ -116,7 +119,7 @@ module _ (ms : Monitors) where
     commits k nz sessions seq lt m s H = let next = learned (suc v) m (omega arith) H.0 in record {
       y = _;
       is = as_seen _ _ _ _ _ _ _ _ (reading v (suc v) m H.0) (is_following n false sessions seq s H.1)
-          (rows.commit_row ms k lt (shared_entries m) (readings_of m) s nz sessions seq v x (omega arith));
+          (rows.commit_row (member_of ms k lt) (shared_entries m) 0 (led ms lt nz v (readings_of m) sessions seq s) (suc v) x refl (omega arith));
       small = small_then _ _ next.versions next.short;
       sends = refl;
       tells = refl;
@@ -142,8 +145,8 @@ module _ (ms : Monitors) where
     leases k nz sessions seq lt m s H = let S = H.0 in let next = same (suc v) (suc v) m S in record {
       y = _;
       is = as_seen _ _ _ _ _ _ _ _ (reading (suc v) (suc v) m S) (is_following n false sessions seq s H.1)
-          (rows.lease_row ms k lt (shared_entries m) (readings_of m) s nz sessions seq (suc v)
-          (λ e. let o = S.votes in omega arith));
+          (rows.lease_row (member_of ms k lt) (shared_entries m) 0 (led ms lt nz (suc v) (readings_of m) sessions seq s) (suc v) refl
+          (ap is_some (rows.none_pends (reads (suc v) (readings_of m)) (λ e. let o = S.votes in omega arith))));
       small = small_then _ _ next.versions next.short;
       sends = refl;
       tells = refl;
@@ -163,8 +166,8 @@ module _ (ms : Monitors) where
     counts k pos below taken lt m s H = let next = same (suc v) (suc v) m H.0 in let H1 = H.1 in record {
       y = _;
       is = as_seen _ _ _ _ _ _ _ _ (reading (suc v) (suc v) m H.0) (is_active n (firsts k) taken s H.1)
-          (rows.ack_row ms 0 lt (shared_entries m) (readings_of m) s taken (suc v) k (λ e. omega arith)
-          (in_all k below) (firsts k));
+          (rows.lease_ack_row (member_of ms 0 lt) (shared_entries m) 0
+          (led_by ms lt (λ e. omega arith) (in_all k below) (suc v) (readings_of m) (firsts k) taken s) (suc v) refl);
       small = small_then _ _ next.versions next.short;
       sends = refl;
       tells = refl;
@@ -191,10 +194,9 @@ module _ (ms : Monitors) where
     accepts k pos below o taken lt m s H = let next = same v (suc v) m H.0 in let H1 = H.1 in record {
       y = _;
       is = as_seen _ _ _ _ _ _ _ _ (reading v (suc v) m H.0) (is_updating n (firsts k) x o taken s H.1)
-          (rows.accept_row ms 0 lt (shared_entries m) (readings_of m) s taken v k (λ e. omega arith)
-          (in_all k (omega arith)) x o (firsts k) (ap (λ (q : List Bool). are_within n (firsts n) q)
-          (one_more k)
-          ∙ covers_not n (suc k) ms.most below));
+          (rows.accept_row (member_of ms 0 lt) (shared_entries m) 0 (inr refl)
+          (led_in_update ms lt (λ e. omega arith) (in_all k (omega arith)) v (readings_of m) (firsts k) x o taken s) 100 (suc v)
+          refl refl (ap (λ (q : List Bool). are_within n (firsts n) q) (one_more k) ∙ covers_not n (suc k) ms.most below));
       small = small_then _ _ next.versions next.short;
       sends = refl;
       tells = refl;
@@ -231,10 +233,10 @@ module _ (ms : Monitors) where
     completes k pos whole o taken lt m s H = let next = learned (suc v) m (omega arith) H.0 in record {
       y = _;
       is = as_seen _ _ _ _ _ _ _ _ (reading v (suc v) m H.0) (is_updating n (firsts k) x o taken s H.1)
-          (rows.last_row ms 0 lt (shared_entries m) (readings_of m) s taken v k (λ e. omega arith)
-          (in_all k (omega arith)) x o (firsts k) (ap (λ (q : List Bool). are_within n (firsts n) q)
-          (one_more k ∙ ap firsts whole)
-          ∙ covers_all n ms.most) (omega arith));
+          (rows.last_accept_row (member_of ms 0 lt) (shared_entries m) 0 (inr refl)
+          (led_in_update ms lt (λ e. omega arith) (in_all k (omega arith)) v (readings_of m) (firsts k) x o taken s) 100 (suc v)
+          refl refl (ap (λ (q : List Bool). are_within n (firsts n) q) (one_more k ∙ ap firsts whole) ∙ covers_all n ms.most) x refl
+          ∙ rows.commits (member_of ms 0 lt) 0 x _ (omega arith));
       small = small_then _ _ next.versions next.short;
       sends = all_are_sent ms lt (body.Commit (suc v) (x ∷ [])) (body.Lease (suc v)) o (reply.Done (suc v)) _
           (epoch_kept m);
@@ -292,6 +294,18 @@ module _ (ms : Monitors) where
         ap (λ (ks : List ℕ). is_empty ks) (others_are n ms.most (omega arith))
         ∙ ap (λ (c : ℕ). is_empty (range_with_len 1 c)) (let e : n - 1 ≡ 0 = omega arith in e)
 
+    abbrev leads : Store → State → (acks : List Bool) (later : List ℕ) → Course
+    leads m s acks later = at_rest (reads v (readings_of m)) (active n acks later s)
+
+    -- with a lease the leader makes a value of it
+    proposed : (m : Store) (s : State) (acks : List Bool) (later : List ℕ) (o : Origin) (lt : ltb 0 n ≡ true)
+        → is_too_long c ≡ false → stands s.leader.lease 0 ≡ true → suc (service_last (readings_of m) (service_of c)) ≤ 2 ^ 62
+        → value (reads v (readings_of m)) c (asked_of (member_of ms 0 lt) o) ≡ Ok x
+        → at_leader (member_of ms 0 lt) 0 c o (leads m s acks later)
+        ≡ begin_made (member_of ms 0 lt) 0 o (Ok x) (leads m s acks later)
+    proposed m s acks later o lt short lease fits made =
+        asking.proposes (member_of ms 0 lt) 0 c o (leads m s acks later) short (ap (λ b. b && true) (standing n s lease)) fits made
+
     pub proposes : (came : Input) (acks : List Bool) (taken later : List ℕ) (o : Origin) → is_too_long c ≡ false
         → rank_of o ≡ V.asked → 1 < n → Arrives came acks taken later o
         → HeardInput came (Leading v v acks taken) (Voting v (firsts 1) x o later)
@@ -302,8 +316,8 @@ module _ (ms : Monitors) where
           y = _;
           is = as_seen _ _ _ _ _ _ _ _ (reading v v m S) (is_active n acks taken s H1)
               (comes lt m s H1.lease
-              ∙ asking.begins ms 0 lt (shared_entries m) (readings_of m) s acks v (standing n s H1.lease) (omega arith)
-              later c small_text (fits_service v m S) o x (makes o from v m S lt) (not_alone lt several));
+              ∙ proposed m s acks later o lt small_text H1.lease (fits_service v m S) (makes o from v m S lt)
+              ∙ rows.begins (member_of ms 0 lt) 0 stage.Updating x (Some o) (leads m s acks later) (omega arith) (not_alone lt several));
           small = small_then _ _ next.versions next.short;
           sends = (λ i. messages_of (map (message_to (member_of ms 0 lt) 2 (body.Begin 100 (suc v) x))
               (others_are n ms.most (omega arith) i)))
@@ -337,8 +351,8 @@ module _ (ms : Monitors) where
           y = _;
           is = as_seen _ _ _ _ _ _ _ _ (reading v v m S) (is_active n acks taken s H1)
               (comes lt m s H1.lease
-              ∙ asking.commits ms 0 lt (shared_entries m) (readings_of m) s acks v (standing n s H1.lease) (omega arith)
-              later c small_text (fits_service v m S) o x (makes o from v m S lt) (is_alone lt one));
+              ∙ proposed m s acks later o lt small_text H1.lease (fits_service v m S) (makes o from v m S lt)
+              ∙ rows.begins_alone (member_of ms 0 lt) 0 stage.Updating x (Some o) (leads m s acks later) (omega arith) (is_alone lt one));
           small = small_then _ _ next.versions next.short;
           sends = ap (λ (e : ℕ). messages_of (answer_to (member_of ms 0 lt) e o (reply.Done (suc v)) ∷ []))
               (epoch_kept m)

@@ -8,14 +8,14 @@ use Rattle.quorum_agreement.proofs.Invariant.{LogHolds}
 use Rattle.quorum_elects.proofs.Can.{Can, Sane, Scope, reached_holds}
 use Rattle.quorum_elects.proofs.Majorities.{Candidacy, Majority, epoch_at, scope}
 use Rattle.quorum_elects.proofs.Planning.{Plays, plays_all, plays_each, plays_then, plays_weaker}
-use Rattle.quorum_elects.proofs.Probing.{Probed, Started, probe_all, start_one, started_probed}
+use Rattle.quorum_elects.proofs.Probing.{Probed, probe_all, start_all, started_probed}
 use Rattle.quorum_elects.proofs.Ranking.{IsBefore}
 use Rattle.quorum_elects.proofs.Ranks.{Least, greatest_of, lowest_of, same_or_not}
 use Rattle.quorum_elects.proofs.Rows.{odd_from}
 use Rattle.quorum_elects.proofs.Standing.{Close, Is, IsCollector, IsPeon}
 use Rattle.quorum_elects.proofs.Steps.{AsksFit, steps_fit}
 use Rattle.quorum_elects.proofs.Stores.{near_short}
-use Rattle.quorum_elects.proofs.Voting.{Counting, Elected, Following, Voted, called, count_end, count_one, follow_one, vote_one, voted_counting, won_following}
+use Rattle.quorum_elects.proofs.Voting.{Counting, Elected, Following, Reigning, called, count_end, count_one, follow_all, vote_all, voted_counting, won_following}
 use Rattle.quorum_elects.specs.Electing as electing
 use Rattle.quorum_elects.specs.Electing.{election, chosen_leader}
 use Rattle.quorum_elects.specs.Leading.{HasLeader}
@@ -72,16 +72,16 @@ module _ (G : Majority) where
   rounds : (K : Candidacy G) → K.r ≡ chosen_leader G.ms.rule G.q → (m : ℕ) → has G.q m ≡ true → odd_from (epoch_at G m) ≡ K.E → Sane (scope G) G.from → Plays (scope G) (electing.elects n G.q K.r) (2 * n * n + 4 * n + 2) Led G.from
   rounds K lowest m there top sane =
       plays_weaker Us (omega arith) (λ v o p. p)
-      (plays_then Us (plays_all Us n 1 (electing.starts G.q) (Started G) (start_one G) G.from (record { room = sane; done = λ f low h. absurd (omega arith); left = λ f high h. refl })) (λ v1 o1 A.
+      (plays_then Us (start_all G sane) (λ v1 o1 A.
       plays_then Us (plays_each Us n (2 * n) (λ k. electing.each n (electing.probes G.q k)) (Probed G) (probe_all G) n 0 (omega arith) v1 (started_probed G v1 A)) (λ v2 o2 P.
       plays_then Us (called G K m there top v2 P) (λ v3 o3 V.
-      plays_then Us (plays_all Us n 1 (electing.votes G.q K.r) (Voted G K) (vote_one G K) v3 V) (λ v4 o4 V.
+      plays_then Us (vote_all G K v3 V) (λ v4 o4 V.
       plays_then Us (plays_all Us n 1 (electing.counts G.q K.r) (Counting G K) (count_one G K) v4 (voted_counting G K v4 V)) (λ v5 o5 C.
       plays_then Us (count_end G K v5 C) (λ v6 o6 L. follow v6 L)))))))
     where
       follow : (v : World) (L : Elected G K v) → Plays (scope G) (electing.each n (electing.follows K.r)) (1 * n) Led v
       follow v L = let W = L.won in plays_weaker Us (omega arith) (λ x o F. record { by = K; lowest = lowest; a = W.quorum; following = F })
-          (plays_all Us n 1 (electing.follows K.r) (Following G K W.quorum) (follow_one G K W.quorum) v (won_following G K v L))
+          (follow_all G K W.quorum v (won_following G K v L))
 
   leads : (v : World) → Led v → HasLeader n G.q G.from v
   leads v L = record {
@@ -91,7 +91,7 @@ module _ (G : Majority) where
     within = F.within;
     major = record { below = λ k h. M.below k (F.within k h); major = F.major };
     leads = record { state = Z.state; up = Z.up; is = record { collects = H.phase; quorum = H.quorum } };
-    follow = λ f h ne. let Y : Is (IsPeon G.c (suc K.E) K.r L.a) v f = F.done f (M.below f (F.within f h)) h ne in let P = Y.holds in record { state = Y.state; up = Y.up; is = record { follows = P.phase; leader = P.leader; quorum = P.quorum } };
+    follow = λ f h ne. let Y : Is (IsPeon G.c (suc K.E) K.r L.a) v f = T.done f (M.below f (F.within f h)) (h, ne) in let P = Y.holds in record { state = Y.state; up = Y.up; is = record { follows = P.phase; leader = P.leader; quorum = P.quorum } };
     epoch = λ f h. same f h (same_or_not f K.r);
   }
     where
@@ -101,8 +101,11 @@ module _ (G : Majority) where
       M : IsMajorityOf n G.q
       M = G.major
 
-      F : Following G L.by L.a n v
-      F = L.following
+      T : Following G L.by L.a n v
+      T = L.following
+
+      F : Reigning G L.by L.a v
+      F = T.keeps
 
       Z : Is (IsCollector G.c K.r (suc K.E) L.a F.pn F.first F.last) v K.r
       Z = F.stands
@@ -112,7 +115,7 @@ module _ (G : Majority) where
 
       same : (f : ℕ) → has L.a f ≡ true → (f ≡ K.r) ⊎ (f ≡ K.r → ⊥) → epoch_of (readings_at v f) ≡ epoch_of (readings_at v K.r)
       same f h (inl e) = ap (λ (x : ℕ). epoch_of (readings_at v x)) e
-      same f h (inr ne) = let Y : Is (IsPeon G.c (suc K.E) K.r L.a) v f = F.done f (M.below f (F.within f h)) h ne in let P = Y.holds in P.epoch ∙ sym H.epoch
+      same f h (inr ne) = let Y : Is (IsPeon G.c (suc K.E) K.r L.a) v f = T.done f (M.below f (F.within f h)) (h, ne) in let P = Y.holds in P.epoch ∙ sym H.epoch
 
   -- one that may lead is among them
   module _ (m : ℕ) (among : has G.q m ≡ true) (may_lead : allows G.ms.rule m ≡ true) (sane : Sane (scope G) G.from) where

@@ -1,5 +1,6 @@
 pub mod Can
 pub mod Elected
+pub mod InTurn
 pub mod Majorities
 pub mod Moving
 pub mod Planning

@@ -12,6 +12,7 @@ use Rattle.mon_wire.specs.declared.body.Body.TheVariants as body
 use Rattle.mon_wire.specs.declared.kind.Kind.TheVariants as kind
 use Rattle.mon_wire.specs.declared.phase.Phase.TheVariants as phase
 use Rattle.quorum_elects.proofs.Can.{New, Onward, Sane, Scope, new_stays}
+use Rattle.quorum_elects.proofs.InTurn.{InTurn, Turned, at_first, covers_one, covers_with, each_in_turn}
 use Rattle.quorum_elects.proofs.Majorities.{Majority, epoch_at, scope}
 use Rattle.quorum_elects.proofs.Moving.{Did, Sound}
 use Rattle.quorum_elects.proofs.Planning.{Does, Plays, does_then, does_weaker, passes, plays_all, plays_none, plays_weaker, step}
@@ -99,35 +100,40 @@ module _ (G : Majority) where
 
   -- ---- all start
 
-  pub record Started (k : ℕ) (w : World) : Type 0 where
-    pub room : Room w
-    pub done : (f : ℕ) → f < k → has q f ≡ true → Waits f w
-    pub left : (f : ℕ) → k ≤ f → has q f ≡ true → w.store f ≡ G.from.store f
+  abbrev IsOf : ℕ → Type 0
+  IsOf f = has q f ≡ true
 
-  pub start_one : (k : ℕ) (w : World) → k < n → Started k w → Plays Us (electing.starts q k ∷ []) 1 (Started (suc k)) w
-  start_one k w lt K = by (in_or_out (has q k))
+  of_or_not : (k : ℕ) → IsOf k ⊎ (IsOf k → ⊥)
+  of_or_not k = elim (in_or_out (has q k)) [ inl there ↦ inl there | inr out ↦ inr (λ h. false≢true (sym out ∙ h)) ]
+
+  abbrev Stored : ℕ → World → Type 0
+  Stored f w = w.store f ≡ G.from.store f
+
+  -- those below k started, and the others have the store that they had
+  abbrev pub Started : ℕ → World → Type 0
+  Started = InTurn IsOf Room Waits Stored
+
+  start_one : (k : ℕ) (w : World) → k < n → IsOf k → Room w → Stored k w → Plays Us (electing.starts q k ∷ []) 1 (Turned IsOf Room Waits Stored k w) w
+  start_one k w lt there room same =
+      step Us (electing.starts q k) (plans.Starts k ∷ []) (chosen _ _ (has q k) there) (does_weaker Us (omega arith) after (start Us w room k (lt_of k there) there (Starts ms several c k (lt_of k there) (shared_entries (w.store k)) (G.clock.event w) (e0 k)) (subst (λ (m : Store). Starting m) (sym same) first)))
     where
-      skip : has q k ≡ false → Started (suc k) w
-      skip out = record { room = K.room; done = λ f low h. elim (up_to f k low) [ inl e ↦ absurd (false≢true (sym out ∙ subst (λ (x : ℕ). has q x ≡ true) e h)) | inr less ↦ K.done f less h ]; left = λ f high h. K.left f (omega arith) h }
+      after : (v : World) → On w v → Did Us (Starts ms several c k (lt_of k there) (shared_entries (w.store k)) (G.clock.event w) (e0 k)) w k v → Turned IsOf Room Waits Stored k w v
+      after v o D = record {
+        keeps = o.sane room;
+        done = (is_now Us (IsProbing c (e0 k) (only k)) w v k D.y D.moved D.did.stands, λ g low ne. (D.did.at, D.moved.says g (letter n k D.did.at body.Probe) (D.did.says g low ne)));
+        others = λ f ne a. (λ z. (is_stays (IsProbing c (e0 f) (only f)) w v f (D.moved.others f ne) z.0, probes_stay f w v o z.1), λ z. (D.moved.others f ne).1 ∙ z);
+      }
 
-      after : (there : has q k ≡ true) (v : World) → On w v → Did Us (Starts ms several c k (lt_of k there) (shared_entries (w.store k)) (G.clock.event w) (e0 k)) w k v → Started (suc k) v
-      after there v o D = record { room = o.sane K.room; done = λ f low h. elim (up_to f k low) [ inl e ↦ subst (λ (x : ℕ). Waits x v) (sym e) new | inr less ↦ old f less h ]; left = λ f high h. (D.moved.others f (λ e. omega arith)).1 ∙ K.left f (omega arith) h }
-        where
-          new : Waits k v
-          new = (is_now Us (IsProbing c (e0 k) (only k)) w v k D.y D.moved D.did.stands, λ g low ne. (D.did.at, D.moved.says g (letter n k D.did.at body.Probe) (D.did.says g low ne)))
+      Starting : Store → Type 0
+      Starting m = Surely (λ y. Sound (readings_of m) y × Starts ms several c k (lt_of k there) (shared_entries m) (G.clock.event w) (e0 k) y) (react (member_of ms k (lt_of k there)) (shared_entries m) (G.clock.event w) (readings_of m) (booting k) input.Start)
 
-          old : (f : ℕ) → f < k → has q f ≡ true → Waits f v
-          old f less h = let z = K.done f less h in (is_stays (IsProbing c (e0 f) (only f)) w v f (D.moved.others f (λ e. omega arith)) z.0, probes_stay f w v o z.1)
+      first : Starting (G.from.store k)
+      first = let N = G.numbers k there in let e = N.epoch in starts ms several c k (lt_of k there) (shared_entries (G.from.store k)) (G.clock.event w) (readings_at G.from k) (G.close k there) (N.number, N.promise) N.boot (omega arith)
 
-      by : (has q k ≡ true) ⊎ (has q k ≡ false) → Plays Us (electing.starts q k ∷ []) 1 (Started (suc k)) w
-      by (inr out) = passes Us (electing.starts q k) (otherwise _ _ (has q k) out) (skip out)
-      by (inl there) = step Us (electing.starts q k) (plans.Starts k ∷ []) (chosen _ _ (has q k) there) (does_weaker Us (omega arith) (after there) (start Us w K.room k (lt_of k there) there (Starts ms several c k (lt_of k there) (shared_entries (w.store k)) (G.clock.event w) (e0 k)) (subst (λ (m : Store). Starting m) (sym (K.left k (omega arith) there)) first)))
-        where
-          Starting : Store → Type 0
-          Starting m = Surely (λ y. Sound (readings_of m) y × Starts ms several c k (lt_of k there) (shared_entries m) (G.clock.event w) (e0 k) y) (react (member_of ms k (lt_of k there)) (shared_entries m) (G.clock.event w) (readings_of m) (booting k) input.Start)
-
-          first : Starting (G.from.store k)
-          first = let N = G.numbers k there in let e = N.epoch in starts ms several c k (lt_of k there) (shared_entries (G.from.store k)) (G.clock.event w) (readings_at G.from k) (G.close k there) (N.number, N.promise) N.boot (omega arith)
+  pub start_all : Room G.from → Plays Us (electing.each n (electing.starts q)) (1 * n) (Started n) G.from
+  start_all room =
+      each_in_turn IsOf Room Waits Stored Us n 1 (electing.starts q) of_or_not
+      (λ k w not R. otherwise _ _ (has q k) (elim (in_or_out (has q k)) [ inl there ↦ absurd (not there) | inr out ↦ out ])) start_one G.from (at_first IsOf Room Waits Stored G.from room (λ f a. refl))
 
   -- ---- each asks the others, and becomes a candidate
 
@@ -138,7 +144,7 @@ module _ (G : Majority) where
     pub left : (f : ℕ) → k ≤ f → has q f ≡ true → Waits f w
 
   pub started_probed : (w : World) → Started n w → Probed 0 w
-  started_probed w K = record { room = K.room; done = λ f low h. absurd (omega arith); left = λ f high h. K.done f (M.below f h) h }
+  started_probed w K = record { room = K.keeps; done = λ f low h. absurd (omega arith); left = λ f high h. K.done f (M.below f h) h }
 
   -- k itself waits for answers, and heard all below j, which are no majority
   pub record HubWaits (k j : ℕ) (w : World) : Type 0 where
@@ -263,10 +269,7 @@ module _ (G : Majority) where
               waits = is_now Us (IsProbing c (e0 k) (with_rank H.outside j)) w v k D.y D.moved E.0;
               probes = probes_stay k w v o H.probes;
               self = has_with H.outside j k H.self;
-              heard = λ f low h. elim (up_to f j low) [
-                | inl e ↦ subst (λ (x : ℕ). has (with_rank H.outside j) x ≡ true) (sym e) (has_self H.outside j (let z = H.long in omega arith))
-                | inr less ↦ has_with H.outside j f (H.heard f less h)
-              ];
+              heard = covers_with q H.outside j (let z = H.long in let m = lt in let s = ms.most in omega arith) H.heard;
               few = E.1;
             })
 
@@ -294,7 +297,7 @@ module _ (G : Majority) where
             waits = H.waits;
             probes = H.probes;
             self = H.self;
-            heard = λ f low h. elim (up_to f j low) [ inl e ↦ subst (λ (x : ℕ). has H.outside x ≡ true) (sym e) (in_it (subst (λ (x : ℕ). has q x ≡ true) e h)) | inr less ↦ H.heard f less h ];
+            heard = covers_one q H.outside j in_it H.heard;
             few = H.few;
           });
         })

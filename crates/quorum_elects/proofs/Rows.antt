@@ -30,15 +30,17 @@ use Rattle.mon_wire.specs.declared.phase.Timer.TheVariants as timer
 use Rattle.quorum_elects.proofs.Moving.{Sound}
 use Rattle.quorum_elects.proofs.Ranking.{FullIf, IsFull, full_start}
 use Rattle.quorum_elects.proofs.Standing.{Close, CloseAt, HasNumbers, IsCandidate, IsProbing, SaysAll, among_map, among_others, armed_there, letter}
-use Rattle.quorum_elects.proofs.Walking.{Surely, and_then, by_test, done, never, weaken, where_fits}
+use Rattle.quorum_elects.proofs.Walking.{Surely, by_test, done, never, so, weaken}
 use Rattle.quorum_elects.specs.Ready.{HasRoom}
 use Rattle.quorum_model.proofs.Members.{member_of}
 use Rattle.quorum_model.specs.Monitors.{Monitors}
 use Rattle.quorum_walk.proofs.Lists.{Among, all_append, among_right}
 use Rattle.quorum_walk.proofs.Parity.{odd_of_even}
 use Rattle.quorum_walk.proofs.Sparing.{played_more}
+use Rattle.table_rows.proofs.Hearing.{another}
+use Rattle.table_rows.proofs.Starting.{elects_next, elects_now, near_reply_row, probe_row, probes, probing, standing, start_row}
 use Rattle.std.proofs.Common.{Bool, List, None, Ok, Option, Some, [], ap, arith, cond, false, inl, inr, length, ltb, map, not, refl, subst, suc, sym, true, ℕ, ◌&&◌, ◌+◌, ◌<◌, ◌^◌, ◌∙◌, ◌∷◌, ◌≡◌, ◌≤◌, ◌⊎◌}
-use Rattle.std.proofs.lemmas.Bool.{and_parts, cond_both, eq-eqb, false≢true, lt-ltb, ltb-true, ne_eqb}
+use Rattle.std.proofs.lemmas.Bool.{and_parts, cond_both, false≢true, le-ltb, lt-ltb, ltb-true}
 use Rattle.std.proofs.lemmas.List.{length-set}
 use Rattle.std.specs.Prelude.{is_some}
 
@@ -111,12 +113,6 @@ module _ (ms : Monitors) (several : 1 < ms.count) (c : ℕ) (i : ℕ) (lt : ltb 
   abbrev pub And : Readings → (Course → Type 0) → Course → Type 0
   And w R y = Sound w y × R y
 
-  -- a message of another monitor comes to one that runs
-  pub heard : (R : Course → Type 0) (w : Readings) (s : State) (f e : ℕ) (b : Body) → same_phase s.phase phase.Booting ≡ false → is_heard me (letter n f e b) ≡ true
-      → Surely R (hear me sh now f e b (at_rest w s)) → Surely R (react me sh now w s (input.Deliver (letter n f e b)))
-  unfolding react
-  heard R w s f e b up known k = by_test (same_phase s.phase phase.Booting) (never up) (λ _. by_test (is_heard me (letter n f e b)) (λ _. k) (λ t. never t known))
-
   -- ---- the start
 
   pub record Starts (e : ℕ) (y : Course) : Type 0 where
@@ -141,18 +137,14 @@ module _ (ms : Monitors) (several : 1 < ms.count) (c : ℕ) (i : ℕ) (lt : ltb 
       by true = full_start i boot low
       by false = full_start i 0 low
 
-  abbrev pub probing : Course → Course
-  probing x = x ▸ in_phase phase.Probing ▸ forget_clients ▸ prober_is (record { outside = only i }) ▸ send_each me (sending.others me) body.Probe ▸ arm now timer.Probe
-
   armed_long : (ts : List (Option ℕ)) → 1 < length (armed now timer.Probe (only_ping ts))
   armed_long ts = omega arith
 
   pub starts : (w : Readings) → Close c w → HasNumbers w → HasRoom w.boot → epoch_of w + 9 ≤ 2 ^ 62 → Surely (And w (Starts (epoch_of w))) (react me sh now w (booting i) input.Start)
-  unfolding react start bootstrap
   starts w C N boot room =
-      where_fits (And w (Starts (epoch_of w))) which.Boot (suc w.boot) _ (omega arith) (λ fits. by_test (ltb 1 n) (λ _. by fits (not (is_some w.epoch)) refl) (λ t. never t (lt-ltb 1 n several)))
+      so (start_row me sh now w (booting i) refl (omega arith) ∙ probes me now (counted w (not (is_some w.epoch))) (lt-ltb 1 n several)) (by (omega arith) (not (is_some w.epoch)) refl)
     where
-      by : suc w.boot ≤ 2 ^ 62 → (b : Bool) → not (is_some w.epoch) ≡ b → Surely (And w (Starts (epoch_of w))) (Ok (probing (counted w b)))
+      by : suc w.boot ≤ 2 ^ 62 → (b : Bool) → not (is_some w.epoch) ≡ b → Surely (And w (Starts (epoch_of w))) (Ok (probing me now (counted w b)))
       by fits true t = done (
         record { tells = refl; fits = (fits, (omega arith, tt)); short = (tt, (tt, tt)); unmarked = C.unmarked },
         record {
@@ -180,13 +172,9 @@ module _ (ms : Monitors) (several : 1 < ms.count) (c : ℕ) (i : ℕ) (lt : ltb 
     pub says : Among (send.Message f (letter n i at (body.ProbeReply (quorum_of s) w.first w.last))) y.out
 
   pub probed : (w : Readings) (s : State) (f e : ℕ) → (f ≡ i → ⊥) → w.marked ≡ false → same_phase s.phase phase.Booting ≡ false → Surely (And w (Answers w s f)) (react me sh now w s (input.Deliver (letter n f e body.Probe)))
-  unfolding hear_probe
   probed w s f e ne unmarked up =
-      heard (And w (Answers w s f)) w s f e body.Probe up (known f ne)
-      (by_test w.marked (never unmarked) (λ _. done (record { tells = refl; fits = tt; short = tt; unmarked = unmarked }, record { same = refl; reads = refl; still = refl; at = epoch_of w; says = inl refl })))
-    where
-      known : (f : ℕ) → (f ≡ i → ⊥) → is_heard me (letter n f e body.Probe) ≡ true
-      known f ne = λ j. not (ne_eqb f i ne j) && eq-eqb n n refl j && true
+      so (probe_row me sh now w s e (another ne up) unmarked)
+      (done (record { tells = refl; fits = tt; short = tt; unmarked = unmarked }, record { same = refl; reads = refl; still = refl; at = epoch_of w; says = inl refl }))
 
   -- ---- elections
 
@@ -206,47 +194,54 @@ module _ (ms : Monitors) (several : 1 < ms.count) (c : ℕ) (i : ℕ) (lt : ltb 
     pub epoch : epoch_of y.readings ≡ odd_from (epoch_of x.readings)
     pub room : odd_from (epoch_of x.readings) + 8 ≤ 2 ^ 62
 
-  in_odd : (w : Readings) (x : Course) → Sound w x → Close c x.readings → HasNumbers x.readings → odd_from (epoch_of x.readings) + 8 ≤ 2 ^ 62 → Surely (InOdd w x) (in_odd_epoch x)
-  unfolding in_odd_epoch
-  in_odd w x S C N room = by_test (is_even (epoch_of x.readings))
-      (λ t. where_fits (InOdd w x) which.Epoch (suc (epoch_of x.readings)) (λ e. Ok (change (Epoch e) x)) (let z = odd_high (epoch_of x.readings) t in omega arith)
-      (λ fits. done (record { sound = sound_more w x (Epoch (suc (epoch_of x.readings))) fits tt S.unmarked S; out = refl; close = C; numbers = N; state = refl; epoch = sym (ap (λ b. cond b (suc (epoch_of x.readings)) (epoch_of x.readings)) t); room = room })))
-      (λ t. done (record { sound = S; out = refl; close = C; numbers = N; state = refl; epoch = sym (ap (λ b. cond b (suc (epoch_of x.readings)) (epoch_of x.readings)) t); room = room }))
+  odd_now : (w : Readings) (x : Course) → Sound w x → Close c x.readings → HasNumbers x.readings → odd_from (epoch_of x.readings) + 8 ≤ 2 ^ 62 → is_even (epoch_of x.readings) ≡ false → InOdd w x x
+  odd_now w x S C N room t = record { sound = S; out = refl; close = C; numbers = N; state = refl; epoch = sym (ap (λ b. cond b (suc (epoch_of x.readings)) (epoch_of x.readings)) t); room = room }
+
+  odd_next : (w : Readings) (x : Course) → Sound w x → Close c x.readings → HasNumbers x.readings → odd_from (epoch_of x.readings) + 8 ≤ 2 ^ 62 → is_even (epoch_of x.readings) ≡ true → suc (epoch_of x.readings) ≤ 2 ^ 62 → InOdd w x (change (Epoch (suc (epoch_of x.readings))) x)
+  odd_next w x S C N room t fits = record { sound = sound_more w x (Epoch (suc (epoch_of x.readings))) fits tt S.unmarked S; out = refl; close = C; numbers = N; state = refl; epoch = sym (ap (λ b. cond b (suc (epoch_of x.readings)) (epoch_of x.readings)) t); room = room }
 
   -- by a course that sent nothing yet, of a monitor that has its timers
   pub elected : (w : Readings) (x : Course) → Sound w x → Close c x.readings → HasNumbers x.readings → odd_from (epoch_of x.readings) + 8 ≤ 2 ^ 62 → 1 < length x.state.timers → IsFull x.state.elector.scores
       → Surely (And w (Elects (odd_from (epoch_of x.readings)))) (elect me now x)
-  unfolding elect
-  elected w x S C N room long F = and_then (InOdd w x) (And w (Elects (odd_from (epoch_of x.readings)))) (in_odd_epoch x) _ (in_odd w x S C N room) (λ y M.
-      let ts = cond (same_phase y.state.phase phase.Electing) y.state.timers (only_ping y.state.timers) in
-      let many : 1 < length ts = cond_both (same_phase y.state.phase phase.Electing) y.state.timers (only_ping y.state.timers) (λ (l : List (Option ℕ)). 1 < length l) (λ _. subst (λ (s : State). 1 < length s.timers) (sym M.state) long) (λ _. pinged y.state.timers) in
-      let full : IsFull y.state.elector.scores = subst (λ (s : State). IsFull s.elector.scores) (sym M.state) F in
-      done (
-        record { tells = (let s = M.sound in s.tells); fits = (let s = M.sound in s.fits); short = (let s = M.sound in s.short); unmarked = (let s = M.sound in s.unmarked) },
-        record {
-          stands = record {
-            close = M.close;
-            numbers = M.numbers;
-            room = M.room;
-            epoch = M.epoch;
-            odd = odd_from_is (epoch_of x.readings);
-            phase = refl;
-            candidate = refl;
-            acked = refl;
-            deferred = refl;
-            armed = ap is_some (armed_there ts (Some _) many);
-            timers = subst (λ (k : ℕ). 1 < k) (sym (length-set ts 1 (Some _))) many;
-            clients = refl;
-            scores = full;
-          };
-          table = own_table me y;
-          fits = own_fits me y;
-          full = own_full me y full;
-          says = λ g lt ne. among_right (send.Message g (letter n i (odd_from (epoch_of x.readings)) (body.Propose (own_table me y)))) y.out (map (message_to me (epoch_of y.readings) (body.Propose (own_table me y))) (sending.others me))
-              (subst (λ (e : ℕ). Among (send.Message g (letter n i e (body.Propose (own_table me y)))) (map (message_to me (epoch_of y.readings) (body.Propose (own_table me y))) (sending.others me))) M.epoch
-              (among_map (message_to me (epoch_of y.readings) (body.Propose (own_table me y))) g (sending.others me) (among_others me g lt ne)));
-        },
-      ))
+  elected w x S C N room long F = by (is_even (epoch_of x.readings)) refl
+    where
+      stood : (y : Course) → InOdd w x y → Surely (And w (Elects (odd_from (epoch_of x.readings)))) (Ok (standing me now y))
+      stood y M =
+          let ts = cond (same_phase y.state.phase phase.Electing) y.state.timers (only_ping y.state.timers) in
+          let many : 1 < length ts = cond_both (same_phase y.state.phase phase.Electing) y.state.timers (only_ping y.state.timers) (λ (l : List (Option ℕ)). 1 < length l) (λ _. subst (λ (s : State). 1 < length s.timers) (sym M.state) long) (λ _. pinged y.state.timers) in
+          let full : IsFull y.state.elector.scores = subst (λ (s : State). IsFull s.elector.scores) (sym M.state) F in
+          done (
+            record { tells = (let s = M.sound in s.tells); fits = (let s = M.sound in s.fits); short = (let s = M.sound in s.short); unmarked = (let s = M.sound in s.unmarked) },
+            record {
+              stands = record {
+                close = M.close;
+                numbers = M.numbers;
+                room = M.room;
+                epoch = M.epoch;
+                odd = odd_from_is (epoch_of x.readings);
+                phase = refl;
+                candidate = refl;
+                acked = refl;
+                deferred = refl;
+                armed = ap is_some (armed_there ts (Some _) many);
+                timers = subst (λ (k : ℕ). 1 < k) (sym (length-set ts 1 (Some _))) many;
+                clients = refl;
+                scores = full;
+              };
+              table = own_table me y;
+              fits = own_fits me y;
+              full = own_full me y full;
+              says = λ g lt ne. among_right (send.Message g (letter n i (odd_from (epoch_of x.readings)) (body.Propose (own_table me y)))) y.out (map (message_to me (epoch_of y.readings) (body.Propose (own_table me y))) (sending.others me))
+                  (subst (λ (e : ℕ). Among (send.Message g (letter n i e (body.Propose (own_table me y)))) (map (message_to me (epoch_of y.readings) (body.Propose (own_table me y))) (sending.others me))) M.epoch
+                  (among_map (message_to me (epoch_of y.readings) (body.Propose (own_table me y))) g (sending.others me) (among_others me g lt ne)));
+            },
+          )
+
+      by : (b : Bool) → is_even (epoch_of x.readings) ≡ b → Surely (And w (Elects (odd_from (epoch_of x.readings)))) (elect me now x)
+      by false t = so (elects_now me now x t) (stood x (odd_now w x S C N room t))
+      by true t =
+          let fits : suc (epoch_of x.readings) ≤ 2 ^ 62 = (let z = odd_high (epoch_of x.readings) t in omega arith) in
+          so (elects_next me now x t fits) (stood (change (Epoch (suc (epoch_of x.readings))) x) (odd_next w x S C N room t fits))
 
   rest : (w : Readings) (s : State) → w.marked ≡ false → Sound w (at_rest w s)
   rest w s u = record { tells = refl; fits = tt; short = tt; unmarked = u }
@@ -257,16 +252,11 @@ module _ (ms : Monitors) (several : 1 < ms.count) (c : ℕ) (i : ℕ) (lt : ltb 
 
   pub replied : (w : Readings) (s : State) (e : ℕ) (o : List Bool) → IsProbing c e o w s → (f at : ℕ) (quorum : List Bool) (first last : ℕ) (marked : Bool) → (f ≡ i → ⊥) → CloseAt c marked first last
       → Surely (And w (Hears e o f)) (react me sh now w s (input.Deliver (letter n f at (body.ProbeReply quorum first last))))
-  unfolding hear_probe_reply
   replied w s e o P f at quorum first last marked ne K =
-      heard (And w (Hears e o f)) w s f at (body.ProbeReply quorum first last) (ap (λ p. same_phase p phase.Booting) P.phase) (known f ne)
-      (by_test (not (same_phase s.phase phase.Probing)) (never (ap (λ p. not (same_phase p phase.Probing)) P.phase)) (λ _.
-      by_test w.marked (never close.unmarked) (λ _.
-      by_test (ltb w.last first && ltb 1 first) (λ t. absurd (too_far t K.low)) (λ _.
-      by_test (ltb (w.last + lag) last) (λ t. absurd (too_late t)) (λ _.
-      by_test (ltb 0 (count_of quorum)) (λ _. wins x0 (elected w x0 (rest w s close.unmarked) close P.numbers room P.timers P.scores)) (λ _.
+      so (near_reply_row me sh now w s at quorum first last ne P.phase close.unmarked (by (ltb w.last first && ltb 1 first) refl) (le-ltb (w.last + lag) last (let a = K.most in let b = close.least in omega arith)))
+      (by_test (ltb 0 (count_of quorum)) (λ _. wins x0 (elected w x0 (rest w s close.unmarked) close P.numbers room P.timers P.scores)) (λ _.
       by_test (is_majority n (with_rank s.prober.outside f)) (λ _. wins y0 (elected w y0 (record { tells = refl; fits = tt; short = tt; unmarked = close.unmarked }) close P.numbers room P.timers P.scores))
-      (λ t. done (record { tells = refl; fits = tt; short = tt; unmarked = close.unmarked }, inr (record { close = close; numbers = P.numbers; room = P.room; epoch = P.epoch; phase = P.phase; outside = ap (λ (o : List Bool). with_rank o f) P.outside; timers = P.timers; scores = P.scores }, sym (ap (λ (o : List Bool). is_majority n (with_rank o f)) P.outside) ∙ t)))))))))
+      (λ t. done (record { tells = refl; fits = tt; short = tt; unmarked = close.unmarked }, inr (record { close = close; numbers = P.numbers; room = P.room; epoch = P.epoch; phase = P.phase; outside = ap (λ (o : List Bool). with_rank o f) P.outside; timers = P.timers; scores = P.scores }, sym (ap (λ (o : List Bool). is_majority n (with_rank o f)) P.outside) ∙ t)))))
     where
       x0 : Course
       x0 = at_rest w s
@@ -280,9 +270,6 @@ module _ (ms : Monitors) (several : 1 < ms.count) (c : ℕ) (i : ℕ) (lt : ltb 
       room : odd_from (epoch_of w) + 8 ≤ 2 ^ 62
       room = let z = P.room in let q = P.epoch in let h = odd_most (epoch_of w) in omega arith
 
-      known : (f : ℕ) → (f ≡ i → ⊥) → is_heard me (letter n f at (body.ProbeReply quorum first last)) ≡ true
-      known f ne = λ j. not (ne_eqb f i ne j) && eq-eqb n n refl j && true
-
       wins : (x : Course) → Surely (And w (Elects (odd_from (epoch_of w)))) (elect me now x) → Surely (And w (Hears e o f)) (elect me now x)
       wins x T = weaken (And w (Elects (odd_from (epoch_of w)))) (And w (Hears e o f)) (elect me now x) (λ y k. (k.0, inl (subst (λ (z : ℕ). Elects (odd_from z) y) P.epoch k.1))) T
 
@@ -290,5 +277,6 @@ module _ (ms : Monitors) (several : 1 < ms.count) (c : ℕ) (i : ℕ) (lt : ltb 
       too_far t (inl few) = let p = and_parts (ltb w.last first) (ltb 1 first) t in let q = ltb-true 1 first p.1 in omega arith
       too_far t (inr low) = let p = and_parts (ltb w.last first) (ltb 1 first) t in let q = ltb-true w.last first p.0 in let a = K.most in let b = close.least in omega arith
 
-      too_late : ltb (w.last + lag) last ≡ true → ⊥
-      too_late t = let q = ltb-true (w.last + lag) last t in let a = K.most in let b = close.least in omega arith
+      by : (b : Bool) → (ltb w.last first && ltb 1 first) ≡ b → b ≡ false
+      by true t = absurd (too_far t K.low)
+      by false t = refl

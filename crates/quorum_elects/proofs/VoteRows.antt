@@ -27,18 +27,19 @@ use Rattle.mon_wire.specs.declared.phase.Timer.TheVariants as timer
 use Rattle.quorum_agreement.proofs.Others.{others}
 use Rattle.quorum_elects.proofs.Moving.{Sound}
 use Rattle.quorum_elects.proofs.Ranking.{FullIf, IsBefore, IsFull, before_is, before_not, full_after, full_or}
-use Rattle.quorum_elects.proofs.Rows.{Fitting, elected, fits_there, heard, odd_from, pinged, sound_more}
+use Rattle.quorum_elects.proofs.Rows.{Fitting, elected, fits_there, odd_from, pinged, sound_more}
 use Rattle.quorum_elects.proofs.Rows as rows
 use Rattle.quorum_elects.proofs.Standing.{Close, HasNumbers, IsCandidate, IsCollector, IsPeon, IsVoter, SaysTo, among_map, among_members, letter}
 use Rattle.quorum_elects.proofs.Values.{pending_short}
-use Rattle.quorum_elects.proofs.Walking.{Surely, and_then, by_test, done, never, weaken, where_fits}
+use Rattle.quorum_elects.proofs.Walking.{Surely, by_test, done, never, so, weaken}
 use Rattle.quorum_model.proofs.Members.{member_of}
 use Rattle.quorum_model.specs.Monitors.{Monitors}
 use Rattle.quorum_walk.proofs.Lists.{Among, among_left, among_right}
 use Rattle.quorum_walk.proofs.Parity.{even_of_odd}
 use Rattle.quorum_walk.proofs.Ranks.{has_with_is, whole_major}
+use Rattle.table_rows.proofs.Electing.{ack_row, collects, election_ends_row, later_propose_row, number_above, propose_row, reigning, victory_row, wins}
 use Rattle.std.proofs.Common.{Bool, List, Ok, Option, Some, [], ap, arith, cond, eqb, false, inl, inr, leb, length, ltb, map, max, not, refl, subst, suc, sym, true, ℕ, ◌&&◌, ◌++◌, ◌+◌, ◌<◌, ◌^◌, ◌||◌, ◌∙◌, ◌≡◌, ◌≤◌, ◌⊎◌}
-use Rattle.std.proofs.lemmas.Bool.{and_parts, cond_both, eq-eqb, le-ltb, leb-true, lt-ltb, ltb-false, ltb-true, ne_eqb}
+use Rattle.std.proofs.lemmas.Bool.{and_parts, cases_order, cond_both, ltb-true}
 use Rattle.std.proofs.lemmas.List.{length-set}
 
 module _ (ms : Monitors) (several : 1 < ms.count) (c : ℕ) (i : ℕ) (lt : ltb i ms.count ≡ true) (sh : List Entry) (now : ℕ) where
@@ -67,11 +68,8 @@ module _ (ms : Monitors) (several : 1 < ms.count) (c : ℕ) (i : ℕ) (lt : ltb 
       by true = before_not ms.rule table F n i r ms.most (ltb-true i n lt) less B
       by false = refl
 
-  proposed : (f e : ℕ) (table : Option Scores) → Fitting ms.rule table → (f ≡ i → ⊥) → is_heard me (letter n f e (body.Propose table)) ≡ true
-  proposed f e table fits ne = λ j. not (ne_eqb f i ne j) && eq-eqb n n refl j && fits_there me table fits j
-
-  open_to : (p : Phase) (e : ℕ) → p ≡ phase.Electing → is_even e ≡ false → (not (votes p) || is_even e) ≡ false
-  open_to p e is odd = λ j. not (votes (is j)) || odd j
+  voting : (p : Phase) → p ≡ phase.Electing → votes p ≡ true
+  voting p is = ap votes is
 
   pub record Defers (r e : ℕ) (y : Course) : Type 0 where
     pub stands : IsVoter c e y.readings y.state
@@ -80,25 +78,8 @@ module _ (ms : Monitors) (several : 1 < ms.count) (c : ℕ) (i : ℕ) (lt : ltb 
   -- a candidate defers to one that is before it, of the same epoch or a later one
   pub defers : (w : Readings) (s : State) (own : ℕ) (a : List Bool) → IsCandidate c own a w s → (r e : ℕ) → r < n → (r ≡ i → ⊥) → IsBefore ms.rule r i → (table : Option Scores) → Fitting ms.rule table → FullIf table → is_even e ≡ false → e ≤ 2 ^ 62 → own ≤ e
       → Surely (And w (Defers r e)) (react me sh now w s (input.Deliver (letter n r e (body.Propose table))))
-  unfolding hear_propose adopt
-  defers w s own a P r e less ne B table fits F odd short le =
-      heard ms several c i lt sh now (And w (Defers r e)) w s r e (body.Propose table) (ap (λ p. same_phase p phase.Booting) P.phase) (proposed r e table fits ne)
-      (by_test (not (votes s.phase) || is_even e) (never (open_to s.phase e P.phase odd)) (λ _.
-      by_test (ltb e (epoch_of w)) (never (le-ltb e (epoch_of w) (let q = P.epoch in omega arith))) (λ _.
-      by_test (ltb (epoch_of w) e)
-      (λ _. by_test (is_allowed me r && stands_before me (table_or table s.elector.scores) r i) (λ _. done (
-        record { tells = refl; fits = (short, tt); short = (tt, tt); unmarked = close.unmarked },
-        record { stands = record { close = P.close; numbers = P.numbers; epoch = refl; phase = refl }; says = inl refl },
-      )) (λ t. never t before))
-      (λ late. by_test (is_allowed me r && stands_before me (table_or table s.elector.scores) r i)
-      (λ _. by_test (may_defer me (table_or table s.elector.scores) r s.elector.deferred) (λ _. done (
-        record { tells = refl; fits = tt; short = tt; unmarked = close.unmarked },
-        record {
-          stands = record { close = P.close; numbers = P.numbers; epoch = same late; phase = P.phase };
-          says = inl (ap (λ (z : ℕ). send.Message r (letter n i z body.Ack)) (sym (same late)));
-        },
-      )) (λ t. never t (ap (may_defer me (table_or table s.elector.scores) r) P.deferred)))
-      (λ t. never t before)))))
+  unfolding adopt
+  defers w s own a P r e less ne B table fits F odd short le = by (cases_order (epoch_of w) e)
     where
       close : Close c w
       close = P.close
@@ -106,22 +87,33 @@ module _ (ms : Monitors) (several : 1 < ms.count) (c : ℕ) (i : ℕ) (lt : ltb 
       before : (is_allowed me r && stands_before me (table_or table s.elector.scores) r i) ≡ true
       before = before_it (table_or table s.elector.scores) r (full_or table s.elector.scores F P.scores) less B
 
-      same : ltb (epoch_of w) e ≡ false → epoch_of w ≡ e
-      same late = let q = ltb-false (epoch_of w) e late in let p = P.epoch in omega arith
+      by : (epoch_of w ≡ e) ⊎ ((epoch_of w < e) ⊎ (e < epoch_of w)) → Surely (And w (Defers r e)) (react me sh now w s (input.Deliver (letter n r e (body.Propose table))))
+      by (inl same) = so (propose_row me sh now w s e table ne (fits_there me table fits) (voting s.phase P.phase) odd same)
+          (by_test (is_allowed me r && stands_before me (table_or table s.elector.scores) r i)
+          (λ _. by_test (may_defer me (table_or table s.elector.scores) r s.elector.deferred) (λ _. done (
+            record { tells = refl; fits = tt; short = tt; unmarked = close.unmarked },
+            record {
+              stands = record { close = P.close; numbers = P.numbers; epoch = same; phase = P.phase };
+              says = inl (ap (λ (z : ℕ). send.Message r (letter n i z body.Ack)) (sym same));
+            },
+          )) (λ t. never t (ap (may_defer me (table_or table s.elector.scores) r) P.deferred)))
+          (λ t. never t before))
+      by (inr (inl later)) = so (later_propose_row me sh now w s e table ne (fits_there me table fits) (voting s.phase P.phase) odd later)
+          (by_test (is_allowed me r && stands_before me (table_or table s.elector.scores) r i) (λ _. done (
+            record { tells = refl; fits = (short, tt); short = (tt, tt); unmarked = close.unmarked },
+            record { stands = record { close = P.close; numbers = P.numbers; epoch = refl; phase = refl }; says = inl refl },
+          )) (λ t. never t before))
+      by (inr (inr earlier)) = let q = P.epoch in absurd (omega arith)
 
   -- a PROPOSE of a later epoch makes a monitor that is before its sender a candidate of that epoch
   pub calls : (w : Readings) (s : State) (own : ℕ) (a : List Bool) → IsCandidate c own a w s → (r e : ℕ) → r < n → (r ≡ i → ⊥) → IsBefore ms.rule i r → (table : Option Scores) → Fitting ms.rule table → FullIf table → is_even e ≡ false → e + 8 ≤ 2 ^ 62 → own < e
       → Surely (And w (Elects e)) (react me sh now w s (input.Deliver (letter n r e (body.Propose table))))
-  unfolding hear_propose adopt
+  unfolding adopt
   calls w s own a P r e less ne B table fits F odd room later =
-      heard ms several c i lt sh now (And w (Elects e)) w s r e (body.Propose table) (ap (λ p. same_phase p phase.Booting) P.phase) (proposed r e table fits ne)
-      (by_test (not (votes s.phase) || is_even e) (never (open_to s.phase e P.phase odd)) (λ _.
-      by_test (ltb e (epoch_of w)) (never (le-ltb e (epoch_of w) (let q = P.epoch in omega arith))) (λ _.
-      by_test (ltb (epoch_of w) e)
-      (λ _. by_test (is_allowed me r && stands_before me (table_or table s.elector.scores) r i) (never (not_before (table_or table s.elector.scores) r (full_or table s.elector.scores F P.scores) less B))
+      so (later_propose_row me sh now w s e table ne (fits_there me table fits) (voting s.phase P.phase) odd (let q = P.epoch in omega arith))
+      (by_test (is_allowed me r && stands_before me (table_or table s.elector.scores) r i) (never (not_before (table_or table s.elector.scores) r (full_or table s.elector.scores F P.scores) less B))
       (λ _. weaken (And w (Elects (odd_from e))) (And w (Elects e)) (elect me now x) (λ y k. (k.0, subst (λ (z : ℕ). Elects z y) (ap (λ b. cond b (suc e) e) odd) k.1))
       (elected ms several c i lt sh now w x (record { tells = refl; fits = (omega arith, tt); short = (tt, tt); unmarked = close.unmarked }) P.close P.numbers (subst (λ (b : Bool). cond b (suc e) e + 8 ≤ 2 ^ 62) (sym odd) room) many (full_after table s.elector.scores F P.scores))))
-      (λ t. never t (lt-ltb (epoch_of w) e (let q = P.epoch in omega arith))))))
     where
       close : Close c w
       close = P.close
@@ -142,19 +134,21 @@ module _ (ms : Monitors) (several : 1 < ms.count) (c : ℕ) (i : ℕ) (lt : ltb 
     pub short : suc e ≤ 2 ^ 62
     pub says : SaysTo n i (suc e) q (body.Victory q) y.out
 
-  reigned : (w : Readings) (x : Course) → Sound w x → Close c x.readings → HasNumbers x.readings → x.state.clients.queue ≡ [] → (e : ℕ) → epoch_of x.readings ≡ e → (q : List Bool) → is_alone me q ≡ false → suc (epoch_of x.readings) ≤ 2 ^ 62
-      → Surely (And w (Reigns e q)) (reign me now q (change (Epoch (suc (epoch_of x.readings))) x))
-  unfolding reign collect collect_with
-  reigned w x S C N queue e at q several fits =
+  -- a course that wins
+  won : (w : Readings) (x : Course) → Sound w x → Close c x.readings → HasNumbers x.readings → x.state.clients.queue ≡ [] → (e : ℕ) → epoch_of x.readings ≡ e → e + 8 ≤ 2 ^ 62 → (q : List Bool) → is_alone me q ≡ false → Surely (And w (Reigns e q)) (win me now q x)
+  unfolding collect_with
+  won w x S C N queue e at room q several =
       let z : Course = change (Epoch (suc (epoch_of x.readings))) x in
-      let pn = next_number (or_zero x.readings.last_pn) (max (promise_of x.readings) 0) i in
+      let pn = number_above me x.readings 0 in
       let most = ms.most in
       let low = ltb-true i n lt in
       let own = N.0 in
       let promise = N.1 in
-      where_fits (And w (Reigns e q)) which.Pn pn _ (omega arith) (λ short.
+      let fits : suc (epoch_of x.readings) ≤ 2 ^ 62 = omega arith in
+      let short : number_above me x.readings 0 ≤ 2 ^ 62 = omega arith in
       let T : Sound w (change (Numbers pn) z) = sound_more w z (Numbers pn) short tt S.unmarked (sound_more w x (Epoch (suc (epoch_of x.readings))) fits tt S.unmarked S) in
-      by_test (is_alone me q) (never several) (λ _. done (
+      so (wins me now q x fits ∙ collects me now q 0 (reigning me q z) short several) (
+      done (
         record { tells = T.tells; fits = T.fits; short = T.short; unmarked = S.unmarked },
         record {
           pn = pn;
@@ -168,16 +162,7 @@ module _ (ms : Monitors) (several : 1 < ms.count) (c : ℕ) (i : ℕ) (lt : ltb 
               (subst (λ (k : ℕ). Among (send.Message g (letter n i (suc k) (body.Victory q))) (map (message_to me (suc (epoch_of x.readings)) (body.Victory q)) (members me q))) at
               (among_map (message_to me (suc (epoch_of x.readings)) (body.Victory q)) g (members me q) (among_members me q g lt h ne))));
         },
-      )))
-
-  -- a course that wins
-  won : (w : Readings) (x : Course) → Sound w x → Close c x.readings → HasNumbers x.readings → x.state.clients.queue ≡ [] → (e : ℕ) → epoch_of x.readings ≡ e → e + 8 ≤ 2 ^ 62 → (q : List Bool) → is_alone me q ≡ false → Surely (And w (Reigns e q)) (win me now q x)
-  unfolding win
-  won w x S C N queue e at room q several = and_then Next (And w (Reigns e q)) (in_next_epoch x) _ (where_fits Next which.Epoch (suc (epoch_of x.readings)) (λ n. Ok (change (Epoch n) x)) (omega arith) (λ fits. done (refl, fits)))
-      (λ y k. subst (λ (z : Course). Surely (And w (Reigns e q)) (reign me now q z)) (sym k.0) (reigned w x S C N queue e at q several k.1))
-    where
-      Next : Course → Type 0
-      Next y = (y ≡ change (Epoch (suc (epoch_of x.readings))) x) × (suc (epoch_of x.readings) ≤ 2 ^ 62)
+      ))
 
   pub below_more : (a : List Bool) (f : ℕ) → ((m : ℕ) → has a m ≡ true → m < n) → f < n → (m : ℕ) → has (with_rank a f) m ≡ true → m < n
   below_more a f below lt m h = elim (has_with_is a f m h) [ inl e ↦ (omega arith) | inr o ↦ below m o ]
@@ -185,13 +170,9 @@ module _ (ms : Monitors) (several : 1 < ms.count) (c : ℕ) (i : ℕ) (lt : ltb 
   -- one more defers to it
   pub acked : (w : Readings) (s : State) (e : ℕ) (a : List Bool) → IsCandidate c e a w s → ((m : ℕ) → has a m ≡ true → m < n) → (f : ℕ) → f < n → (f ≡ i → ⊥)
       → Surely (And w (λ y. IsCandidate c e (with_rank a f) y.readings y.state ⊎ ((is_majority n (with_rank a f) ≡ true) × Reigns e (with_rank a f) y))) (react me sh now w s (input.Deliver (letter n f e body.Ack)))
-  unfolding hear_ack
   acked w s e a P below f few ne =
-      heard ms several c i lt sh now (And w Either) w s f e body.Ack (ap (λ p. same_phase p phase.Booting) P.phase) (known f ne)
-      (by_test (not (votes s.phase) || is_even e || ltb e (epoch_of w)) (never closed) (λ _.
-      by_test (ltb (epoch_of w) e) (never (le-ltb (epoch_of w) e (let q = P.epoch in omega arith))) (λ _.
-      by_test s.elector.candidate (λ _.
-      by_test (is_whole me (with_rank s.elector.acked f) && is_allowed me i) (λ t.
+      so (ack_row me sh now w s e ne (voting s.phase P.phase) P.odd P.epoch P.candidate)
+      (by_test (is_whole me (with_rank s.elector.acked f) && is_allowed me i) (λ t.
       weaken (And w (Reigns e (with_rank s.elector.acked f))) (And w Either) (win me now (with_rank s.elector.acked f) y0)
       (λ y k. (k.0, inr (subst (λ (b : List Bool). (is_majority n (with_rank b f) ≡ true) × Reigns e (with_rank b f) y) P.acked (major t, k.1))))
       (won w y0 (record { tells = refl; fits = tt; short = tt; unmarked = close.unmarked }) P.close P.numbers (ap (λ z. z.queue) P.clients) e P.epoch P.room (with_rank s.elector.acked f) (others me (with_rank s.elector.acked f) several (major t) below_all)))
@@ -213,7 +194,6 @@ module _ (ms : Monitors) (several : 1 < ms.count) (c : ℕ) (i : ℕ) (lt : ltb 
           scores = P.scores;
         }),
       )))
-      (λ t. never t P.candidate))))
     where
       close : Close c w
       close = P.close
@@ -224,12 +204,6 @@ module _ (ms : Monitors) (several : 1 < ms.count) (c : ℕ) (i : ℕ) (lt : ltb 
       y0 : Course
       y0 = elector_is (record s.elector { acked = with_rank s.elector.acked f }) (at_rest w s)
 
-      known : (f : ℕ) → (f ≡ i → ⊥) → is_heard me (letter n f e body.Ack) ≡ true
-      known f ne = λ j. not (ne_eqb f i ne j) && eq-eqb n n refl j && true
-
-      closed : (not (votes s.phase) || is_even e || ltb e (epoch_of w)) ≡ false
-      closed = λ j. not (votes (P.phase j)) || P.odd j || le-ltb e (epoch_of w) (let q = P.epoch in omega arith) j
-
       below_all : (m : ℕ) → has (with_rank s.elector.acked f) m ≡ true → m < n
       below_all m h = below_more a f below few m (subst (λ (b : List Bool). has (with_rank b f) m ≡ true) P.acked h)
 
@@ -239,42 +213,16 @@ module _ (ms : Monitors) (several : 1 < ms.count) (c : ℕ) (i : ℕ) (lt : ltb 
   -- its time is over, and a majority deferred to it
   pub ends : (w : Readings) (s : State) (e : ℕ) (a : List Bool) → IsCandidate c e a w s → is_allowed me i ≡ true → ((m : ℕ) → has a m ≡ true → m < n) → is_majority n a ≡ true
       → Surely (And w (Reigns e a)) (react me sh now w s (input.Timer timer.Election))
-  unfolding react election_ends
   ends w s e a P may_lead below major =
-      by_test (same_phase s.phase phase.Booting) (never (ap (λ p. same_phase p phase.Booting) P.phase)) (λ _.
-      by_test (is_armed timer.Election s.timers) (λ _.
-      by_test (not (same_phase s.phase phase.Electing)) (never (ap (λ p. not (same_phase p phase.Electing)) P.phase)) (λ _.
-      by_test (s.elector.candidate && is_allowed me i && is_majority n s.elector.acked) (λ _.
+      so (election_ends_row me sh now w s P.phase P.armed (λ j. P.candidate j && may_lead j && (ap (is_majority n) P.acked ∙ major) j)) (
       weaken (And w (Reigns e s.elector.acked)) (And w (Reigns e a)) (win me now s.elector.acked (disarm timer.Election (at_rest w s))) (λ y k. (k.0, subst (λ (b : List Bool). Reigns e b y) P.acked k.1))
       (won w (disarm timer.Election (at_rest w s)) (record { tells = refl; fits = tt; short = tt; unmarked = (let C = P.close in C.unmarked) }) P.close P.numbers (ap (λ z. z.queue) P.clients) e P.epoch P.room s.elector.acked
       (others me s.elector.acked several (ap (is_majority n) P.acked ∙ major) (λ m h. below m (subst (λ (b : List Bool). has b m ≡ true) P.acked h)))))
-      (λ t. never t (λ j. P.candidate j && may_lead j && (ap (is_majority n) P.acked ∙ major) j))))
-      (λ t. never t P.armed))
 
   -- ---- followers
 
   pub follows : (w : Readings) (s : State) (e : ℕ) → IsVoter c e w s → is_even e ≡ false → suc e ≤ 2 ^ 62 → (r : ℕ) (q : List Bool) → (r ≡ i → ⊥) → has q i ≡ true → has q r ≡ true → is_majority n q ≡ true
       → Surely (And w (λ y. IsPeon c (suc e) r q y.readings y.state)) (react me sh now w s (input.Deliver (letter n r (suc e) (body.Victory q))))
-  unfolding hear_victory
   follows w s e P odd short r q ne mine its major =
-      heard ms several c i lt sh now (And w Now) w s r (suc e) (body.Victory q) (ap (λ p. same_phase p phase.Booting) P.phase) (known r ne)
-      (by_test (not (votes s.phase) || not (is_even (suc e)) || leb (suc e) (epoch_of w)) (never closed) (λ _.
-      by_test (not (eqb (suc e) (suc (epoch_of w)))) (never (ap not (eq-eqb (suc e) (suc (epoch_of w)) (ap suc (sym P.epoch))))) (λ _.
-      by_test (has q i && has q r && is_majority n q) (λ _. done (record { tells = refl; fits = (short, tt); short = (tt, tt); unmarked = (let C = P.close in C.unmarked) }, record { close = P.close; numbers = P.numbers; epoch = refl; phase = refl; leader = refl; quorum = refl }))
-      (λ t. never t (λ j. mine j && its j && major j)))))
-    where
-      Now : Course → Type 0
-      Now y = IsPeon c (suc e) r q y.readings y.state
-
-      known : (f : ℕ) → (f ≡ i → ⊥) → is_heard me (letter n f (suc e) (body.Victory q)) ≡ true
-      known f ne = λ j. not (ne_eqb f i ne j) && eq-eqb n n refl j && true
-
-      late : leb (suc e) (epoch_of w) ≡ false
-      late = by (leb (suc e) (epoch_of w)) refl
-        where
-          by : (b : Bool) → leb (suc e) (epoch_of w) ≡ b → b ≡ false
-          by true t = let z = leb-true (suc e) (epoch_of w) t in let p = P.epoch in absurd (omega arith)
-          by false t = refl
-
-      closed : (not (votes s.phase) || not (is_even (suc e)) || leb (suc e) (epoch_of w)) ≡ false
-      closed = λ j. not (votes (P.phase j)) || not (even_of_odd e odd j) || late j
+      so (victory_row me sh now w s (suc e) q ne (voting s.phase P.phase) (even_of_odd e odd) (ap suc (sym P.epoch)) (λ j. mine j && its j && major j))
+      (done (record { tells = refl; fits = (short, tt); short = (tt, tt); unmarked = (let C = P.close in C.unmarked) }, record { close = P.close; numbers = P.numbers; epoch = refl; phase = refl; leader = refl; quorum = refl }))

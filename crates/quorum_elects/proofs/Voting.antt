@@ -9,6 +9,7 @@ use Rattle.mon_wire.specs.declared.kind.Kind.TheVariants as kind
 use Rattle.mon_wire.specs.declared.phase.Phase.TheVariants as phase
 use Rattle.mon_wire.specs.declared.phase.Timer.TheVariants as timer
 use Rattle.quorum_elects.proofs.Can.{New, Onward, Sane, Scope, new_stays}
+use Rattle.quorum_elects.proofs.InTurn.{InTurn, Peon, Turned, at_first, covers_one, covers_with, each_in_turn, not_peon, peon_or_not}
 use Rattle.quorum_elects.proofs.Majorities.{Candidacy, Majority, epoch_at, scope}
 use Rattle.quorum_elects.proofs.Moving.{Did}
 use Rattle.quorum_elects.proofs.Planning.{Plays, does_weaker, passes, step}
@@ -104,13 +105,15 @@ module _ (G : Majority) (K : Candidacy G) where
   votes_stay : (w v : World) (f : ℕ) → On w v → (v.state f ≡ w.state f) × (v.store f ≡ w.store f) → Votes f w → Votes f v
   votes_stay w v f o same k = (is_stays (IsVoter c E) w v f same k.0, new_stays Us o k.1)
 
-  -- those below k voted for r, and the others are candidates
-  pub record Voted (k : ℕ) (w : World) : Type 0 where
+  -- it stands in its epoch, and sent the others its PROPOSE
+  pub record Candidate (w : World) : Type 0 where
     pub room : Room w
     pub leads : Leads (only r) w
     pub calls : Calls r E w
-    pub done : (f : ℕ) → f < k → has q f ≡ true → (f ≡ r → ⊥) → Votes f w
-    pub left : (f : ℕ) → k ≤ f → has q f ≡ true → (f ≡ r → ⊥) → Stands f w
+
+  -- those below k voted for r, and the others are candidates
+  abbrev pub Voted : ℕ → World → Type 0
+  Voted = InTurn (Peon q r) Candidate Votes Stands
 
   -- one that has the greatest epoch
   abbrev topmost : World → ℕ
@@ -140,13 +143,11 @@ module _ (G : Majority) (K : Candidacy G) where
           omega (arith, is_top)
 
       at_once : odd_from (e0 r) ≡ E → Voted 0 w
-      at_once e = let z = all r mine in record {
+      at_once e = let z = all r mine in at_first (Peon q r) Candidate Votes Stands w (record {
         room = P.room;
         leads = subst (λ (x : ℕ). Is (IsCandidate c x (only r)) w r) e z.0;
         calls = subst (λ (x : ℕ). Calls r x w) e z.1;
-        done = λ f low h ne. absurd (omega arith);
-        left = λ f high h ne. all f h;
-      }
+      }) (λ f peon. all f peon.0)
 
       goes : odd_from (e0 r) < E → Plays Us (electing.calls n q r ∷ []) 1 (Voted 0) w
       goes less =
@@ -166,13 +167,11 @@ module _ (G : Majority) (K : Candidacy G) where
           (calls ms several c r (lt_of r mine) (shared_entries (w.store r)) (G.clock.event w) (readings_at w r) Z.state (odd_from (e0 r)) (only r) Z.holds (topmost w) E (M.below (topmost w) there) (λ e. other (sym e)) (K.before (topmost w) there (λ e. other (sym e))) A.table A.fits A.full (subst (λ (x : ℕ). is_even x ≡ false) top (odd_from_is (e0 (topmost w)))) room less)))
         where
           after : (v : World) → On w v → Did Us (Elects ms several c r (lt_of r mine) (shared_entries (w.store r)) (G.clock.event w) E) w r v → Voted 0 v
-          after v o D = let R = D.did in record {
+          after v o D = let R = D.did in at_first (Peon q r) Candidate Votes Stands v (record {
             room = o.sane P.room;
             leads = is_now Us (IsCandidate c E (only r)) w v r D.y D.moved R.stands;
             calls = record { table = R.table; fits = R.fits; full = R.full; sent_to = λ g lt ne. D.moved.says g (letter n r E (body.Propose R.table)) (R.says g lt ne) };
-            done = λ f low h ne. absurd (omega arith);
-            left = λ f high h ne. probing.stands_stay G w v f o (D.moved.others f ne) (all f h);
-          }
+          }) (λ f peon. probing.stands_stay G w v f o (D.moved.others f peon.1) (all f peon.0))
 
       by : (odd_from (e0 r) < E) ⊎ (E ≤ odd_from (e0 r)) → Plays Us (electing.calls n q r ∷ []) 1 (Voted 0) w
       by (inl less) = goes less
@@ -182,44 +181,32 @@ module _ (G : Majority) (K : Candidacy G) where
           (otherwise _ _ (ltb (electing.epoch_at w r) (electing.epoch_at w (topmost w))) (le-ltb (electing.epoch_at w r) (electing.epoch_at w (topmost w)) (let a = epoch_is r mine in let b = epoch_is (topmost w) there in omega (arith, top))))
           (at_once (omega arith))
 
-  pub vote_one : (k : ℕ) (w : World) → k < n → Voted k w → Plays Us (electing.votes q r k ∷ []) 1 (Voted (suc k)) w
-  vote_one k w lt V = by (in_or_out (has q k)) (same_or_not k r)
+  vote_one : (k : ℕ) (w : World) → k < n → Peon q r k → Candidate w → Stands k w → Plays Us (electing.votes q r k ∷ []) 1 (Turned (Peon q r) Candidate Votes Stands k w) w
+  vote_one k w lt peon V z =
+      let Z : Is (IsCandidate c (odd_from (e0 k)) (only k)) w k = z.0 in
+      let L : Leads (only r) w = V.leads in
+      let H = L.holds in
+      let A : Calls r E w = V.calls in
+      let there : has q k ≡ true = peon.0 in
+      let mine_not : r ≡ k → ⊥ = (λ e. peon.1 (sym e)) in
+      step Us (electing.votes q r k) (Hears k r kind.Propose ∷ []) (chosen _ _ (electing.is_other q r k) (other_is q r k there peon.1))
+      (does_weaker Us (omega arith) after
+      (deliver Us w V.room k (lt_of k there) there (Defers ms several c k (lt_of k there) (shared_entries (w.store k)) (G.clock.event w) r E) (letter n r E (body.Propose A.table)) (A.sent_to k lt peon.1) Z.state Z.up
+      (defers ms several c k (lt_of k there) (shared_entries (w.store k)) (G.clock.event w) (readings_at w k) Z.state (odd_from (e0 k)) (only k) Z.holds r E (M.below r mine) mine_not (K.before k there peon.1) A.table A.fits A.full H.odd (let x = H.room in omega arith) (K.greatest k lt there))))
     where
-      skip : electing.is_other q r k ≡ false → ((f : ℕ) → f ≡ k → has q f ≡ true → (f ≡ r → ⊥) → ⊥) → Plays Us (electing.votes q r k ∷ []) 1 (Voted (suc k)) w
-      skip not_asked none = passes Us (electing.votes q r k) (otherwise _ _ (electing.is_other q r k) not_asked) (record {
-        room = V.room;
-        leads = V.leads;
-        calls = V.calls;
-        done = λ f low h ne. elim (up_to f k low) [ inl e ↦ absurd (none f e h ne) | inr less ↦ V.done f less h ne ];
-        left = λ f high h ne. V.left f (omega arith) h ne;
-      })
-
-      after : (there : has q k ≡ true) → (k ≡ r → ⊥) → (v : World) → On w v → Did Us (Defers ms several c k (lt_of k there) (shared_entries (w.store k)) (G.clock.event w) r E) w k v → Voted (suc k) v
-      after there other v o D = record {
-        room = o.sane V.room;
-        leads = is_stays (IsCandidate c E (only r)) w v r (D.moved.others r (λ e. other (sym e))) V.leads;
-        calls = probing.calls_stay G r E w v o V.calls;
-        done = λ f low h ne. elim (up_to f k low) [
-          | inl e ↦ subst (λ (x : ℕ). Votes x v) (sym e) (let R = D.did in (is_now Us (IsVoter c E) w v k D.y D.moved R.stands, D.moved.says r (letter n k E body.Ack) R.says))
-          | inr less ↦ votes_stay w v f o (D.moved.others f (λ e. omega arith)) (V.done f less h ne)
-        ];
-        left = λ f high h ne. probing.stands_stay G w v f o (D.moved.others f (λ e. omega arith)) (V.left f (omega arith) h ne);
+      after : (v : World) → On w v → Did Us (Defers ms several c k (lt_of k peon.0) (shared_entries (w.store k)) (G.clock.event w) r E) w k v → Turned (Peon q r) Candidate Votes Stands k w v
+      after v o D = record {
+        keeps = record {
+          room = o.sane V.room;
+          leads = is_stays (IsCandidate c E (only r)) w v r (D.moved.others r (λ e. peon.1 (sym e))) V.leads;
+          calls = probing.calls_stay G r E w v o V.calls;
+        };
+        done = (let R = D.did in (is_now Us (IsVoter c E) w v k D.y D.moved R.stands, D.moved.says r (letter n k E body.Ack) R.says));
+        others = λ f ne a. (votes_stay w v f o (D.moved.others f ne), probing.stands_stay G w v f o (D.moved.others f ne));
       }
 
-      by : (has q k ≡ true) ⊎ (has q k ≡ false) → (k ≡ r) ⊎ (k ≡ r → ⊥) → Plays Us (electing.votes q r k ∷ []) 1 (Voted (suc k)) w
-      by (inr out) z = skip (outside_is q r k out) (λ f e h ne. false≢true (sym out ∙ subst (λ (x : ℕ). has q x ≡ true) e h))
-      by (inl there) (inl same) = skip (itself_is q r k same) (λ f e h ne. ne (e ∙ same))
-      by (inl there) (inr other) =
-          let z = V.left k (omega arith) there other in
-          let Z : Is (IsCandidate c (odd_from (e0 k)) (only k)) w k = z.0 in
-          let L : Leads (only r) w = V.leads in
-          let H = L.holds in
-          let A : Calls r E w = V.calls in
-          let mine_not : r ≡ k → ⊥ = (λ e. other (sym e)) in
-          step Us (electing.votes q r k) (Hears k r kind.Propose ∷ []) (chosen _ _ (electing.is_other q r k) (other_is q r k there other))
-          (does_weaker Us (omega arith) (after there other)
-          (deliver Us w V.room k (lt_of k there) there (Defers ms several c k (lt_of k there) (shared_entries (w.store k)) (G.clock.event w) r E) (letter n r E (body.Propose A.table)) (A.sent_to k lt other) Z.state Z.up
-          (defers ms several c k (lt_of k there) (shared_entries (w.store k)) (G.clock.event w) (readings_at w k) Z.state (odd_from (e0 k)) (only k) Z.holds r E (M.below r mine) mine_not (K.before k there other) A.table A.fits A.full H.odd (let x = H.room in omega arith) (K.greatest k lt there))))
+  pub vote_all : (w : World) → Voted 0 w → Plays Us (electing.each n (electing.votes q r)) (1 * n) (Voted n) w
+  vote_all w V = each_in_turn (Peon q r) Candidate Votes Stands Us n 1 (electing.votes q r) (peon_or_not q r) (λ k w none V. otherwise _ _ (electing.is_other q r k) (not_peon q r k none)) vote_one w V
 
   -- ---- it counts the votes
 
@@ -253,15 +240,15 @@ module _ (G : Majority) (K : Candidacy G) where
 
   pub voted_counting : (w : World) → Voted n w → Counting 0 w
   voted_counting w V = record {
-    room = V.room;
-    votes = λ f h ne. V.done f (M.below f h) h ne;
+    room = (let Z = V.keeps in Z.room);
+    votes = λ f h ne. V.done f (M.below f h) (h, ne);
     hub = inr (record {
       acked_by = only r;
       long = length-set no_ranks r true;
       self = has_only r (let l = M.below r mine in let m = ms.most in omega arith);
       within = λ f h. subst (λ (x : ℕ). has q x ≡ true) (sym (has_only_is r f h)) mine;
       counted = λ f low h. absurd (omega arith);
-      leads = V.leads;
+      leads = (let Z = V.keeps in Z.leads);
     });
   }
 
@@ -287,7 +274,7 @@ module _ (G : Majority) (K : Candidacy G) where
         long = C.long;
         self = C.self;
         within = C.within;
-        counted = λ f low h. elim (up_to f k low) [ inl e ↦ subst (λ (x : ℕ). has C.acked_by x ≡ true) (sym e) (in_it (subst (λ (x : ℕ). has q x ≡ true) e h)) | inr less ↦ C.counted f less h ];
+        counted = covers_one q C.acked_by k in_it C.counted;
         leads = C.leads;
       }))
 
@@ -314,10 +301,7 @@ module _ (G : Majority) (K : Candidacy G) where
                 long = length-set C.acked_by k true ∙ C.long;
                 self = has_with C.acked_by k r C.self;
                 within = in_q;
-                counted = λ f low h. elim (up_to f k low) [
-                  | inl e ↦ subst (λ (x : ℕ). has (with_rank C.acked_by k) x ≡ true) (sym e) (has_self C.acked_by k (let z = C.long in omega arith))
-                  | inr less ↦ has_with C.acked_by k f (C.counted f less h)
-                ];
+                counted = covers_with q C.acked_by k (let z = C.long in let m = lt in let s = ms.most in omega arith) C.counted;
                 leads = is_now Us (IsCandidate c E (with_rank C.acked_by k)) w v r D.y D.moved S;
               })
               hub (inr S) = inl (let R = S.1 in let L : Leads C.acked_by w = C.leads in let H = L.holds in record {
@@ -391,7 +375,7 @@ module _ (G : Majority) (K : Candidacy G) where
 
   -- ---- the others follow
 
-  pub record Following (a : List Bool) (k : ℕ) (w : World) : Type 0 where
+  pub record Reigning (a : List Bool) (w : World) : Type 0 where
     pub room : Room w
     pub self : has a r ≡ true
     pub within : (f : ℕ) → has a f ≡ true → has q f ≡ true
@@ -404,11 +388,19 @@ module _ (G : Majority) (K : Candidacy G) where
     pub odd : is_even E ≡ false
     pub short : suc E ≤ 2 ^ 62
     pub told : Victories a w
-    pub done : (f : ℕ) → f < k → has a f ≡ true → (f ≡ r → ⊥) → Is (IsPeon c (suc E) r a) w f
-    pub left : (f : ℕ) → k ≤ f → has a f ≡ true → (f ≡ r → ⊥) → Is (IsVoter c E) w f
+
+  abbrev Follows : List Bool → ℕ → World → Type 0
+  Follows a f w = Is (IsPeon c (suc E) r a) w f
+
+  abbrev Voter : ℕ → World → Type 0
+  Voter f w = Is (IsVoter c E) w f
+
+  -- those below k follow it, and the others are still in the election
+  abbrev pub Following : List Bool → ℕ → World → Type 0
+  Following a = InTurn (Peon a r) (Reigning a) (Follows a) Voter
 
   pub won_following : (w : World) (L : Elected w) → (let W = L.won in Following W.quorum 0 w)
-  won_following w L = let W = L.won in record {
+  won_following w L = let W = L.won in at_first (Peon W.quorum r) (Reigning W.quorum) (Follows W.quorum) Voter w (record {
     room = L.room;
     self = W.self;
     within = W.within;
@@ -421,64 +413,41 @@ module _ (G : Majority) (K : Candidacy G) where
     odd = W.odd;
     short = W.short;
     told = W.told;
-    done = λ f low h ne. absurd (omega arith);
-    left = λ f high h ne. (L.votes f (W.within f h) ne).0;
-  }
+  }) (λ f peon. (L.votes f (W.within f peon.0) peon.1).0)
 
   abbrev is_member : ℕ → World → Bool
   is_member k w = electing.is_other (electing.quorum_at w r) r k
 
-  pub follow_one : (a : List Bool) (k : ℕ) (w : World) → k < n → Following a k w → Plays Us (electing.follows r k ∷ []) 1 (Following a (suc k)) w
-  follow_one a k w lt V = by (in_or_out (has a k)) (same_or_not k r)
-    where
-      members : {b : Bool} → electing.is_other a r k ≡ b → (is_member k w) ≡ b
-      members e = ap (λ (x : List Bool). electing.is_other x r k) (let Z = V.stands in let H = Z.holds in quorum_is w r Z.state a Z.up H.quorum) ∙ e
+  module _ (a : List Bool) where
+    members : (w : World) (V : Reigning a w) (k : ℕ) {b : Bool} → electing.is_other a r k ≡ b → is_member k w ≡ b
+    members w V k e = ap (λ (x : List Bool). electing.is_other x r k) (let Z = V.stands in let H = Z.holds in quorum_is w r Z.state a Z.up H.quorum) ∙ e
 
-      skip : electing.is_other a r k ≡ false → ((f : ℕ) → f ≡ k → has a f ≡ true → (f ≡ r → ⊥) → ⊥) → Plays Us (electing.follows r k ∷ []) 1 (Following a (suc k)) w
-      skip out none = passes Us (electing.follows r k) (otherwise _ _ (is_member k w) (members out)) (record {
-        room = V.room;
-        self = V.self;
-        within = V.within;
-        major = V.major;
-        pn = V.pn;
-        first = V.first;
-        last = V.last;
-        stands = V.stands;
-        asks = V.asks;
-        odd = V.odd;
-        short = V.short;
-        told = V.told;
-        done = λ f low h ne. elim (up_to f k low) [ inl e ↦ absurd (none f e h ne) | inr less ↦ V.done f less h ne ];
-        left = λ f high h ne. V.left f (omega arith) h ne;
-      })
+    follow_one : (k : ℕ) (w : World) → k < n → Peon a r k → Reigning a w → Voter k w → Plays Us (electing.follows r k ∷ []) 1 (Turned (Peon a r) (Reigning a) (Follows a) Voter k w) w
+    follow_one k w lt peon V Z =
+        step Us (electing.follows r k) (Hears k r kind.Victory ∷ []) (chosen _ _ (is_member k w) (members w V k (other_is a r k peon.0 peon.1)))
+        (does_weaker Us (omega arith) after
+        (deliver Us w V.room k (lt_of k (V.within k peon.0)) (V.within k peon.0) (λ y. IsPeon c (suc E) r a y.readings y.state) (letter n r (suc E) (body.Victory a)) (V.told k lt peon.0 peon.1) Z.state Z.up
+        (follows ms several c k (lt_of k (V.within k peon.0)) (shared_entries (w.store k)) (G.clock.event w) (readings_at w k) Z.state E Z.holds V.odd V.short r a (λ e. peon.1 (sym e)) peon.0 V.self V.major)))
+      where
+        after : (v : World) → On w v → Did Us (λ y. IsPeon c (suc E) r a y.readings y.state) w k v → Turned (Peon a r) (Reigning a) (Follows a) Voter k w v
+        after v o D = record {
+          keeps = record {
+            room = o.sane V.room;
+            self = V.self;
+            within = V.within;
+            major = V.major;
+            pn = V.pn;
+            first = V.first;
+            last = V.last;
+            stands = is_stays (IsCollector c r (suc E) a V.pn V.first V.last) w v r (D.moved.others r (λ e. peon.1 (sym e))) V.stands;
+            asks = λ g low h ne. new_stays Us o (V.asks g low h ne);
+            odd = V.odd;
+            short = V.short;
+            told = λ g low h ne. new_stays Us o (V.told g low h ne);
+          };
+          done = is_now Us (IsPeon c (suc E) r a) w v k D.y D.moved D.did;
+          others = λ f ne b. (is_stays (IsPeon c (suc E) r a) w v f (D.moved.others f ne), is_stays (IsVoter c E) w v f (D.moved.others f ne));
+        }
 
-      after : (k ≡ r → ⊥) → (v : World) → On w v → Did Us (λ y. IsPeon c (suc E) r a y.readings y.state) w k v → Following a (suc k) v
-      after other v o D = record {
-        room = o.sane V.room;
-        self = V.self;
-        within = V.within;
-        major = V.major;
-        pn = V.pn;
-        first = V.first;
-        last = V.last;
-        stands = is_stays (IsCollector c r (suc E) a V.pn V.first V.last) w v r (D.moved.others r (λ e. other (sym e))) V.stands;
-        asks = λ g low h ne. new_stays Us o (V.asks g low h ne);
-        odd = V.odd;
-        short = V.short;
-        told = λ g low h ne. new_stays Us o (V.told g low h ne);
-        done = λ f low h ne. elim (up_to f k low) [
-          | inl e ↦ subst (λ (x : ℕ). Is (IsPeon c (suc E) r a) v x) (sym e) (is_now Us (IsPeon c (suc E) r a) w v k D.y D.moved D.did)
-          | inr less ↦ is_stays (IsPeon c (suc E) r a) w v f (D.moved.others f (λ e. omega arith)) (V.done f less h ne)
-        ];
-        left = λ f high h ne. is_stays (IsVoter c E) w v f (D.moved.others f (λ e. omega arith)) (V.left f (omega arith) h ne);
-      }
-
-      by : (has a k ≡ true) ⊎ (has a k ≡ false) → (k ≡ r) ⊎ (k ≡ r → ⊥) → Plays Us (electing.follows r k ∷ []) 1 (Following a (suc k)) w
-      by (inr out) z = skip (outside_is a r k out) (λ f e h ne. false≢true (sym out ∙ subst (λ (x : ℕ). has a x ≡ true) e h))
-      by (inl there) (inl same) = skip (itself_is a r k same) (λ f e h ne. ne (e ∙ same))
-      by (inl there) (inr other) =
-          let Z : Is (IsVoter c E) w k = V.left k (omega arith) there other in
-          step Us (electing.follows r k) (Hears k r kind.Victory ∷ []) (chosen _ _ (is_member k w) (members (other_is a r k there other)))
-          (does_weaker Us (omega arith) (after other)
-          (deliver Us w V.room k (lt_of k (V.within k there)) (V.within k there) (λ y. IsPeon c (suc E) r a y.readings y.state) (letter n r (suc E) (body.Victory a)) (V.told k lt there other) Z.state Z.up
-          (follows ms several c k (lt_of k (V.within k there)) (shared_entries (w.store k)) (G.clock.event w) (readings_at w k) Z.state E Z.holds V.odd V.short r a (λ e. other (sym e)) there V.self V.major)))
+    pub follow_all : (w : World) → Following a 0 w → Plays Us (electing.each n (electing.follows r)) (1 * n) (Following a n) w
+    follow_all w F = each_in_turn (Peon a r) (Reigning a) (Follows a) Voter Us n 1 (electing.follows r) (peon_or_not a r) (λ k w none V. otherwise _ _ (is_member k w) (members w V k (not_peon a r k none))) follow_one w F

@@ -1,7 +1,7 @@
 -- How a row is walked if no number runs out: by its tests, its checked numbers and its steps.
 use Rattle.mon_msg.specs.Protocol.Course.{checked, ◌>>=◌}
 use Rattle.mon_types.specs.declared.names.Which.{Which}
-use Rattle.std.proofs.Common.{Bool, Err, Ok, Result, false, leb, sym, true, ℕ, ◌^◌, ◌∙◌, ◌≡◌, ◌≤◌}
+use Rattle.std.proofs.Common.{Bool, Err, Ok, Result, false, leb, subst, sym, true, ℕ, ◌^◌, ◌∙◌, ◌≡◌, ◌≤◌}
 use Rattle.std.proofs.lemmas.Bool.{cond_both, false≢true, le-leb}
 use Rattle.std.specs.Prelude.{if◌then◌else◌}
 
@@ -28,6 +28,10 @@ both P Q (Err e) p q = absurd p.holds
 pub weaken : {A : Type 0} (P Q : A → Type 0) (r : Result A Which) → ((x : A) → P x → Q x) → Surely P r → Surely Q r
 weaken P Q (Ok x) f p = record { holds = f x p.holds }
 weaken P Q (Err e) f p = absurd p.holds
+
+-- what a row does, by an equation
+pub so : {A : Type 0} {P : A → Type 0} {r q : Result A Which} → r ≡ q → Surely P q → Surely P r
+so {P = P} e p = subst (Surely P) (sym e) p
 
 -- a number that is checked, and fits
 pub where_fits : {B : Type 0} (Q : B → Type 0) (w : Which) (n : ℕ) (f : ℕ → Result B Which) → n ≤ 2 ^ 62 → (n ≤ 2 ^ 62 → Surely Q (f n)) → Surely Q (checked w n >>= f)

@@ -21,6 +21,7 @@ use Rattle.mon_msg.specs.Protocol.State.{State}
 use Rattle.mon_msg.specs.Protocol.Table.{at_rest, react}
 use Rattle.mon_msg.specs.declared.input.Input.TheVariants as input
 use Rattle.mon_msg.specs.declared.paxos.Found.{Found}
+use Rattle.mon_msg.specs.declared.paxos.LeaderStage.TheVariants as stage
 use Rattle.mon_msg.specs.declared.plan.Sent.{Sent}
 use Rattle.mon_msg.specs.declared.plan.Sent.TheVariants as send
 use Rattle.mon_msg.specs.declared.view.Me.{Me}
@@ -29,25 +30,31 @@ use Rattle.mon_tx.specs.declared.op.Op.{Op}
 use Rattle.mon_types.specs.Proposal.{next_number}
 use Rattle.mon_types.specs.Ranks.{has, with_rank}
 use Rattle.mon_types.specs.declared.names.Which.TheVariants as which
+use Rattle.mon_types.specs.declared.names.Which.{Which}
 use Rattle.mon_wire.specs.declared.body.Body.{Body}
 use Rattle.mon_wire.specs.declared.body.Body.TheVariants as body
 use Rattle.mon_wire.specs.declared.parts.Told.{Told}
 use Rattle.mon_wire.specs.declared.phase.Phase.TheVariants as phase
 use Rattle.quorum_elects.proofs.Moving.{Sound}
 use Rattle.quorum_elects.proofs.Ranks.{same_or_not}
-use Rattle.quorum_elects.proofs.Rows.{heard, sound_more}
+use Rattle.quorum_elects.proofs.Rows.{sound_more}
 use Rattle.quorum_elects.proofs.Standing.{SaysTo, among_map, among_members, letter}
+use Rattle.quorum_elects.proofs.Tests.{and_false}
 use Rattle.quorum_elects.proofs.Values.{FoundShort, pending_short}
-use Rattle.quorum_elects.proofs.Walking.{Surely, and_then, both, by_test, done, never, weaken, where_fits}
+use Rattle.quorum_elects.proofs.Walking.{Surely, and_then, both, by_test, done, so, weaken, where_fits}
 use Rattle.quorum_model.proofs.Members.{member_of}
 use Rattle.quorum_model.specs.Monitors.{Monitors}
 use Rattle.quorum_recovers.proofs.LastAnswers.{IsAnswer, ToldShort, answer_is, better_short, counts_short}
-use Rattle.quorum_recovers.proofs.States.{IsActive, IsAsking, IsHearing, IsProposing, among_flat, get_other, get_set, lease_given, missed_one}
+use Rattle.quorum_recovers.proofs.States.{IsActive, IsAsking, IsHearing, IsProposing, among_flat, asks_of, follows, get_other, get_set, lease_given, missed_one}
 use Rattle.quorum_walk.proofs.FineCourses.{Val}
 use Rattle.quorum_walk.proofs.Lists.{Among, among_left, among_right}
 use Rattle.quorum_walk.proofs.Ranks.{has_only_is, has_with_is, within_at}
 use Rattle.quorum_walk.proofs.Sparing.{Own, Spares, learned_own, own_of}
-use Rattle.std.proofs.Common.{Bool, List, None, Ok, Option, Some, [], ap, arith, cond, eqb, false, inl, inr, length, ltb, map, max, not, refl, subst, suc, sym, true, zero, ℕ, ◌&&◌, ◌+◌, ◌-◌, ◌<◌, ◌^◌, ◌||◌, ◌∙◌, ◌∷◌, ◌≡◌, ◌≤◌, ◌⊎◌}
+use Rattle.table_rows.proofs.Collecting.{collect_row, greater_last_row, last_row, promised}
+use Rattle.table_rows.proofs.Electing as electing
+use Rattle.table_rows.proofs.Electing.{number_above}
+use Rattle.table_rows.proofs.Values.{begins, learned, learns_one}
+use Rattle.std.proofs.Common.{Bool, List, None, Ok, Option, Result, Some, [], ap, arith, cond, eqb, false, inl, inr, length, ltb, map, max, not, refl, subst, suc, sym, true, zero, ℕ, ◌&&◌, ◌+◌, ◌-◌, ◌<◌, ◌^◌, ◌||◌, ◌∙◌, ◌∷◌, ◌≡◌, ◌≤◌, ◌⊎◌}
 use Rattle.std.proofs.lemmas.Bool.{and_parts, eq-eqb, le-ltb, lt-ltb, ltb-false, ltb-true, ne_eqb}
 use Rattle.std.proofs.lemmas.List.{length-set}
 use Rattle.std.specs.List.{flat_map}
@@ -74,19 +81,8 @@ module _ (ms : Monitors) (several : 1 < ms.count) (i : ℕ) (lt : ltb i ms.count
   pub asked : (w : Readings) (s : State) (r e : ℕ) (a : List Bool) (l p : ℕ) → IsHearing r e a l p w s → (r ≡ i → ⊥) → (pn first last : ℕ) → pn ≤ 2 ^ 62 → suc last ≤ 2 ^ 62 → ltb (suc w.last) first ≡ false
       → w.last ≤ suc last → (w.last ≡ suc last → w.first ≤ suc last × ((x : List Op) × (record_at w.record_of (suc last) ≡ Some x) × (length (text x) ≤ most_value)))
       → Surely (Does w (Matches r e a l (max p pn) w.first (suc last))) (react me sh now w s (input.Deliver (letter n r e (body.Collect pn first last))))
-  unfolding hear_collect
-  asked w s r e a l p P ne pn first last short room kept high known =
-      heard ms several 0 i lt sh now (Does w (Matches r e a l (max p pn) w.first (suc last))) w s r e (body.Collect pn first last) (ap (λ p. same_phase p phase.Booting) P.phase) (meets r ne)
-      (by_test (not (of_leader r e (at_rest w s))) (never (ap not followed)) (λ _.
-      by_test (ltb (suc w.last) first) (never kept) (λ _.
-      where_fits (Does w (Matches r e a l (max p pn) w.first (suc last))) which.Version (suc last) _ room (λ fits. by (ltb (promise_of w) pn) refl))))
+  asked w s r e a l p P ne pn first last short room kept high known = so (collect_row me sh now (follows P ne) pn first last kept room) (by (ltb (promise_of w) pn) refl)
     where
-      meets : (r : ℕ) → (r ≡ i → ⊥) → is_heard me (letter n r e (body.Collect pn first last)) ≡ true
-      meets r ne = λ j. not (ne_eqb r i ne j) && eq-eqb n n refl j && true
-
-      followed : of_leader r e (at_rest w s) ≡ true
-      followed = λ j. same_phase (P.phase j) phase.Peon && eq-eqb e (epoch_of w) (sym P.epoch) j && eq-eqb r s.peon.leader (sym P.leader) j
-
       by : (b : Bool) → ltb (promise_of w) pn ≡ b
           → Surely (Does w (Matches r e a l (max p pn) w.first (suc last))) (Ok (record (change_if b (Promise pn) (cancel (at_rest w s))) {
             out = message_to me (epoch_of (change_if b (Promise pn) (cancel (at_rest w s))).readings) (last_answer n (change_if b (Promise pn) (cancel (at_rest w s))).readings (suc last)) r ∷ [];
@@ -127,12 +123,12 @@ module _ (ms : Monitors) (several : 1 < ms.count) (i : ℕ) (lt : ltb i ms.count
 
   collects : (w : Readings) (x : Course) → Sound w x → (e : ℕ) (a : List Bool) (l above least top : ℕ) (T : ℕ → ℕ) → least ≤ max (promise_of x.readings) above → next_number (or_zero x.readings.last_pn) (max (promise_of x.readings) above) i ≤ top → top ≤ 2 ^ 62
       → epoch_of x.readings ≡ e → x.readings.last ≡ l → x.state.clients.queue ≡ [] → is_alone me a ≡ false → Surely (Does w (Asks e a l least top T)) (collect me now a above x)
-  unfolding collect collect_with
+  unfolding collect_with
   collects w x S e a l above least top T rises next room at last queue several =
-      let pn = next_number (or_zero x.readings.last_pn) (max (promise_of x.readings) above) i in
-      where_fits (Does w (Asks e a l least top T)) which.Pn pn _ (omega arith) (λ short.
+      let pn = number_above me x.readings above in
+      let short : number_above me x.readings above ≤ 2 ^ 62 = omega arith in
       let Z : Sound w (change (Numbers pn) x) = sound_more w x (Numbers pn) short tt S.unmarked S in
-      by_test (is_alone me a) (never several) (λ _. done (
+      so (electing.collects me now a above x short several) (done (
         record { tells = Z.tells; fits = Z.fits; short = Z.short; unmarked = Z.unmarked },
         record {
           pn = pn;
@@ -144,28 +140,19 @@ module _ (ms : Monitors) (several : 1 < ms.count) (i : ℕ) (lt : ltb i ms.count
               (subst (λ (z : ℕ). Among (send.Message g (letter n i (epoch_of x.readings) (body.Collect pn x.readings.first z))) (map (message_to me (epoch_of x.readings) (body.Collect pn x.readings.first x.readings.last)) (members me a))) last
               (among_map (message_to me (epoch_of x.readings) (body.Collect pn x.readings.first x.readings.last)) g (members me a) (among_members me a g lt h ne))));
         },
-      )))
+      ))
 
   rank_low : i ≤ 14
   rank_low = let z = ltb-true i n lt in let m = ms.most in omega arith
-
-  of_mine : (w : Readings) (s : State) (e : ℕ) (a : List Bool) (l pn : ℕ) (A : List Bool) (T : ℕ → ℕ) → IsAsking i e a l pn A T w s → (f : ℕ) → has a f ≡ true → of_member (phase.Collecting ∷ []) f e (at_rest w s) ≡ true
-  of_mine w s e a l pn A T P f h = λ j. (same_phase (P.phase j) phase.Collecting || false) && eq-eqb e (epoch_of w) (sym P.epoch) j && (ap (λ (b : List Bool). has b f) P.quorum ∙ h) j
 
   -- a member promised more
   pub asks_above : (w : Readings) (s : State) (e : ℕ) (a : List Bool) (l pn : ℕ) (A : List Bool) (T : ℕ → ℕ) → IsAsking i e a l pn A T w s → is_alone me a ≡ false → (f : ℕ) → has a f ≡ true → (f ≡ i → ⊥)
       → (p first last : ℕ) (whole : Bool) (from : ℕ) (values : List (List Op)) (told : Option Told) → pn < p → (top : ℕ) → p + 114 ≤ top → top ≤ 2 ^ 62
       → Surely (Does w (Asks e a l p top T)) (react me sh now w s (input.Deliver (letter n f e (body.Last p first last whole from values told))))
-  unfolding hear_last
   asks_above w s e a l pn A T P others f h ne p first last whole from values told more top high room =
-      heard ms several 0 i lt sh now (Does w (Asks e a l p top T)) w s f e (body.Last p first last whole from values told) (ap (λ p. same_phase p phase.Booting) P.phase) (meets f ne)
-      (by_test (not (of_member (phase.Collecting ∷ []) f e (at_rest w s))) (never (ap not (of_mine w s e a l pn A T P f h))) (λ _.
-      by_test (ltb s.leader.pn p) (λ _. subst (λ (b : List Bool). Surely (Does w (Asks e a l p top T)) (collect me now b p (at_rest w s))) (sym P.quorum)
+      so (greater_last_row me sh now (asks_of P ne h) p first last whole from values told (let z = P.number in omega arith))
+      (subst (λ (b : List Bool). Surely (Does w (Asks e a l p top T)) (collect me now b p (at_rest w s))) (sym P.quorum)
       (collects w (at_rest w s) (record { tells = refl; fits = tt; short = tt; unmarked = P.unmarked }) e a l p p top T (omega arith) (let z = P.own in let y = P.promised in let k = rank_low in omega arith) room P.epoch P.last P.queue others))
-      (λ t. never t (lt-ltb s.leader.pn p (let z = P.number in omega arith)))))
-    where
-      meets : (f : ℕ) → (f ≡ i → ⊥) → is_heard me (letter n f e (body.Last p first last whole from values told)) ≡ true
-      meets f ne = λ j. not (ne_eqb f i ne j) && eq-eqb n n refl j && true
 
   -- ---- all answered
 
@@ -191,7 +178,7 @@ module _ (ms : Monitors) (several : 1 < ms.count) (i : ℕ) (lt : ltb i ms.count
   -- by a leader that has no member left to hear
   finds : (w : Readings) (x : Course) → Sound w x → (e : ℕ) (a : List Bool) (l pn : ℕ) (A : List Bool) (T : ℕ → ℕ) → IsAsking i e a l pn A T x.readings x.state → is_alone me a ≡ false → suc l ≤ 2 ^ 62 → (found : Option Found) → FoundShort found → (v : List Op) → CatchesUp e a l T v x.out
       → Surely (Does w (Settles e a l pn T v)) (begin_found me now found x)
-  unfolding be_active extend begin begin_with
+  unfolding be_active extend begin_with
   finds w x S e a l pn A T P others room None fine v C = done (
     record { tells = S.tells; fits = S.fits; short = S.short; unmarked = S.unmarked },
     record {
@@ -201,19 +188,20 @@ module _ (ms : Monitors) (several : 1 < ms.count) (i : ℕ) (lt : ltb i ms.count
   )
   finds w x S e a l pn A T P others room (Some f) fine v C =
       by_test (eqb f.version (suc x.readings.last))
-      (λ _. where_fits (Does w (Settles e a l pn T v)) which.Version (suc x.readings.last) _ (let z = P.last in omega arith) (λ fits.
+      (λ _.
+      let fits : suc x.readings.last ≤ 2 ^ 62 = (let z = P.last in omega arith) in
       let Z : Sound w (change (Vote (suc x.readings.last) x.state.leader.pn f.value) x) = sound_more w x (Vote (suc x.readings.last) x.state.leader.pn f.value) (fits, (let z = P.number in let s = P.short in omega arith)) (omega arith) S.unmarked S in
-      by_test (is_alone me x.state.leader.quorum) (never (ap (is_alone me) P.quorum ∙ others)) (λ _. done (
+      so (begins me now stage.Previous f.value None x fits (ap (is_alone me) P.quorum ∙ others)) (done (
         record { tells = Z.tells; fits = Z.fits; short = Z.short; unmarked = Z.unmarked },
         record {
           commits = λ g few h ne low. among_left (send.Message g (letter n i e (body.Commit l (v ∷ [])))) x.out _ (C g few h ne low);
           goes = inr (
             f.value,
             record { unmarked = P.unmarked; epoch = P.epoch; last = P.last; promised = P.promised; short = P.short; room = (let z = P.last in omega arith); phase = refl; quorum = P.quorum; number = P.number; accepted = refl; proposes = refl; origin = refl; queue = P.queue },
-            λ g few h ne. among_right (send.Message g (letter n i e (body.Begin pn (suc l) f.value))) x.out _ (begins g few h ne),
+            λ g few h ne. among_right (send.Message g (letter n i e (body.Begin pn (suc l) f.value))) x.out _ (begun g few h ne),
           );
         },
-      ))))
+      )))
       (λ _. done (
         record { tells = S.tells; fits = S.fits; short = S.short; unmarked = S.unmarked },
         record {
@@ -222,8 +210,8 @@ module _ (ms : Monitors) (several : 1 < ms.count) (i : ℕ) (lt : ltb i ms.count
         },
       ))
     where
-      begins : (g : ℕ) → g < n → has a g ≡ true → (g ≡ i → ⊥) → Among (send.Message g (letter n i e (body.Begin pn (suc l) f.value))) (map (message_to me (epoch_of x.readings) (body.Begin x.state.leader.pn (suc x.readings.last) f.value)) (members me x.state.leader.quorum))
-      begins g few h ne =
+      begun : (g : ℕ) → g < n → has a g ≡ true → (g ≡ i → ⊥) → Among (send.Message g (letter n i e (body.Begin pn (suc l) f.value))) (map (message_to me (epoch_of x.readings) (body.Begin x.state.leader.pn (suc x.readings.last) f.value)) (members me x.state.leader.quorum))
+      begun g few h ne =
           subst (λ (b : List Bool). Among (send.Message g (letter n i e (body.Begin pn (suc l) f.value))) (map (message_to me (epoch_of x.readings) (body.Begin x.state.leader.pn (suc x.readings.last) f.value)) (members me b))) (sym P.quorum)
           (subst (λ (z : ℕ). Among (send.Message g (letter n i z (body.Begin pn (suc l) f.value))) (map (message_to me (epoch_of x.readings) (body.Begin x.state.leader.pn (suc x.readings.last) f.value)) (members me a))) P.epoch
           (subst (λ (z : ℕ). Among (send.Message g (letter n i (epoch_of x.readings) (body.Begin z (suc l) f.value))) (map (message_to me (epoch_of x.readings) (body.Begin x.state.leader.pn (suc x.readings.last) f.value)) (members me a))) P.number
@@ -314,39 +302,28 @@ module _ (ms : Monitors) (several : 1 < ms.count) (i : ℕ) (lt : ltb i ms.count
   drop_none zero = refl
   drop_none (suc k) = refl
 
+  near : (w : Readings) (first last : ℕ) → last ≤ w.last → (ltb (suc w.last) first && ltb w.last last) ≡ false
+  near w first last le = and_false (ltb (suc w.last) first) (ltb w.last last) (le-ltb w.last last le)
+
   -- a member that has no further version, and whose answer is whole
   pub hears_same : (w : Readings) (s : State) (e : ℕ) (a : List Bool) (l pn : ℕ) (A : List Bool) (T : ℕ → ℕ) → IsAsking i e a l pn A T w s → is_alone me a ≡ false → (f : ℕ) → f < n → has a f ≡ true → (f ≡ i → ⊥)
       → suc l ≤ 2 ^ 62 → (p first last from : ℕ) (values : List (List Op)) (told : Option Told) → drop (suc l - from) values ≡ [] → p ≡ pn → T f ≡ last → last ≤ l → ((g : ℕ) → has a g ≡ true → l ≤ suc (T g)) → (v : List Op) → (1 ≤ l → (record_at w.record_of l ≡ Some v) × (length (text v) ≤ most_value))
       → Surely (Does w (Hears e a l pn (with_rank A f) T v)) (react me sh now w s (input.Deliver (letter n f e (body.Last p first last true from values told))))
-  unfolding hear_last learn
+  unfolding learn
   hears_same w s e a l pn A T P others f few h ne room p first last from values told old same is low lag v known =
-      heard ms several 0 i lt sh now (Does w (Hears e a l pn (with_rank A f) T v)) w s f e (body.Last p first last true from values told) (ap (λ p. same_phase p phase.Booting) P.phase) (meets f ne)
-      (by_test (not (of_member (phase.Collecting ∷ []) f e (at_rest w s))) (never (ap not (of_mine w s e a l pn A T P f h))) (λ _.
-      by_test (ltb s.leader.pn p) (never (le-ltb s.leader.pn p (let z = P.number in omega arith))) (λ _.
-      by_test (ltb p s.leader.pn) (never (le-ltb p s.leader.pn (let z = P.number in omega arith))) (λ _.
-      by_test (ltb (suc w.last) first && ltb w.last last) (λ t. never (le-ltb w.last last (let z = P.last in omega arith)) (and_parts (ltb (suc w.last) first) (ltb w.last last) t).1) (λ _.
-      subst (λ (vs : List (List Op)). Surely (Does w (Hears e a l pn (with_rank A f) T v)) (learn (news_from w.last from) vs (at_rest w s) >>= λ y. hear_whole me now f last told y)) (sym (ap (λ (z : ℕ). drop (suc z - from) values) P.last ∙ old))
-      (whole_heard w (at_rest w s) (record { tells = refl; fits = tt; short = tt; unmarked = P.unmarked }) e a l pn A T P others room f last few is low told lag v known))))))
-    where
-      meets : (f : ℕ) → (f ≡ i → ⊥) → is_heard me (letter n f e (body.Last p first last true from values told)) ≡ true
-      meets f ne = λ j. not (ne_eqb f i ne j) && eq-eqb n n refl j && true
+      so (last_row me sh now (asks_of P ne h) p first last true from values told (same ∙ sym P.number) (near w first last (let z = P.last in omega arith)))
+      (subst (λ (vs : List (List Op)). Surely (Does w (Hears e a l pn (with_rank A f) T v)) (learn (news_from w.last from) vs (at_rest w s) >>= λ y. hear_whole me now f last told y)) (sym (ap (λ (z : ℕ). drop (suc z - from) values) P.last ∙ old))
+      (whole_heard w (at_rest w s) (record { tells = refl; fits = tt; short = tt; unmarked = P.unmarked }) e a l pn A T P others room f last few is low told lag v known))
 
   -- or leaves something out
   pub hears_again : (w : Readings) (s : State) (e : ℕ) (a : List Bool) (l pn : ℕ) (A : List Bool) (T : ℕ → ℕ) → IsAsking i e a l pn A T w s → is_alone me a ≡ false → (f : ℕ) → has a f ≡ true → (f ≡ i → ⊥)
       → (p first last from : ℕ) (values : List (List Op)) (told : Option Told) → drop (suc l - from) values ≡ [] → p ≡ pn → last ≤ l → (top : ℕ) → pn + 114 ≤ top → top ≤ 2 ^ 62
       → Surely (Does w (Asks e a l pn top T)) (react me sh now w s (input.Deliver (letter n f e (body.Last p first last false from values told))))
-  unfolding hear_last learn
+  unfolding learn
   hears_again w s e a l pn A T P others f h ne p first last from values told old same low top high room =
-      heard ms several 0 i lt sh now (Does w (Asks e a l pn top T)) w s f e (body.Last p first last false from values told) (ap (λ p. same_phase p phase.Booting) P.phase) (meets f ne)
-      (by_test (not (of_member (phase.Collecting ∷ []) f e (at_rest w s))) (never (ap not (of_mine w s e a l pn A T P f h))) (λ _.
-      by_test (ltb s.leader.pn p) (never (le-ltb s.leader.pn p (let z = P.number in omega arith))) (λ _.
-      by_test (ltb p s.leader.pn) (never (le-ltb p s.leader.pn (let z = P.number in omega arith))) (λ _.
-      by_test (ltb (suc w.last) first && ltb w.last last) (λ t. never (le-ltb w.last last (let z = P.last in omega arith)) (and_parts (ltb (suc w.last) first) (ltb w.last last) t).1) (λ _.
-      subst (λ (vs : List (List Op)). Surely (Does w (Asks e a l pn top T)) (learn (news_from w.last from) vs (at_rest w s) >>= λ y. collect me now y.state.leader.quorum 0 y)) (sym (ap (λ (z : ℕ). drop (suc z - from) values) P.last ∙ old))
-      (subst (λ (b : List Bool). Surely (Does w (Asks e a l pn top T)) (collect me now b 0 (at_rest w s))) (sym P.quorum) (collects w (at_rest w s) (record { tells = refl; fits = tt; short = tt; unmarked = P.unmarked }) e a l 0 pn top T (let z = P.promised in omega arith) (let z = P.own in let y = P.promised in let k = rank_low in omega arith) room P.epoch P.last P.queue others)))))))
-    where
-      meets : (f : ℕ) → (f ≡ i → ⊥) → is_heard me (letter n f e (body.Last p first last false from values told)) ≡ true
-      meets f ne = λ j. not (ne_eqb f i ne j) && eq-eqb n n refl j && true
+      so (last_row me sh now (asks_of P ne h) p first last false from values told (same ∙ sym P.number) (near w first last (let z = P.last in omega arith)))
+      (subst (λ (vs : List (List Op)). Surely (Does w (Asks e a l pn top T)) (learn (news_from w.last from) vs (at_rest w s) >>= λ y. collect me now y.state.leader.quorum 0 y)) (sym (ap (λ (z : ℕ). drop (suc z - from) values) P.last ∙ old))
+      (subst (λ (b : List Bool). Surely (Does w (Asks e a l pn top T)) (collect me now b 0 (at_rest w s))) (sym P.quorum) (collects w (at_rest w s) (record { tells = refl; fits = tt; short = tt; unmarked = P.unmarked }) e a l 0 pn top T (let z = P.promised in omega arith) (let z = P.own in let y = P.promised in let k = rank_low in omega arith) room P.epoch P.last P.queue others)))
 
   -- ---- a version is learned
 
@@ -358,23 +335,17 @@ module _ (ms : Monitors) (several : 1 < ms.count) (i : ℕ) (lt : ltb i ms.count
       → (p first last : ℕ) (whole : Bool) (x : List Op) (told : Option Told) → p ≡ pn → T f ≡ last → last ≡ suc l → suc (suc l) ≤ 2 ^ 62 → Val x → ltb (suc w.last) first ≡ false → ((g : ℕ) → has a g ≡ true → l ≤ T g) → (v : List Op)
       → (record_at (play (Learn (suc l) x) w).record_of (suc l) ≡ Some v) → length (text v) ≤ most_value → (top : ℕ) → pn + 114 ≤ top → top ≤ 2 ^ 62
       → Surely (Does w (λ y. Hears e a (suc l) pn (with_rank A f) T v y ⊎ Asks e a (suc l) pn top T y)) (react me sh now w s (input.Deliver (letter n f e (body.Last p first last whole (suc l) (x ∷ []) told))))
-  unfolding hear_last learn
   hears_more w s e a l pn A T P others f few h ne p first last whole x told same is next more_room X kept lag v known short top high room =
-      heard ms several 0 i lt sh now Goal w s f e (body.Last p first last whole (suc l) (x ∷ []) told) (ap (λ p. same_phase p phase.Booting) P.phase) (meets f ne)
-      (by_test (not (of_member (phase.Collecting ∷ []) f e (at_rest w s))) (never (ap not (of_mine w s e a l pn A T P f h))) (λ _.
-      by_test (ltb s.leader.pn p) (never (le-ltb s.leader.pn p (let z = P.number in omega arith))) (λ _.
-      by_test (ltb p s.leader.pn) (never (le-ltb p s.leader.pn (let z = P.number in omega arith))) (λ _.
-      by_test (ltb (suc w.last) first && ltb w.last last) (λ t. never kept (and_parts (ltb (suc w.last) first) (ltb w.last last) t).0) (λ _.
-      subst (λ (k : ℕ). Surely Goal (learn (news_from w.last (suc l)) (drop k (x ∷ [])) (at_rest w s) >>= λ y. (if whole then hear_whole me now f last told y else collect me now y.state.leader.quorum 0 y))) (sym none)
-      (subst (λ (k : ℕ). Surely Goal (learn k (x ∷ []) (at_rest w s) >>= λ y. (if whole then hear_whole me now f last told y else collect me now y.state.leader.quorum 0 y))) (sym first_new)
-      (and_then Mid Goal (learn (suc l) (x ∷ []) (at_rest w s)) _ (where_fits Mid which.Version (suc l + 0) (λ z. Ok (y_of z)) (omega arith) (λ fits. done (refl, fits))) (λ y k.
-      subst (λ (z : Course). Surely Goal (if whole then hear_whole me now f last told z else collect me now z.state.leader.quorum 0 z)) (sym k.0) (learned k.1)))))))))
+      so (last_row me sh now (asks_of P ne h) p first last whole (suc l) (x ∷ []) told (same ∙ sym P.number) (ap (λ b. b && ltb w.last last) kept))
+      (subst (λ (k : ℕ). Surely Goal (learn (news_from w.last (suc l)) (drop k (x ∷ [])) (at_rest w s) >>= λ y. goes_on y)) (sym none)
+      (subst (λ (k : ℕ). Surely Goal (learn k (x ∷ []) (at_rest w s) >>= λ y. goes_on y)) (sym first_new)
+      (so (ap (λ (r : Result Course Which). r >>= λ y. goes_on y) (learns_one (suc l) x (at_rest w s) (omega arith))) learnt)))
     where
       Goal : Course → Type 0
       Goal y = Does w (λ y. Hears e a (suc l) pn (with_rank A f) T v y ⊎ Asks e a (suc l) pn top T y) y
 
-      meets : (f : ℕ) → (f ≡ i → ⊥) → is_heard me (letter n f e (body.Last p first last whole (suc l) (x ∷ []) told)) ≡ true
-      meets f ne = λ j. not (ne_eqb f i ne j) && eq-eqb n n refl j && true
+      goes_on : Course → Result Course Which
+      goes_on y = if whole then hear_whole me now f last told y else collect me now y.state.leader.quorum 0 y
 
       none : suc w.last - suc l ≡ 0
       none = let z = P.last in omega arith
@@ -382,18 +353,16 @@ module _ (ms : Monitors) (several : 1 < ms.count) (i : ℕ) (lt : ltb i ms.count
       first_new : news_from w.last (suc l) ≡ suc l
       first_new = let z = P.last in omega arith
 
-      y_of : ℕ → Course
-      y_of z = change (Last z) (change (Learn (suc l) x) (at_rest w s))
+      z0 : Course
+      z0 = learned (suc l) x (at_rest w s)
 
-      Mid : Course → Type 0
-      Mid y = (y ≡ y_of (suc l + 0)) × (suc l + 0 ≤ 2 ^ 62)
-
-      learned : suc l + 0 ≤ 2 ^ 62 → Surely Goal (if whole then hear_whole me now f last told (y_of (suc l + 0)) else collect me now (y_of (suc l + 0)).state.leader.quorum 0 (y_of (suc l + 0)))
-      learned fits =
+      learnt : Surely Goal (goes_on z0)
+      learnt =
+          let fits : suc l ≤ 2 ^ 62 = omega arith in
           let own = same_own w (suc l) x X.spares in
           let S1 = sound_more w (at_rest w s) (Learn (suc l) x) tt (let z = X.short in omega arith) (ap (λ (o : Own). o.marked) own ∙ P.unmarked) (record { tells = refl; fits = tt; short = tt; unmarked = P.unmarked }) in
-          let S2 = sound_more w (change (Learn (suc l) x) (at_rest w s)) (Last (suc l + 0)) fits tt S1.unmarked S1 in
-          let Q : IsAsking i e a (suc l) pn A T (y_of (suc l + 0)).readings (y_of (suc l + 0)).state = record {
+          let S2 = sound_more w (change (Learn (suc l) x) (at_rest w s)) (Last (suc l)) fits tt S1.unmarked S1 in
+          let Q : IsAsking i e a (suc l) pn A T z0.readings z0.state = record {
             unmarked = ap (λ (o : Own). o.marked) own ∙ P.unmarked;
             epoch = ap (λ (o : Own). epoch_or_first o.epoch) own ∙ P.epoch;
             last = omega arith;
@@ -410,7 +379,7 @@ module _ (ms : Monitors) (several : 1 < ms.count) (i : ℕ) (lt : ltb i ms.count
             queue = P.queue;
           } in
           by_test whole
-          (λ _. weaken (Does w (Hears e a (suc l) pn (with_rank A f) T v)) Goal (hear_whole me now f last told (y_of (suc l + 0))) (λ y k. (k.0, inl k.1))
-          (whole_heard w (y_of (suc l + 0)) S2 e a (suc l) pn A T Q others more_room f last few is (omega arith) told (λ g h. let z = lag g h in omega arith) v (λ some. (known, short))))
-          (λ _. weaken (Does w (Asks e a (suc l) pn top T)) Goal (collect me now s.leader.quorum 0 (y_of (suc l + 0))) (λ y k. (k.0, inr k.1))
-          (subst (λ (b : List Bool). Surely (Does w (Asks e a (suc l) pn top T)) (collect me now b 0 (y_of (suc l + 0)))) (sym P.quorum) (collects w (y_of (suc l + 0)) S2 e a (suc l) 0 pn top T (let z = Q.promised in omega arith) (let z = Q.own in let y = Q.promised in let k = rank_low in omega arith) room Q.epoch Q.last P.queue others)))
+          (λ _. weaken (Does w (Hears e a (suc l) pn (with_rank A f) T v)) Goal (hear_whole me now f last told z0) (λ y k. (k.0, inl k.1))
+          (whole_heard w z0 S2 e a (suc l) pn A T Q others more_room f last few is (omega arith) told (λ g h. let z = lag g h in omega arith) v (λ some. (known, short))))
+          (λ _. weaken (Does w (Asks e a (suc l) pn top T)) Goal (collect me now s.leader.quorum 0 z0) (λ y k. (k.0, inr k.1))
+          (subst (λ (b : List Bool). Surely (Does w (Asks e a (suc l) pn top T)) (collect me now b 0 z0)) (sym P.quorum) (collects w z0 S2 e a (suc l) 0 pn top T (let z = Q.promised in omega arith) (let z = Q.own in let y = Q.promised in let k = rank_low in omega arith) room Q.epoch Q.last P.queue others)))

@@ -17,6 +17,7 @@ use Rattle.mon_wire.specs.declared.phase.Phase.TheVariants as phase
 use Rattle.mon_wire.specs.declared.reply.Reply.TheVariants as reply
 use Rattle.mon_wire.specs.declared.request.Session.{Session}
 use Rattle.quorum_elects.proofs.Can.{New, Onward, Scope, new_stays}
+use Rattle.quorum_elects.proofs.InTurn.{InTurn, Peon, Turned, at_first, covers_one, covers_with, each_in_turn, not_peon, peon_or_not}
 use Rattle.quorum_elects.proofs.Majorities.{Majority, scope}
 use Rattle.quorum_elects.proofs.Moving.{Did, HasReply}
 use Rattle.quorum_elects.proofs.Planning.{Does, Plays, does_then, does_weaker, passes, plays_all, plays_weaker, step}
@@ -101,72 +102,70 @@ module _ (G : Majority) (Q : Term G) where
 
   module _ (Hub : Readings → State → Type 0) (Post : World → Type 0) (post_on : (w v : World) → On w v → Post w → Post v) (l pn : ℕ) (room : l ≤ 2 ^ 62) (U : ℕ → ℕ) (top : (f : ℕ) → has a f ≡ true → U f ≤ l) (lag : (f : ℕ) → has a f ≡ true → l ≤ suc (U f)) (value : List Op) (fine : 1 ≤ l → Val value)
       (leads : (w : Readings) (s : State) → Hub w s → (w.last ≡ l) × (s.leader.quorum ≡ a)) where
-    pub record Catching (k : ℕ) (w : World) : Type 0 where
+    pub record Lasting (w : World) : Type 0 where
       pub fit : Fit w
       pub hub : Is Hub w r
       pub post : Post w
       pub commits : (f : ℕ) → f < n → has a f ≡ true → (f ≡ r → ⊥) → U f < l → Mail r f (body.Commit l (value ∷ [])) w
-      pub done : (f : ℕ) → f < k → has a f ≡ true → (f ≡ r → ⊥) → Is (IsHearing r e a l pn) w f
-      pub left : (f : ℕ) → k ≤ f → has a f ≡ true → (f ≡ r → ⊥) → Is (IsHearing r e a (U f) pn) w f
 
-    catch_one : (k : ℕ) (w : World) → k < n → Catching k w → Plays Us (plan.commits r k ∷ []) 1 (Catching (suc k)) w
-    catch_one k w lt C = by (in_or_out (has a k)) (same_or_not k r)
+    abbrev Has : ℕ → World → Type 0
+    Has f w = Is (IsHearing r e a l pn) w f
+
+    abbrev Lacks : ℕ → World → Type 0
+    Lacks f w = Is (IsHearing r e a (U f) pn) w f
+
+    -- peons below k have all l versions, and the others those that they had
+    abbrev pub Catching : ℕ → World → Type 0
+    Catching = InTurn (Peon a r) Lasting Has Lacks
+
+    hub_is : (w : World) → Lasting w → ((readings_at w r).last ≡ l) × (electing.quorum_at w r ≡ a)
+    hub_is w C = let Z = C.hub in let z = leads (readings_at w r) Z.state Z.holds in (z.0, quorum_is w r Z.state a Z.up z.1)
+
+    not_other : (w : World) → Lasting w → (k : ℕ) → electing.is_other a r k ≡ false → gets k w ≡ false
+    not_other w C k out = λ i. ((λ j. electing.is_other ((hub_is w C).1 j) r k) ∙ out) i && (lacks k w)
+
+    catch_one : (k : ℕ) (w : World) → k < n → Peon a r k → Lasting w → Lacks k w → Plays Us (plan.commits r k ∷ []) 1 (Turned (Peon a r) Lasting Has Lacks k w) w
+    catch_one k w lt peon C Z = elim (cases_lt (U k) l) [
+      | inl less ↦ goes less
+      | inr ge ↦ passes Us (plan.commits r k) (otherwise _ _ (gets k w) (and_false (electing.is_other (electing.quorum_at w r) r k) (lacks k w) (le-ltb (readings_at w k).last (readings_at w r).last (let x = last_of_k in let y = (hub_is w C).0 in omega arith)))) (record {
+        keeps = C;
+        done = subst (λ (y : ℕ). Is (IsHearing r e a y pn) w k) (let t = top k peon.0 in omega arith) Z;
+        others = λ f ne b. (λ z. z, λ z. z);
+      })
+    ]
       where
-        hub_is : ((readings_at w r).last ≡ l) × (electing.quorum_at w r ≡ a)
-        hub_is = let Z = C.hub in let z = leads (readings_at w r) Z.state Z.holds in (z.0, quorum_is w r Z.state a Z.up z.1)
+        last_of_k : (readings_at w k).last ≡ U k
+        last_of_k = let H = Z.holds in H.last
 
-        last_of_k : has a k ≡ true → (k ≡ r → ⊥) → (readings_at w k).last ≡ U k
-        last_of_k h ne = let Z : Is (IsHearing r e a (U k) pn) w k = C.left k (omega arith) h ne in let H = Z.holds in H.last
-
-        not_other : electing.is_other a r k ≡ false → (gets k w) ≡ false
-        not_other out = λ i. ((λ j. electing.is_other (hub_is.1 j) r k) ∙ out) i && (lacks k w)
-
-        skip : (gets k w) ≡ false → ((f : ℕ) → f ≡ k → has a f ≡ true → (f ≡ r → ⊥) → Is (IsHearing r e a l pn) w f) → Plays Us (plan.commits r k ∷ []) 1 (Catching (suc k)) w
-        skip out this = passes Us (plan.commits r k) (otherwise _ _ (gets k w) out) (record {
-          fit = C.fit;
-          hub = C.hub;
-          post = C.post;
-          commits = C.commits;
-          done = λ f low h ne. elim (up_to f k low) [ inl z ↦ this f z h ne | inr less ↦ C.done f less h ne ];
-          left = λ f high h ne. C.left f (omega arith) h ne;
-        })
-
-        goes : (there : has a k ≡ true) → (k ≡ r → ⊥) → U k < l → Plays Us (plan.commits r k ∷ []) 1 (Catching (suc k)) w
-        goes there other less =
-            let Z : Is (IsHearing r e a (U k) pn) w k = C.left k (omega arith) there other in
+        goes : U k < l → Plays Us (plan.commits r k ∷ []) 1 (Turned (Peon a r) Lasting Has Lacks k w) w
+        goes less =
+            let there : has a k ≡ true = peon.0 in
             let next : suc (U k) ≡ l = (let g = lag k there in omega arith) in
             step Us (plan.commits r k) (plans.Hears k r kind.Commit ∷ [])
-            (chosen _ _ (gets k w) (λ i. ((λ j. electing.is_other (hub_is.1 j) r k) ∙ other_is a r k there other) i && lt-ltb (readings_at w k).last (readings_at w r).last (let x = last_of_k there other in let y = hub_is.0 in omega arith) i))
+            (chosen _ _ (gets k w) (λ i. ((λ j. electing.is_other ((hub_is w C).1 j) r k) ∙ other_is a r k there peon.1) i && lt-ltb (readings_at w k).last (readings_at w r).last (let x = last_of_k in let y = (hub_is w C).0 in omega arith) i))
             (does_weaker Us (omega arith) after
-            (deliver Us w (let F = C.fit in F.room) k (lt_of k there) (within k there) Goal (letter n r e (body.Commit (suc (U k)) (value ∷ []))) (subst (λ (x : ℕ). Mail r k (body.Commit x (value ∷ [])) w) (sym next) (C.commits k lt there other less)) Z.state Z.up
-            (learns ms several k (lt_of k there) (shared_entries (w.store k)) (G.clock.event w) (readings_at w k) Z.state r e a (U k) pn Z.holds (λ x. other (sym x)) value (fine (omega arith)) (omega arith))))
+            (deliver Us w (let F = C.fit in F.room) k (lt_of k there) (within k there) Goal (letter n r e (body.Commit (suc (U k)) (value ∷ []))) (subst (λ (x : ℕ). Mail r k (body.Commit x (value ∷ [])) w) (sym next) (C.commits k lt there peon.1 less)) Z.state Z.up
+            (learns ms several k (lt_of k there) (shared_entries (w.store k)) (G.clock.event w) (readings_at w k) Z.state r e a (U k) pn Z.holds (λ x. peon.1 (sym x)) value (fine (omega arith)) (omega arith))))
           where
             Goal : Course → Type 0
             Goal y = IsHearing r e a (suc (U k)) pn y.readings y.state
 
-            after : (v : World) → On w v → Did Us Goal w k v → Catching (suc k) v
+            after : (v : World) → On w v → Did Us Goal w k v → Turned (Peon a r) Lasting Has Lacks k w v
             after v o D = record {
-              fit = leaders.fit_on G Q Goal w v k o D C.fit;
-              hub = is_stays Hub w v r (D.moved.others r (λ x. other (sym x))) C.hub;
-              post = post_on w v o C.post;
-              commits = λ f few h ne low. new_stays Us o (C.commits f few h ne low);
-              done = λ f low h ne. elim (up_to f k low) [
-                | inl z ↦ subst (λ (x : ℕ). Is (IsHearing r e a l pn) v x) (sym z) (subst (λ (x : ℕ). Is (IsHearing r e a x pn) v k) (let g = lag k there in omega arith) (is_now Us (IsHearing r e a (suc (U k)) pn) w v k D.y D.moved D.did))
-                | inr low ↦ is_stays (IsHearing r e a l pn) w v f (D.moved.others f (λ x. omega arith)) (C.done f low h ne)
-              ];
-              left = λ f high h ne. is_stays (IsHearing r e a (U f) pn) w v f (D.moved.others f (λ x. omega arith)) (C.left f (omega arith) h ne);
+              keeps = record {
+                fit = leaders.fit_on G Q Goal w v k o D C.fit;
+                hub = is_stays Hub w v r (D.moved.others r (λ x. peon.1 (sym x))) C.hub;
+                post = post_on w v o C.post;
+                commits = λ f few h ne low. new_stays Us o (C.commits f few h ne low);
+              };
+              done = subst (λ (x : ℕ). Is (IsHearing r e a x pn) v k) (let g = lag k peon.0 in omega arith) (is_now Us (IsHearing r e a (suc (U k)) pn) w v k D.y D.moved D.did);
+              others = λ f ne b. (is_stays (IsHearing r e a l pn) w v f (D.moved.others f ne), is_stays (IsHearing r e a (U f) pn) w v f (D.moved.others f ne));
             }
 
-        by : (has a k ≡ true) ⊎ (has a k ≡ false) → (k ≡ r) ⊎ (k ≡ r → ⊥) → Plays Us (plan.commits r k ∷ []) 1 (Catching (suc k)) w
-        by (inr out) z = skip (not_other (outside_is a r k out)) (λ f x h ne. absurd (false≢true (sym out ∙ subst (λ (y : ℕ). has a y ≡ true) x h)))
-        by (inl there) (inl same) = skip (not_other (itself_is a r k same)) (λ f x h ne. absurd (ne (x ∙ same)))
-        by (inl there) (inr other) = elim (cases_lt (U k) l) [
-          | inl less ↦ goes there other less
-          | inr ge ↦ skip (and_false (electing.is_other (electing.quorum_at w r) r k) (lacks k w) (le-ltb (readings_at w k).last (readings_at w r).last (let x = last_of_k there other in let y = hub_is.0 in omega arith))) (λ f x h ne. subst (λ (y : ℕ). Is (IsHearing r e a l pn) w y) (sym x) (subst (λ (y : ℕ). Is (IsHearing r e a y pn) w k) (let t = top k there in omega arith) (C.left k (omega arith) there other)))
-        ]
-
-    pub catch_all : (w : World) → Catching 0 w → Plays Us (electing.each n (plan.commits r)) (1 * n) (Catching n) w
-    catch_all w C = plays_all Us n 1 (plan.commits r) Catching catch_one w C
+    pub catch_all : (w : World) → Lasting w → ((f : ℕ) → has a f ≡ true → (f ≡ r → ⊥) → Lacks f w) → Plays Us (electing.each n (plan.commits r)) (1 * n) (Catching n) w
+    catch_all w C left =
+        each_in_turn (Peon a r) Lasting Has Lacks Us n 1 (plan.commits r) (peon_or_not a r) (λ k w none C. otherwise _ _ (gets k w) (not_other w C k (not_peon a r k none))) catch_one w
+        (at_first (Peon a r) Lasting Has Lacks w C (λ f peon. left f peon.0 peon.1))
 
   abbrev pub Level : (l pn : ℕ) → World → Type 0
   Level l pn w = (f : ℕ) → has a f ≡ true → (f ≡ r → ⊥) → Is (IsHearing r e a l pn) w f
@@ -223,10 +222,7 @@ module _ (G : Majority) (Q : Term G) where
               S.1,
               length-set A k true ∙ long,
               has_with A k r self,
-              λ f low h. elim (up_to f k low) [
-                | inl z ↦ subst (λ (x : ℕ). has (with_rank A k) x ≡ true) (sym z) (has_self A k (let b = below k there in omega arith))
-                | inr less ↦ has_with A k f (covers f less h)
-              ],
+              covers_with a A k (let b = below k there in omega arith) covers,
             )
             go (inr S) =
                 let FU : Fit u = leaders.fit_on G Q Goal v u r o2 D FV in
@@ -296,7 +292,7 @@ module _ (G : Majority) (Q : Term G) where
         ]
           where
             skips : electing.is_other a r k ≡ false → (has a k ≡ true → has Y.0 k ≡ true) → Plays Us (plan.accepts ph r k ∷ []) 2 (Voting (suc k)) w
-            skips out in_it = stays (λ i. ((λ j. electing.is_other (members w Y.0 Y.1 j) r k) ∙ out) i && electing.is_in w r ph) (inr (Y.0, Y.1, Y.2, Y.3, Y.4, λ f low h. elim (up_to f k low) [ inl z ↦ subst (λ (x : ℕ). has Y.0 x ≡ true) (sym z) (in_it (subst (λ (x : ℕ). has a x ≡ true) z h)) | inr less ↦ Y.5 f less h ]))
+            skips out in_it = stays (λ i. ((λ j. electing.is_other (members w Y.0 Y.1 j) r k) ∙ out) i && electing.is_in w r ph) (inr (Y.0, Y.1, Y.2, Y.3, Y.4, covers_one a Y.0 k in_it Y.5))
 
     pub record Made (w : World) : Type 0 where
       pub fit : Fit w

@@ -39,14 +39,19 @@ use Rattle.mon_wire.specs.declared.phase.Timer.TheVariants as timer
 use Rattle.mon_wire.specs.declared.reply.Reply.TheVariants as reply
 use Rattle.mon_wire.specs.declared.request.Session.{Session}
 use Rattle.quorum_elects.proofs.Moving.{Sound}
-use Rattle.quorum_elects.proofs.Walking.{Surely, and_then, by_test, done, never, where_fits}
+use Rattle.quorum_elects.proofs.Walking.{Surely, done, so}
 use Rattle.quorum_elects.specs.Ready.{NumbersHaveRoom}
+use Rattle.quorum_recovers.proofs.States.{takes_command}
 use Rattle.quorum_model.proofs.Members.{member_of}
 use Rattle.quorum_model.specs.CalmSchedule.{request_of}
 use Rattle.quorum_model.specs.Monitors.{Monitors}
 use Rattle.quorum_walk.proofs.FineCourses.{Val}
 use Rattle.quorum_walk.proofs.Lists.{Among}
 use Rattle.quorum_walk.proofs.Sparing.{Own, learned_own}
+use Rattle.table_rows.proofs.Commands as asking
+use Rattle.table_rows.proofs.Electing.{collects_alone, number_above, reigning, wins_alone}
+use Rattle.table_rows.proofs.Starting.{alone, leads_alone, start_row}
+use Rattle.table_rows.proofs.Values.{begins_alone, none_pends}
 use Rattle.std.proofs.Common.{Bool, Err, List, None, Ok, Option, Result, Some, [], ap, arith, cond, false, inl, inr, max, not, refl, subst, suc, sym, true, ℕ, ◌&&◌, ◌+◌, ◌^◌, ◌∙◌, ◌∷◌, ◌≡◌, ◌≤◌, ◌⊎◌}
 use Rattle.std.proofs.lemmas.Bool.{ne_eqb}
 use Rattle.std.specs.Prelude.{is_some}
@@ -59,10 +64,6 @@ pub record IsAlone (l : ℕ) (w : Readings) (s : State) : Type 0 where
   pub quorum : s.leader.quorum ≡ only 0
   pub queue : s.clients.queue ≡ []
 
-nothing_pends : (v pn last : ℕ) (records : ℕ → Cell) → v ≡ 0 → pending_of v pn last records ≡ None
-unfolding pending_of
-nothing_pends v pn last records e = ap (λ b. cond b (found_as v pn (record_at records (suc last))) None) (ne_eqb v (suc last) (λ z. omega arith))
-
 -- a map of one monitor
 abbrev pub lone : (most : 1 ≤ 15) → Rule → Monitors
 lone most rule = record { count = 1; most = most; rule = rule }
@@ -72,9 +73,10 @@ module _ (most : 1 ≤ 15) (rule : Rule) (sh : List Entry) (now : ℕ) where
   me = member_of (lone most rule) 0 refl
 
   pub starts_alone : (w : Readings) (l : ℕ) → allows rule 0 ≡ true → w.marked ≡ false → w.last ≡ l → w.pending_v ≡ 0 → NumbersHaveRoom w → Surely (λ y. Sound w y × IsAlone l y.readings y.state) (react me sh now w (booting 0) input.Start)
-  unfolding react start bootstrap reign collect collect_with settle be_active extend
+  unfolding collect_with settle be_active extend
   starts_alone w l may_lead unmarked last none N =
-      where_fits Goal which.Boot (suc w.boot) _ (let z = N.boot in omega arith) (λ fits. by fits (not (is_some w.epoch)))
+      let fits : suc w.boot ≤ 2 ^ 62 = (let z = N.boot in omega arith) in
+      so (start_row me sh now w (booting 0) refl fits) (by fits (not (is_some w.epoch)))
     where
       Goal : Course → Type 0
       Goal y = Sound w y × IsAlone l y.readings y.state
@@ -84,35 +86,31 @@ module _ (most : 1 ≤ 15) (rule : Rule) (sh : List Entry) (now : ℕ) where
           change_if b (Epoch 1) (change (Boot (suc w.boot)) (at_rest w (booting 0)))
           ▸ elector_is (first_elector me now (suc w.boot) (booting 0).elector)
           ▸ arm_if (scores_count me.rule) now timer.Ping
-          ▸ in_phase phase.Probing
-          ▸ forget_clients
-          ▸ prober_is (record { outside = only 0 })
 
       asked : (b : Bool) (e pn : ℕ) → Course
-      asked b e pn = collect_with me now (only 0) pn (in_phase phase.Collecting (change (Epoch e) (bootstrapped b)))
+      asked b e pn = collect_with me now (only 0) pn (reigning me (only 0) (change (Epoch e) (alone me now (bootstrapped b))))
 
       settling : (b : Bool) (e pn : ℕ) → Course
       settling b e pn = asked b e pn ▸ disarm timer.Collect ▸ catch_up me (members me (asked b e pn).state.leader.quorum) ▸ leader_is (record (asked b e pn).state.leader { found = None })
 
       -- it is the leader in the next even epoch, and found nothing
-      found : (b : Bool) (e pn : ℕ) → suc w.boot ≤ 2 ^ 62 → e ≤ 2 ^ 62 → pn ≤ 2 ^ 62 → Surely Goal (settle me now (collect_with me now (only 0) pn (in_phase phase.Collecting (change (Epoch e) (bootstrapped b)))))
-      found true e pn fits short fit = subst (λ (o : Option Found). Surely Goal (begin_found me now o (settling true e pn))) (sym (nothing_pends w.pending_v w.pending_pn w.last w.record_of none))
+      found : (b : Bool) (e pn : ℕ) → suc w.boot ≤ 2 ^ 62 → e ≤ 2 ^ 62 → pn ≤ 2 ^ 62 → Surely Goal (settle me now (asked b e pn))
+      found true e pn fits short fit = subst (λ (o : Option Found). Surely Goal (begin_found me now o (settling true e pn))) (sym (none_pends w (λ z. omega arith)))
           (done (record { tells = refl; fits = (fits, (omega arith, (short, (fit, tt)))); short = (tt, (tt, (tt, (tt, tt)))); unmarked = unmarked }, record { unmarked = unmarked; last = last; phase = refl; quorum = refl; queue = refl }))
-      found false e pn fits short fit = subst (λ (o : Option Found). Surely Goal (begin_found me now o (settling false e pn))) (sym (nothing_pends w.pending_v w.pending_pn w.last w.record_of none))
+      found false e pn fits short fit = subst (λ (o : Option Found). Surely Goal (begin_found me now o (settling false e pn))) (sym (none_pends w (λ z. omega arith)))
           (done (record { tells = refl; fits = (fits, (short, (fit, tt))); short = (tt, (tt, (tt, tt))); unmarked = unmarked }, record { unmarked = unmarked; last = last; phase = refl; quorum = refl; queue = refl }))
 
-      number : Bool → ℕ
-      number b = next_number (or_zero (bootstrapped b).readings.last_pn) (max (promise_of (bootstrapped b).readings) 0) 0
-
-      leads : (b : Bool) → epoch_of (bootstrapped b).readings + 2 ≤ 2 ^ 62 → number b ≤ 2 ^ 62 → suc w.boot ≤ 2 ^ 62 → Surely Goal (win_alone me now (bootstrapped b))
-      leads b room pn fits = where_fits Goal which.Epoch (next_even (epoch_of (bootstrapped b).readings)) _ (omega arith) (λ short. where_fits Goal which.Pn (number b) _ pn (λ fit. found b _ _ fits short fit))
+      leads : (b : Bool) → epoch_of (bootstrapped b).readings + 2 ≤ 2 ^ 62 → number_above me (bootstrapped b).readings 0 ≤ 2 ^ 62 → suc w.boot ≤ 2 ^ 62 → Surely Goal (win_alone me now (alone me now (bootstrapped b)))
+      leads b room pn fits =
+          let short : next_even (epoch_of (bootstrapped b).readings) ≤ 2 ^ 62 = omega arith in
+          so (wins_alone me now (alone me now (bootstrapped b)) short ∙ collects_alone me now (only 0) 0 (reigning me (only 0) (change (Epoch (next_even (epoch_of (bootstrapped b).readings))) (alone me now (bootstrapped b)))) pn refl) (found b _ _ fits short pn)
 
       number_fits : next_number (or_zero w.last_pn) (max (promise_of w) 0) 0 ≤ 2 ^ 62
       number_fits = let own = N.number in let promise = N.promise in omega arith
 
-      by : suc w.boot ≤ 2 ^ 62 → (b : Bool) → Surely Goal (bootstrap me now (change_if b (Epoch 1) (change (Boot (suc w.boot)) (at_rest w (booting 0))) ▸ elector_is (first_elector me now (suc w.boot) (booting 0).elector) ▸ arm_if (scores_count me.rule) now timer.Ping))
-      by fits true = by_test (allows me.rule 0 && not w.marked) (λ _. leads true (omega arith) number_fits fits) (λ t. never t (λ j. may_lead j && not (unmarked j)))
-      by fits false = by_test (allows me.rule 0 && not w.marked) (λ _. leads false (let z = N.epoch in omega arith) number_fits fits) (λ t. never t (λ j. may_lead j && not (unmarked j)))
+      by : suc w.boot ≤ 2 ^ 62 → (b : Bool) → Surely Goal (bootstrap me now (bootstrapped b))
+      by fits true = so (leads_alone me now (bootstrapped true) refl (λ j. may_lead j && not (unmarked j))) (leads true (omega arith) number_fits fits)
+      by fits false = so (leads_alone me now (bootstrapped false) refl (λ j. may_lead j && not (unmarked j))) (leads false (let z = N.epoch in omega arith) number_fits fits)
 
   -- it commits the value of the command at once
   pub record Commits (w : Readings) (l : ℕ) (c : Command) (session : Session) (y : Course) : Type 0 where
@@ -130,29 +128,23 @@ module _ (most : 1 ≤ 15) (rule : Rule) (sh : List Entry) (now : ℕ) where
 
   pub answers_alone : (w : Readings) (s : State) (l : ℕ) → IsAlone l w s → suc l ≤ 2 ^ 62 → (session : Session) (c : Command) → is_too_long c ≡ false → suc (service_last w (service_of c)) ≤ 2 ^ 62 → ((x : List Op) → value w c 0 ≡ Ok x → Val x)
       → Surely (λ y. Sound w y × (Commits w l c session y ⊎ Refuses w c session y)) (react me sh now w s (input.Client session (request_of c)))
-  unfolding react hear_client ask propose begin begin_alone learn
-  answers_alone w s l P room session c short service vals = by_test (same_phase s.phase phase.Booting) (never (ap (λ p. same_phase p phase.Booting) P.phase)) (λ _. by c short service vals)
+  answers_alone w s l P room session c short service vals =
+      so (takes_command me sh now w s session c P.phase ∙ asking.proposes me now c (origin.Session session) (at_rest w s) short free service refl) (made (value w c 0) refl)
     where
-      Goal : Command → Course → Type 0
-      Goal c y = Sound w y × (Commits w l c session y ⊎ Refuses w c session y)
+      Goal : Course → Type 0
+      Goal y = Sound w y × (Commits w l c session y ⊎ Refuses w c session y)
 
       free : (may_propose me now (at_rest w s) && not (has_queue (at_rest w s))) ≡ true
       free = λ j. (same_phase (P.phase j) phase.Active && true) && not (not (is_empty (P.queue j)))
 
-      y_of : List Op → ℕ → Course
-      y_of v z = change (Last z) (change (Learn (suc w.last) v) (at_rest w s))
-
-      made : (c : Command) → ((x : List Op) → value w c 0 ≡ Ok x → Val x) → (r : Result (List Op) CommandRefused) → value w c 0 ≡ r → Surely (Goal c) (begin_made me now (origin.Session session) r (at_rest w s))
-      made c vals (Err why) is = done (record { tells = refl; fits = tt; short = tt; unmarked = P.unmarked }, inr (record { why = why; is = is; reads = refl; says = inl refl }))
-      made c vals (Ok v) is =
-          where_fits (Goal c) which.Version (suc w.last) _ (let z = P.last in omega arith) (λ _.
+      made : (r : Result (List Op) CommandRefused) → value w c 0 ≡ r → Surely Goal (begin_made me now (origin.Session session) r (at_rest w s))
+      made (Err why) is = done (record { tells = refl; fits = tt; short = tt; unmarked = P.unmarked }, inr (record { why = why; is = is; reads = refl; says = inl refl }))
+      made (Ok v) is =
+          let fits : suc w.last ≤ 2 ^ 62 = (let z = P.last in omega arith) in
           let X = vals v is in
           let own = learned_own (suc w.last) (v ∷ []) w (X.spares, tt) in
-          by_test (is_alone me s.leader.quorum) (λ _.
-          and_then (λ y. (y ≡ y_of v (suc w.last + 0)) × (suc w.last + 0 ≤ 2 ^ 62)) (Goal c) (learn (suc w.last) (v ∷ []) (at_rest w s)) _ (where_fits (λ y. (y ≡ y_of v (suc w.last + 0)) × (suc w.last + 0 ≤ 2 ^ 62)) which.Version (suc w.last + 0) (λ z. Ok (y_of v z)) (let z = P.last in omega arith) (λ fit. done (refl, fit))) (λ y k.
-          subst (λ (z : Course). Surely (Goal c) (Ok (z ▸ leads_in stage.Active ▸ answer_any me (Some (origin.Session session)) (reply.Done (suc w.last))))) (sym k.0)
-          (done (
-            record { tells = refl; fits = (tt, (k.1, tt)); short = ((let z = X.short in omega arith), (tt, tt)); unmarked = ap (λ (o : Own). o.marked) own ∙ P.unmarked },
+          so (begins_alone me now stage.Updating v (Some (origin.Session session)) (at_rest w s) fits (ap (is_alone me) P.quorum)) (done (
+            record { tells = refl; fits = (tt, (fits, tt)); short = ((let z = X.short in omega arith), (tt, tt)); unmarked = ap (λ (o : Own). o.marked) own ∙ P.unmarked },
             inl (record {
               value_is = v;
               made = is;
@@ -160,14 +152,4 @@ module _ (most : 1 ≤ 15) (rule : Rule) (sh : List Entry) (now : ℕ) where
               last = (let z = P.last in omega arith);
               says = inl (ap (λ (z : ℕ). send.Reply session (reply.Done (suc z))) (sym P.last));
             }),
-          ))))
-          (λ t. never t (ap (is_alone me) P.quorum)))
-
-      asks : (c : Command) → is_too_long c ≡ false → suc (service_last w (service_of c)) ≤ 2 ^ 62 → ((x : List Op) → value w c 0 ≡ Ok x → Val x) → Surely (Goal c) (ask me now session c (at_rest w s))
-      asks c short service vals = by_test (is_leading s.phase) (λ _. by_test (is_too_long c) (never short) (λ _. by_test (may_propose me now (at_rest w s) && not (has_queue (at_rest w s)))
-          (λ _. where_fits (Goal c) which.Version (suc (service_last w (service_of c))) (λ _. begin_made me now (origin.Session session) (value w c 0) (at_rest w s)) service (λ _. made c vals (value w c 0) refl)) (λ t. never t free))) (λ t. never t (ap is_leading P.phase))
-
-      by : (c : Command) → is_too_long c ≡ false → suc (service_last w (service_of c)) ≤ 2 ^ 62 → ((x : List Op) → value w c 0 ≡ Ok x → Val x) → Surely (Goal c) (hear_client me now session (request_of c) (at_rest w s))
-      by (command.Set k v) short service vals = asks (command.Set k v) short service vals
-      by (command.Remove k) short service vals = asks (command.Remove k) short service vals
-      by (command.Log t) short service vals = asks (command.Log t) short service vals
+          ))

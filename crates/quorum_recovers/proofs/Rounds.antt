@@ -8,6 +8,7 @@ use Rattle.mon_wire.specs.declared.body.Body.TheVariants as body
 use Rattle.mon_wire.specs.declared.kind.Kind.TheVariants as kind
 use Rattle.mon_wire.specs.declared.phase.Phase.TheVariants as phase
 use Rattle.quorum_elects.proofs.Can.{New, Onward, Scope}
+use Rattle.quorum_elects.proofs.InTurn.{covers_one, covers_with}
 use Rattle.quorum_elects.proofs.Majorities.{Majority, scope}
 use Rattle.quorum_elects.proofs.Moving.{Did}
 use Rattle.quorum_elects.proofs.Planning.{Does, Plays, does_then, does_weaker, passes, plays_all, plays_none, plays_then, plays_weaker, step}
@@ -167,10 +168,7 @@ module _ (G : Majority) (Q : Term G) where
               go (inr (inl Y)) = inr (inr (
                 with_rank A k,
                 Y,
-                λ f low h. elim (up_to f k low) [
-                  | inl z ↦ subst (λ (x : ℕ). has (with_rank A k) x ≡ true) (sym z) (has_self A k (let l = X.long in let b = below k there in omega arith))
-                  | inr less ↦ has_with A k f (covers f less h)
-                ],
+                covers_with a A k (let l = X.long in let b = below k there in omega arith) covers,
               ))
               go (inr (inr Y)) = inr (inl (record { fresh = Y.0; by = k; inside = there; other = other; before = omega arith; top = Y.1 }))
 
@@ -178,10 +176,7 @@ module _ (G : Majority) (Q : Term G) where
       skips A X out covers in_it = stays (λ i. ((λ j. electing.is_other (members A la w X j) r k) ∙ out) i && next w k) (inr (inr (
         A,
         X,
-        λ f low h. elim (up_to f k low) [
-          | inl z ↦ subst (λ (x : ℕ). has A x ≡ true) (sym z) (in_it (subst (λ (x : ℕ). has a x ≡ true) z h))
-          | inr less ↦ covers f less h
-        ],
+        covers_one a A k in_it covers,
       )))
 
       by : Settled w ⊎ (Again la k w ⊎ ((A : List Bool) × Asking A la w × ((f : ℕ) → f < k → has a f ≡ true → has A f ≡ true))) → Plays Us (plan.collects r k ∷ []) 2 (Round la (suc k)) w

@@ -17,7 +17,7 @@ use Rattle.quorum_elects.proofs.Moving.{HasReply}
 use Rattle.quorum_elects.proofs.Planning.{Plays, plays_then, plays_weaker}
 use Rattle.quorum_elects.proofs.Ranks.{same_or_not}
 use Rattle.quorum_elects.proofs.Standing.{CloseAt, Is, IsCollector, IsPeon}
-use Rattle.quorum_elects.proofs.Voting.{Following}
+use Rattle.quorum_elects.proofs.Voting.{Following, Reigning}
 use Rattle.quorum_elects.specs.Plans.{PlannedWay}
 use Rattle.quorum_elects.specs.Ready.{AllNear, HasRoom, IsReady, LacksAtMost}
 use Rattle.quorum_elects.specs.Ways.{Clock, ComesInLease, HasWay, IsAskedBy}
@@ -53,8 +53,11 @@ module _ (G : Majority) (room : HasRoom G.c) (log : length G.from.log ≡ G.c) (
     abbrev K : Candidacy G
     K = L.by
 
-    abbrev F : Following G L.by L.a n v
-    F = L.following
+    abbrev T : Following G L.by L.a n v
+    T = L.following
+
+    abbrev F : Reigning G L.by L.a v
+    F = T.keeps
 
     M : IsMajorityOf n G.q
     M = G.major
@@ -70,7 +73,7 @@ module _ (G : Majority) (room : HasRoom G.c) (log : length G.from.log ≡ G.c) (
       where
         by : (f ≡ K.r) ⊎ (f ≡ K.r → ⊥) → CloseAt G.c (readings_at v f).marked (readings_at v f).first (readings_at v f).last
         by (inl e) = subst (λ (x : ℕ). CloseAt G.c (readings_at v x).marked (readings_at v x).first (readings_at v x).last) (sym e) C.close
-        by (inr ne) = let Y : Is (IsPeon G.c (suc K.E) K.r L.a) v f = F.done f (M.below f (F.within f h)) h ne in let P = Y.holds in P.close
+        by (inr ne) = let Y : Is (IsPeon G.c (suc K.E) K.r L.a) v f = T.done f (M.below f (F.within f h)) (h, ne) in let P = Y.holds in P.close
 
     most : (f : ℕ) → has L.a f ≡ true → (readings_at v f).last ≤ G.c
     most f h = let P = close_of f h in P.most
@@ -112,7 +115,7 @@ module _ (G : Majority) (room : HasRoom G.c) (log : length G.from.log ≡ G.c) (
       under = (let P = C.close in let l = C.last_is in let y = P.most in omega arith);
       least = (let P = C.close in let l = C.last_is in let y = P.least in omega arith);
       own = (let l = C.last_is in omega arith);
-      peons = λ f h ne. (let Y : Is (IsPeon G.c (suc K.E) K.r L.a) v f = F.done f (M.below f (F.within f h)) h ne in let P = Y.holds in (
+      peons = λ f h ne. (let Y : Is (IsPeon G.c (suc K.E) K.r L.a) v f = T.done f (M.below f (F.within f h)) (h, ne) in let P = Y.holds in (
         promise_of (readings_at v f),
         record { state = Y.state; up = Y.up; holds = record { unmarked = (let z = P.close in z.unmarked); epoch = P.epoch; last = refl; promised = refl; phase = P.phase; leader = P.leader; quorum = P.quorum } },
         (P.numbers).1,

@@ -186,8 +186,8 @@ module _ (G : Majority) (Q : Term G) where
   rests_active : (l pn : ℕ) → pn ≤ 2 ^ 62 → l ≤ 2 ^ 62 → (U : ℕ → ℕ) → ((f : ℕ) → has a f ≡ true → U f ≤ l) → ((f : ℕ) → has a f ≡ true → l ≤ suc (U f)) → (value : List Op) → (1 ≤ l → Val value) → c ≤ l → l ≤ suc c → (w : World) → Fit w → Is (IsActive r e a l pn) w r
       → ((f : ℕ) → f < n → has a f ≡ true → (f ≡ r → ⊥) → U f < l → Mail r f (body.Commit l (value ∷ [])) w) → ((f : ℕ) → has a f ≡ true → (f ≡ r → ⊥) → Is (IsHearing r e a (U f) pn) w f) → Plays Us (electing.each n (plan.commits r)) (1 * n) Resting w
   rests_active l pn short room U top lag value fine low high w F hub commits peons =
-      plays_weaker Us (omega arith) (λ v o C. record { fit = C.fit; l = l; pn = pn; short = short; hub = C.hub; peons = λ f h ne. C.done f (below f h) h ne; low = low; high = high })
-      (committing.catch_all G Q (IsActive r e a l pn) (λ v. Unit {0}) (λ v u o k. tt) l pn room U top lag value fine (λ w s H. (H.last, H.quorum)) w (record { fit = F; hub = hub; post = tt; commits = commits; done = λ f less h ne. absurd (omega arith); left = λ f more h ne. peons f h ne }))
+      plays_weaker Us (omega arith) (λ v o C. let L = C.keeps in record { fit = L.fit; l = l; pn = pn; short = short; hub = L.hub; peons = λ f h ne. C.done f (below f h) (h, ne); low = low; high = high })
+      (committing.catch_all G Q (IsActive r e a l pn) (λ v. Unit {0}) (λ v u o k. tt) l pn room U top lag value fine (λ w s H. (H.last, H.quorum)) w (record { fit = F; hub = hub; post = tt; commits = commits }) peons)
 
   -- once it rests, nobody lacks a version and nothing is in progress
   not_in : (w : World) (R : Resting w) (p : Phase) → same_phase phase.Active p ≡ false → electing.is_in w r p ≡ false
@@ -227,8 +227,9 @@ module _ (G : Majority) (Q : Term G) where
       first : (value : List Op) → Is (IsProposing phase.Previous r e a S.l S.pn (only r) value None) w r → ((g : ℕ) → g < n → has a g ≡ true → (g ≡ r → ⊥) → Mail r g (body.Begin S.pn (suc S.l) value) w) → Plays Us (plan.settling n r) (1 * n + (2 * n + 1 * n)) Resting w
       first value Z begins =
           plays_then Us (committing.catch_all G Q (IsProposing phase.Previous r e a S.l S.pn (only r) value None) Post (λ v u o k g few h ne. new_stays Us o (k g few h ne)) S.l S.pn (let y = S.under in let z = terms.version_room G Q S.l (omega arith) in omega arith) T S.top lag S.value S.fine (λ w s H. (H.last, H.quorum)) w
-          (record { fit = Y.fit; hub = Z; post = begins; commits = S.commits; done = λ f less h ne. absurd (omega arith); left = λ f more h ne. S.peons f h ne })) (λ v o C.
-          plays_then Us (committing.vote_all G Q phase.Previous (inl refl) None S.l S.pn value v C.fit C.post (λ f h ne. C.done f (below f h) h ne) C.hub) (λ u o2 D.
+          (record { fit = Y.fit; hub = Z; post = begins; commits = S.commits }) S.peons) (λ v o C.
+          let L = C.keeps in
+          plays_then Us (committing.vote_all G Q phase.Previous (inl refl) None S.l S.pn value v L.fit L.post (λ f h ne. C.done f (below f h) (h, ne)) L.hub) (λ u o2 D.
           let K = D.committed in
           rests_active (suc S.l) S.pn S.short (terms.version_room G Q S.l (let y = S.under in omega arith)) (λ f. S.l) (λ f h. omega arith) (λ f h. omega arith) value (λ some. K.fine) (let z = S.least in omega arith) (let z = S.under in omega arith) u D.fit K.hub (λ f few h ne less. K.commits f few h ne) D.peons))
         where

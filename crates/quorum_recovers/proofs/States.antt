@@ -1,11 +1,22 @@
 -- The states of a leader that asks, proposes and commits, and of its peons.
+use Rattle.mon_bytes.specs.declared.command.Command.TheVariants as command
+use Rattle.mon_bytes.specs.declared.command.Command.{Command}
+use Rattle.mon_bytes.specs.declared.entry.Entry.{Entry}
 use Rattle.mon_lease.specs.Lease as lease
 use Rattle.mon_msg.specs.Protocol.Collecting.{missed}
+use Rattle.mon_msg.specs.Protocol.Commands.{ask, at_leader}
+use Rattle.mon_msg.specs.Protocol.Course.{Course}
+use Rattle.mon_msg.specs.Protocol.Hearing.{hear_client}
 use Rattle.mon_msg.specs.Protocol.Length.{fits}
+use Rattle.mon_msg.specs.Protocol.Phases.{is_leading, same_phase}
 use Rattle.mon_msg.specs.Protocol.Readings.{Readings, epoch_of, or_zero, promise_of}
 use Rattle.mon_msg.specs.Protocol.Records.{longest, most_value, record_at, run_from, run_of}
 use Rattle.mon_msg.specs.Protocol.State.{State}
+use Rattle.mon_msg.specs.Protocol.Table.{at_rest, react}
+use Rattle.mon_msg.specs.declared.input.Input.TheVariants as input
+use Rattle.mon_msg.specs.declared.plan.Origin.TheVariants as origin
 use Rattle.mon_msg.specs.declared.plan.Origin.{Origin}
+use Rattle.mon_msg.specs.declared.view.Me.{Me}
 use Rattle.mon_tx.specs.Decision.{Cell}
 use Rattle.mon_tx.specs.Text.{text}
 use Rattle.mon_tx.specs.declared.op.Op.{Op}
@@ -13,9 +24,13 @@ use Rattle.mon_types.specs.Ranks.{has}
 use Rattle.mon_wire.specs.declared.body.Body.TheVariants as body
 use Rattle.mon_wire.specs.declared.phase.Phase.{Phase}
 use Rattle.mon_wire.specs.declared.phase.Phase.TheVariants as phase
+use Rattle.mon_wire.specs.declared.request.Session.{Session}
 use Rattle.quorum_elects.proofs.Values.{FoundShort}
+use Rattle.quorum_model.specs.CalmSchedule.{request_of}
 use Rattle.quorum_recovers.proofs.LastAnswers.{fits_commit, run_one}
 use Rattle.quorum_walk.proofs.Lists.{Among, among_left, among_right}
+use Rattle.table_rows.proofs.Commands.{asks_leader}
+use Rattle.table_rows.proofs.Hearing.{IsLeader, IsMember, asked}
 use Rattle.std.proofs.Common.{Bool, List, Option, Some, [], ap, arith, cond, false, inl, inr, length, min, refl, subst, suc, true, zero, ℕ, ◌+◌, ◌-◌, ◌<◌, ◌^◌, ◌||◌, ◌∙◌, ◌∷◌, ◌≡◌, ◌≤◌}
 use Rattle.std.specs.List.{flat_map}
 use Rattle.std.specs.Prelude.{slice_index_or, slice_set}
@@ -85,6 +100,31 @@ pub record IsProposing (ph : Phase) (i e : ℕ) (a : List Bool) (l pn : ℕ) (A 
   pub proposes : s.leader.value ≡ Some value
   pub origin : s.leader.origin ≡ o
   pub queue : s.clients.queue ≡ []
+
+-- ---- who hears whom
+
+pub follows : {me : Me} {r e : ℕ} {a : List Bool} {l p : ℕ} {w : Readings} {s : State} → IsHearing r e a l p w s → (r ≡ me.member.rank → ⊥) → IsLeader me w s r e
+follows P ne = record { other = ne; follows = P.phase; epoch = P.epoch; leader = P.leader }
+
+pub asks_of : {me : Me} {i e : ℕ} {a : List Bool} {l pn : ℕ} {A : List Bool} {T : ℕ → ℕ} {w : Readings} {s : State} → IsAsking i e a l pn A T w s → {f : ℕ} → (f ≡ me.member.rank → ⊥) → has a f ≡ true → IsMember me w s phase.Collecting f e
+asks_of P {f} ne h = record { other = ne; leads = P.phase; epoch = P.epoch; member = ap (λ (b : List Bool). has b f) P.quorum ∙ h }
+
+pub proposes_to : {me : Me} {ph : Phase} {i e : ℕ} {a : List Bool} {l pn : ℕ} {A : List Bool} {value : List Op} {o : Option Origin} {w : Readings} {s : State} → IsProposing ph i e a l pn A value o w s → {f : ℕ} → (f ≡ me.member.rank → ⊥) → has a f ≡ true → IsMember me w s ph f e
+proposes_to P {f} ne h = record { other = ne; leads = P.phase; epoch = P.epoch; member = ap (λ (b : List Bool). has b f) P.quorum ∙ h }
+
+hears_command : (me : Me) (now : ℕ) (session : Session) (c : Command) (x : Course) → hear_client me now session (request_of c) x ≡ ask me now session c x
+unfolding hear_client
+hears_command me now session (command.Set k v) x = refl
+hears_command me now session (command.Remove k) x = refl
+hears_command me now session (command.Log t) x = refl
+
+-- a leader takes a client's command
+pub takes_command : (me : Me) (sh : List Entry) (now : ℕ) (w : Readings) (s : State) (session : Session) (c : Command) → s.phase ≡ phase.Active
+    → react me sh now w s (input.Client session (request_of c)) ≡ at_leader me now c (origin.Session session) (at_rest w s)
+takes_command me sh now w s session c active =
+    asked me sh now w s session (request_of c) (ap (λ (p : Phase). same_phase p phase.Booting) active)
+    ∙ hears_command me now session c (at_rest w s)
+    ∙ asks_leader me now c session (at_rest w s) (ap is_leading active)
 
 -- ---- lists
 

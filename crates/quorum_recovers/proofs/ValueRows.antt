@@ -25,6 +25,7 @@ use Rattle.mon_msg.specs.Protocol.Table.{at_rest, react}
 use Rattle.mon_msg.specs.Protocol.Value.{service_of, value}
 use Rattle.mon_msg.specs.Protocol.Value as mon_value
 use Rattle.mon_msg.specs.declared.input.Input.TheVariants as input
+use Rattle.mon_msg.specs.declared.paxos.LeaderStage.TheVariants as stage
 use Rattle.mon_msg.specs.declared.plan.Origin.{Origin}
 use Rattle.mon_msg.specs.declared.plan.Origin.TheVariants as origin
 use Rattle.mon_msg.specs.declared.plan.Sent.TheVariants as send
@@ -40,19 +41,22 @@ use Rattle.mon_wire.specs.declared.phase.Timer.TheVariants as timer
 use Rattle.mon_wire.specs.declared.reply.Reply.TheVariants as reply
 use Rattle.mon_wire.specs.declared.request.Session.{Session}
 use Rattle.quorum_elects.proofs.Moving.{Sound}
-use Rattle.quorum_elects.proofs.Rows.{heard, sound_more}
+use Rattle.quorum_elects.proofs.Rows.{sound_more}
 use Rattle.quorum_elects.proofs.Standing.{SaysTo, among_map, among_members, letter}
-use Rattle.quorum_elects.proofs.Walking.{Surely, and_then, by_test, done, never, weaken, where_fits}
+use Rattle.quorum_elects.proofs.Walking.{Surely, done, so, weaken}
 use Rattle.quorum_model.proofs.Members.{member_of}
 use Rattle.quorum_model.specs.CalmSchedule.{request_of}
 use Rattle.quorum_model.specs.Monitors.{Monitors}
 use Rattle.quorum_recovers.proofs.CollectRows.{same_own}
-use Rattle.quorum_recovers.proofs.States.{IsActive, IsHearing, IsProposing, lease_given, or_true}
+use Rattle.quorum_recovers.proofs.States.{IsActive, IsHearing, IsProposing, follows, lease_given, or_true, proposes_to, takes_command}
 use Rattle.quorum_walk.proofs.FineCourses.{Val}
 use Rattle.quorum_walk.proofs.Lists.{Among, among_left, among_right}
 use Rattle.quorum_walk.proofs.Sparing.{Own}
+use Rattle.table_rows.proofs.Commands as asking
+use Rattle.table_rows.proofs.Values as values
+use Rattle.table_rows.proofs.Values.{accept_row, accepted, begin_row, commit_row, last_accept_row, learned}
 use Rattle.std.proofs.Common.{Bool, Err, List, None, Ok, Option, Result, Some, [], ap, arith, eqb, false, inl, inr, length, ltb, map, not, refl, subst, suc, sym, true, ℕ, ◌&&◌, ◌+◌, ◌-◌, ◌<◌, ◌^◌, ◌||◌, ◌∙◌, ◌∷◌, ◌≡◌, ◌≤◌, ◌⊎◌}
-use Rattle.std.proofs.lemmas.Bool.{eq-eqb, le-ltb, lt-ltb, ne_eqb}
+use Rattle.std.proofs.lemmas.Bool.{lt-ltb}
 use Rattle.std.specs.Prelude.{drop, if◌then◌else◌}
 
 module _ (ms : Monitors) (several : 1 < ms.count) (i : ℕ) (lt : ltb i ms.count ≡ true) (sh : List Entry) (now : ℕ) where
@@ -68,16 +72,12 @@ module _ (ms : Monitors) (several : 1 < ms.count) (i : ℕ) (lt : ltb i ms.count
   -- a peon gets the version that it lacks
   pub learns : (w : Readings) (s : State) (r e : ℕ) (a : List Bool) (l p : ℕ) → IsHearing r e a l p w s → (r ≡ i → ⊥) → (x : List Op) → Val x → suc l ≤ 2 ^ 62
       → Surely (Does w (λ y. IsHearing r e a (suc l) p y.readings y.state)) (react me sh now w s (input.Deliver (letter n r e (body.Commit (suc l) (x ∷ [])))))
-  unfolding hear_commit learn
   learns w s r e a l p P ne x X room =
-      heard ms several 0 i lt sh now Goal w s r e (body.Commit (suc l) (x ∷ [])) (ap (λ p. same_phase p phase.Booting) P.phase) (meets r ne)
-      (by_test (not (of_leader r e (at_rest w s)) || ltb (suc w.last) (suc l)) (never closed) (λ _.
-      subst (λ (k : ℕ). Surely Goal (learn (suc w.last) (drop k (x ∷ [])) (at_rest w s))) (sym none)
-      (where_fits Goal which.Version (suc w.last + 0) (λ z. Ok (change (Last z) (change (Learn (suc w.last) x) (at_rest w s)))) (let z = P.last in omega arith) (λ fits.
+      let fits : suc w.last ≤ 2 ^ 62 = (let z = P.last in omega arith) in
       let own = same_own ms several i lt sh now w (suc w.last) x X.spares in
       let S1 = sound_more w (at_rest w s) (Learn (suc w.last) x) tt (let z = X.short in omega arith) (ap (λ (o : Own). o.marked) own ∙ P.unmarked) (record { tells = refl; fits = tt; short = tt; unmarked = P.unmarked }) in
-      let S2 = sound_more w (change (Learn (suc w.last) x) (at_rest w s)) (Last (suc w.last + 0)) fits tt S1.unmarked S1 in
-      done (
+      let S2 = sound_more w (change (Learn (suc w.last) x) (at_rest w s)) (Last (suc w.last)) fits tt S1.unmarked S1 in
+      so (commit_row me sh now (follows P ne) (suc l) x (ap suc (sym P.last)) fits) (done (
         S2,
         record {
           unmarked = ap (λ (o : Own). o.marked) own ∙ P.unmarked;
@@ -88,19 +88,7 @@ module _ (ms : Monitors) (several : 1 < ms.count) (i : ℕ) (lt : ltb i ms.count
           leader = P.leader;
           quorum = P.quorum;
         },
-      )))))
-    where
-      Goal : Course → Type 0
-      Goal y = Does w (λ y. IsHearing r e a (suc l) p y.readings y.state) y
-
-      meets : (r : ℕ) → (r ≡ i → ⊥) → is_heard me (letter n r e (body.Commit (suc l) (x ∷ []))) ≡ true
-      meets r ne = λ j. not (ne_eqb r i ne j) && eq-eqb n n refl j && true
-
-      none : suc w.last - suc l ≡ 0
-      none = let z = P.last in omega arith
-
-      closed : (not (of_leader r e (at_rest w s)) || ltb (suc w.last) (suc l)) ≡ false
-      closed = λ j. not (same_phase (P.phase j) phase.Peon && eq-eqb e (epoch_of w) (sym P.epoch) j && eq-eqb r s.peon.leader (sym P.leader) j) || le-ltb (suc w.last) (suc l) (let z = P.last in omega arith) j
+      ))
 
   -- ---- a value is accepted
 
@@ -110,22 +98,14 @@ module _ (ms : Monitors) (several : 1 < ms.count) (i : ℕ) (lt : ltb i ms.count
 
   pub accepts : (w : Readings) (s : State) (r e : ℕ) (a : List Bool) (l pn : ℕ) → IsHearing r e a l pn w s → (r ≡ i → ⊥) → pn ≤ 2 ^ 62 → suc l ≤ 2 ^ 62 → (x : List Op) → length (text x) ≤ most_value
       → Surely (Does w (Accepts r e a l pn)) (react me sh now w s (input.Deliver (letter n r e (body.Begin pn (suc l) x))))
-  unfolding hear_begin
   accepts w s r e a l pn P ne short room x brief =
-      heard ms several 0 i lt sh now (Does w (Accepts r e a l pn)) w s r e (body.Begin pn (suc l) x) (ap (λ p. same_phase p phase.Booting) P.phase) (meets r ne)
-      (by_test (not (of_leader r e (at_rest w s) && eqb pn (promise_of w) && eqb (suc l) (suc w.last))) (never (ap not open_now)) (λ _. done (
+      so (begin_row me sh now (follows P ne) pn (suc l) x (sym P.promised) (ap suc (sym P.last))) (done (
         record { tells = refl; fits = ((room, short), tt); short = (omega arith, tt); unmarked = P.unmarked },
         record {
           stands = record { unmarked = P.unmarked; epoch = P.epoch; last = P.last; promised = P.promised; phase = P.phase; leader = P.leader; quorum = P.quorum };
           says = inl (ap (λ (z : ℕ). send.Message r (letter n i z (body.Accept pn (suc l)))) (sym P.epoch));
         },
-      )))
-    where
-      meets : (r : ℕ) → (r ≡ i → ⊥) → is_heard me (letter n r e (body.Begin pn (suc l) x)) ≡ true
-      meets r ne = λ j. not (ne_eqb r i ne j) && eq-eqb n n refl j && true
-
-      open_now : (of_leader r e (at_rest w s) && eqb pn (promise_of w) && eqb (suc l) (suc w.last)) ≡ true
-      open_now = λ j. (same_phase (P.phase j) phase.Peon && eq-eqb e (epoch_of w) (sym P.epoch) j && eq-eqb r s.peon.leader (sym P.leader) j) && eq-eqb pn (promise_of w) (sym P.promised) j && eq-eqb (suc l) (suc w.last) (ap suc (sym P.last)) j
+      ))
 
   -- ---- the leader hears who accepted
 
@@ -134,107 +114,73 @@ module _ (ms : Monitors) (several : 1 < ms.count) (i : ℕ) (lt : ltb i ms.count
     pub commits : SaysTo n i e a (body.Commit (suc l) (value ∷ [])) y.out
     pub answers : (session : Session) → o ≡ Some (origin.Session session) → Among (send.Reply session (reply.Done (suc l))) y.out
 
-  -- what it did once this set accepted
-  abbrev Counted : Readings → State → List Bool → Course
-  Counted w s b = leader_is (record s.leader { accepted = b }) (at_rest w s)
-
-  committed : (w : Readings) (s : State) (ph : Phase) (e : ℕ) (a : List Bool) (l pn : ℕ) (A : List Bool) (value : List Op) (o : Option Origin) → IsProposing ph i e a l pn A value o w s → Val value → (b : List Bool)
-      → Surely (Does w (Commits e a l pn value o)) (commit me now value (Counted w s b))
-  unfolding commit learn be_active extend
-  committed w s ph e a l pn A value o P X b =
-      and_then Mid (Does w (Commits e a l pn value o)) (learn (suc w.last) (value ∷ []) (Counted w s b)) _ (where_fits Mid which.Version (suc w.last + 0) (λ z. Ok (y_of z)) (let z = P.last in let y = P.room in omega arith) (λ room. done (refl, room)))
-      (λ y k. subst (λ (z : Course). Surely (Does w (Commits e a l pn value o)) (Ok (last_of z))) (sym k.0) (ends k.1))
-    where
-      y_of : ℕ → Course
-      y_of z = change (Last z) (change (Learn (suc w.last) value) (Counted w s b))
-
-      Mid : Course → Type 0
-      Mid y = (y ≡ y_of (suc w.last + 0)) × (suc w.last + 0 ≤ 2 ^ 62)
-
-      last_of : Course → Course
-      last_of y = y
-          ▸ disarm timer.Accept
-          ▸ leader_is (record y.state.leader { value = None; origin = None })
-          ▸ send_each me (members me y.state.leader.quorum) (body.Commit (suc w.last) (value ∷ []))
-          ▸ be_active me now
-          ▸ answer_any me y.state.leader.origin (reply.Done (suc w.last))
-
-      ends : suc w.last + 0 ≤ 2 ^ 62 → Surely (Does w (Commits e a l pn value o)) (Ok (last_of (y_of (suc w.last + 0))))
-      ends room =
-          let own = same_own ms several i lt sh now w (suc w.last) value X.spares in
-          let S1 = sound_more w (Counted w s b) (Learn (suc w.last) value) tt (let z = X.short in omega arith) (ap (λ (o : Own). o.marked) own ∙ P.unmarked) (record { tells = refl; fits = tt; short = tt; unmarked = P.unmarked }) in
-          let S2 = sound_more w (change (Learn (suc w.last) value) (Counted w s b)) (Last (suc w.last + 0)) room tt S1.unmarked S1 in
-          let at : epoch_of (y_of (suc w.last + 0)).readings ≡ e = ap (λ (o : Own). epoch_or_first o.epoch) own ∙ P.epoch in
-          done (
-            record { tells = S2.tells; fits = S2.fits; short = S2.short; unmarked = S2.unmarked },
-            record {
-              stands = record {
-                unmarked = ap (λ (o : Own). o.marked) own ∙ P.unmarked;
-                epoch = at;
-                last = (let z = P.last in omega arith);
-                promised = ap (λ (o : Own). or_zero o.promise) own ∙ P.promised;
-                short = P.short;
-                phase = refl;
-                quorum = P.quorum;
-                number = P.number;
-                lease = lease_given now;
-                queue = P.queue;
-              };
-              commits = λ g few h ne. among_left (send.Message g (letter n i e (body.Commit (suc l) (value ∷ [])))) _ _ (among_left (send.Message g (letter n i e (body.Commit (suc l) (value ∷ [])))) _ _
-                  (subst (λ (q : List Bool). Among (send.Message g (letter n i e (body.Commit (suc l) (value ∷ [])))) (map (message_to me (epoch_of (y_of (suc w.last + 0)).readings) (body.Commit (suc w.last) (value ∷ []))) (members me q))) (sym P.quorum)
-                  (subst (λ (z : ℕ). Among (send.Message g (letter n i z (body.Commit (suc l) (value ∷ [])))) (map (message_to me (epoch_of (y_of (suc w.last + 0)).readings) (body.Commit (suc w.last) (value ∷ []))) (members me a))) at
-                  (subst (λ (z : ℕ). Among (send.Message g (letter n i (epoch_of (y_of (suc w.last + 0)).readings) (body.Commit (suc z) (value ∷ [])))) (map (message_to me (epoch_of (y_of (suc w.last + 0)).readings) (body.Commit (suc w.last) (value ∷ []))) (members me a))) P.last
-                  (among_map (message_to me (epoch_of (y_of (suc w.last + 0)).readings) (body.Commit (suc w.last) (value ∷ []))) g (members me a) (among_members me a g few h ne))))));
-              answers = λ session is. among_right (send.Reply session (reply.Done (suc l))) _ _
-                  (subst (λ (z : Option Origin). Among (send.Reply session (reply.Done (suc l))) (answers_to me (epoch_of (y_of (suc w.last + 0)).readings) z (reply.Done (suc w.last)))) (sym (P.origin ∙ is)) (inl (ap (λ (z : ℕ). send.Reply session (reply.Done (suc z))) (sym P.last))));
-            },
-          )
+  committed : (w : Readings) (s : State) (ph : Phase) (e : ℕ) (a : List Bool) (l pn : ℕ) (A : List Bool) (value : List Op) (o : Option Origin) → IsProposing ph i e a l pn A value o w s → Val value → (f : ℕ)
+      → Surely (Does w (Commits e a l pn value o)) (commit me now value (accepted w s f))
+  unfolding be_active extend
+  committed w s ph e a l pn A value o P X f =
+      let fits : suc w.last ≤ 2 ^ 62 = (let z = P.last in let y = P.room in omega arith) in
+      let c0 : Course = learned (suc w.last) value (accepted w s f) in
+      let own = same_own ms several i lt sh now w (suc w.last) value X.spares in
+      let S1 = sound_more w (accepted w s f) (Learn (suc w.last) value) tt (let z = X.short in omega arith) (ap (λ (o : Own). o.marked) own ∙ P.unmarked) (record { tells = refl; fits = tt; short = tt; unmarked = P.unmarked }) in
+      let S2 = sound_more w (change (Learn (suc w.last) value) (accepted w s f)) (Last (suc w.last)) fits tt S1.unmarked S1 in
+      let at : epoch_of c0.readings ≡ e = ap (λ (o : Own). epoch_or_first o.epoch) own ∙ P.epoch in
+      so (values.commits me now value (accepted w s f) fits) (done (
+        record { tells = S2.tells; fits = S2.fits; short = S2.short; unmarked = S2.unmarked },
+        record {
+          stands = record {
+            unmarked = ap (λ (o : Own). o.marked) own ∙ P.unmarked;
+            epoch = at;
+            last = (let z = P.last in omega arith);
+            promised = ap (λ (o : Own). or_zero o.promise) own ∙ P.promised;
+            short = P.short;
+            phase = refl;
+            quorum = P.quorum;
+            number = P.number;
+            lease = lease_given now;
+            queue = P.queue;
+          };
+          commits = λ g few h ne. among_left (send.Message g (letter n i e (body.Commit (suc l) (value ∷ [])))) _ _ (among_left (send.Message g (letter n i e (body.Commit (suc l) (value ∷ [])))) _ _
+              (subst (λ (q : List Bool). Among (send.Message g (letter n i e (body.Commit (suc l) (value ∷ [])))) (map (message_to me (epoch_of c0.readings) (body.Commit (suc w.last) (value ∷ []))) (members me q))) (sym P.quorum)
+              (subst (λ (z : ℕ). Among (send.Message g (letter n i z (body.Commit (suc l) (value ∷ [])))) (map (message_to me (epoch_of c0.readings) (body.Commit (suc w.last) (value ∷ []))) (members me a))) at
+              (subst (λ (z : ℕ). Among (send.Message g (letter n i (epoch_of c0.readings) (body.Commit (suc z) (value ∷ [])))) (map (message_to me (epoch_of c0.readings) (body.Commit (suc w.last) (value ∷ []))) (members me a))) P.last
+              (among_map (message_to me (epoch_of c0.readings) (body.Commit (suc w.last) (value ∷ []))) g (members me a) (among_members me a g few h ne))))));
+          answers = λ session is. among_right (send.Reply session (reply.Done (suc l))) _ _
+              (subst (λ (z : Option Origin). Among (send.Reply session (reply.Done (suc l))) (answers_to me (epoch_of c0.readings) z (reply.Done (suc w.last)))) (sym (P.origin ∙ is)) (inl (ap (λ (z : ℕ). send.Reply session (reply.Done (suc z))) (sym P.last))));
+        },
+      ))
 
   pub counts_accept : (w : Readings) (s : State) (ph : Phase) (e : ℕ) (a : List Bool) (l pn : ℕ) (A : List Bool) (value : List Op) (o : Option Origin) → IsProposing ph i e a l pn A value o w s → (ph ≡ phase.Previous) ⊎ (ph ≡ phase.Updating) → Val value
       → (f : ℕ) → has a f ≡ true → (f ≡ i → ⊥)
       → Surely (Does w (λ y. IsProposing ph i e a l pn (with_rank A f) value o y.readings y.state × (are_within n a (with_rank A f) ≡ false) ⊎ Commits e a l pn value o y)) (react me sh now w s (input.Deliver (letter n f e (body.Accept pn (suc l)))))
-  unfolding hear_accept
-  counts_accept w s ph e a l pn A value o P which_phase X f h ne =
-      heard ms several 0 i lt sh now Goal w s f e (body.Accept pn (suc l)) (running which_phase) (meets f ne)
-      (by_test (not (of_member (phase.Previous ∷ phase.Updating ∷ []) f e (at_rest w s) && eqb pn s.leader.pn && eqb (suc l) (suc w.last))) (never (ap not (mine which_phase))) (λ _.
-      by_test (are_within n s.leader.quorum (with_rank s.leader.accepted f))
-      (λ _. subst (λ (z : Option (List Op)). Surely Goal (commit_any me now z (Counted w s (with_rank s.leader.accepted f)))) (sym P.proposes)
-      (weaken (Does w (Commits e a l pn value o)) Goal (commit me now value (Counted w s (with_rank s.leader.accepted f))) (λ y k. (k.0, inr k.1)) (committed w s ph e a l pn A value o P X (with_rank s.leader.accepted f))))
-      (λ t. done (
-        record { tells = refl; fits = tt; short = tt; unmarked = P.unmarked },
-        inl (
-          record {
-            unmarked = P.unmarked;
-            epoch = P.epoch;
-            last = P.last;
-            promised = P.promised;
-            short = P.short;
-            room = P.room;
-            phase = P.phase;
-            quorum = P.quorum;
-            number = P.number;
-            accepted = ap (λ (b : List Bool). with_rank b f) P.accepted;
-            proposes = P.proposes;
-            origin = P.origin;
-            queue = P.queue;
-          },
-          (λ j. are_within n (sym P.quorum j) (with_rank (sym P.accepted j) f)) ∙ t,
-        ),
-      ))))
+  counts_accept w s ph e a l pn A value o P which_phase X f h ne = by (are_within n s.leader.quorum (with_rank s.leader.accepted f)) refl
     where
       Goal : Course → Type 0
       Goal y = Does w (λ y. IsProposing ph i e a l pn (with_rank A f) value o y.readings y.state × (are_within n a (with_rank A f) ≡ false) ⊎ Commits e a l pn value o y) y
 
-      meets : (f : ℕ) → (f ≡ i → ⊥) → is_heard me (letter n f e (body.Accept pn (suc l))) ≡ true
-      meets f ne = λ j. not (ne_eqb f i ne j) && eq-eqb n n refl j && true
-
-      running : (ph ≡ phase.Previous) ⊎ (ph ≡ phase.Updating) → same_phase s.phase phase.Booting ≡ false
-      running (inl e) = ap (λ p. same_phase p phase.Booting) (P.phase ∙ e)
-      running (inr e) = ap (λ p. same_phase p phase.Booting) (P.phase ∙ e)
-
-      mine : (ph ≡ phase.Previous) ⊎ (ph ≡ phase.Updating) → (of_member (phase.Previous ∷ phase.Updating ∷ []) f e (at_rest w s) && eqb pn s.leader.pn && eqb (suc l) (suc w.last)) ≡ true
-      mine (inl z) = λ j. (is_one_of (phase.Previous ∷ phase.Updating ∷ []) ((P.phase ∙ z) j) && eq-eqb e (epoch_of w) (sym P.epoch) j && (ap (λ (b : List Bool). has b f) P.quorum ∙ h) j) && eq-eqb pn s.leader.pn (sym P.number) j && eq-eqb (suc l) (suc w.last) (ap suc (sym P.last)) j
-      mine (inr z) = λ j. (is_one_of (phase.Previous ∷ phase.Updating ∷ []) ((P.phase ∙ z) j) && eq-eqb e (epoch_of w) (sym P.epoch) j && (ap (λ (b : List Bool). has b f) P.quorum ∙ h) j) && eq-eqb pn s.leader.pn (sym P.number) j && eq-eqb (suc l) (suc w.last) (ap suc (sym P.last)) j
+      by : (b : Bool) → are_within n s.leader.quorum (with_rank s.leader.accepted f) ≡ b → Surely Goal (react me sh now w s (input.Deliver (letter n f e (body.Accept pn (suc l)))))
+      by true t = so (last_accept_row me sh now which_phase (proposes_to P ne h) pn (suc l) (sym P.number) (ap suc (sym P.last)) t value P.proposes)
+          (weaken (Does w (Commits e a l pn value o)) Goal (commit me now value (accepted w s f)) (λ y k. (k.0, inr k.1)) (committed w s ph e a l pn A value o P X f))
+      by false t = so (accept_row me sh now which_phase (proposes_to P ne h) pn (suc l) (sym P.number) (ap suc (sym P.last)) t) (done (
+            record { tells = refl; fits = tt; short = tt; unmarked = P.unmarked },
+            inl (
+              record {
+                unmarked = P.unmarked;
+                epoch = P.epoch;
+                last = P.last;
+                promised = P.promised;
+                short = P.short;
+                room = P.room;
+                phase = P.phase;
+                quorum = P.quorum;
+                number = P.number;
+                accepted = ap (λ (b : List Bool). with_rank b f) P.accepted;
+                proposes = P.proposes;
+                origin = P.origin;
+                queue = P.queue;
+              },
+              (λ j. are_within n (sym P.quorum j) (with_rank (sym P.accepted j) f)) ∙ t,
+            ),
+          ))
 
   -- ---- a client asks
 
@@ -253,14 +199,12 @@ module _ (ms : Monitors) (several : 1 < ms.count) (i : ℕ) (lt : ltb i ms.count
 
   pub proposes : (w : Readings) (s : State) (e : ℕ) (a : List Bool) (l pn : ℕ) → IsActive i e a l pn w s → is_alone me a ≡ false → ((end : ℕ) → s.leader.lease ≡ Some end → now ≤ end - 1) → suc l ≤ 2 ^ 62 → (session : Session) (c : Command) → is_too_long c ≡ false → suc (service_last w (service_of c)) ≤ 2 ^ 62 → ((x : List Op) → mon_value.value w c i ≡ Ok x → Val x)
       → Surely (Does w (λ y. Proposes w c e a l pn session y ⊎ Refuses w c session y)) (react me sh now w s (input.Client session (request_of c)))
-  unfolding react hear_client ask propose begin begin_with
-  proposes w s e a l pn P others soon room session c short service vals = by_test (same_phase s.phase phase.Booting) (never (ap (λ p. same_phase p phase.Booting) P.phase)) (λ _. by c short service vals)
+  unfolding begin_with
+  proposes w s e a l pn P others soon room session c short service vals =
+      so (takes_command me sh now w s session c P.phase ∙ asking.proposes me now c (origin.Session session) (at_rest w s) short free service refl) (made (mon_value.value w c i) refl)
     where
-      Goal : Command → Course → Type 0
-      Goal c y = Does w (λ y. Proposes w c e a l pn session y ⊎ Refuses w c session y) y
-
-      x0 : Course
-      x0 = at_rest w s
+      Goal : Course → Type 0
+      Goal y = Does w (λ y. Proposes w c e a l pn session y ⊎ Refuses w c session y) y
 
       lease_is : lease_of s ≡ Some P.lease.0
       lease_is = (λ j. if is_peon (P.phase j) then s.peon.lease else (if is_leading (P.phase j) then s.leader.lease else None)) ∙ P.lease.1
@@ -271,13 +215,13 @@ module _ (ms : Monitors) (several : 1 < ms.count) (i : ℕ) (lt : ltb i ms.count
       free : (may_propose me now (at_rest w s) && not (has_queue (at_rest w s))) ≡ true
       free = λ j. (same_phase (P.phase j) phase.Active && standing j) && not (not (is_empty (P.queue j)))
 
-      made : (c : Command) → ((x : List Op) → value w c i ≡ Ok x → Val x) → (r : Result (List Op) CommandRefused) → value w c i ≡ r → Surely (Goal c) (begin_made me now (origin.Session session) r (at_rest w s))
-      made c vals (Err why) is = done (record { tells = refl; fits = tt; short = tt; unmarked = P.unmarked }, inr (record { why = why; is = is; reads = refl; phase = P.phase; says = inl refl }))
-      made c vals (Ok v) is =
-          where_fits (Goal c) which.Version (suc w.last) _ (let z = P.last in omega arith) (λ fits.
+      made : (r : Result (List Op) CommandRefused) → mon_value.value w c i ≡ r → Surely Goal (begin_made me now (origin.Session session) r (at_rest w s))
+      made (Err why) is = done (record { tells = refl; fits = tt; short = tt; unmarked = P.unmarked }, inr (record { why = why; is = is; reads = refl; phase = P.phase; says = inl refl }))
+      made (Ok v) is =
+          let fits : suc w.last ≤ 2 ^ 62 = (let z = P.last in omega arith) in
           let X = vals v is in
           let Z = sound_more w (at_rest w s) (Vote (suc w.last) s.leader.pn v) (fits, (let z = P.number in let q = P.short in omega arith)) (let z = X.short in omega arith) P.unmarked (record { tells = refl; fits = tt; short = tt; unmarked = P.unmarked }) in
-          by_test (is_alone me s.leader.quorum) (never (ap (is_alone me) P.quorum ∙ others)) (λ _. done (
+          so (values.begins me now stage.Updating v (Some (origin.Session session)) (at_rest w s) fits (ap (is_alone me) P.quorum ∙ others)) (done (
             record { tells = Z.tells; fits = Z.fits; short = Z.short; unmarked = Z.unmarked },
             inl (record {
               value = v;
@@ -303,13 +247,4 @@ module _ (ms : Monitors) (several : 1 < ms.count) (i : ℕ) (lt : ltb i ms.count
                   (subst (λ (z : ℕ). Among (send.Message g (letter n i (epoch_of w) (body.Begin s.leader.pn (suc z) v))) (map (message_to me (epoch_of w) (body.Begin s.leader.pn (suc w.last) v)) (members me a))) P.last
                   (among_map (message_to me (epoch_of w) (body.Begin s.leader.pn (suc w.last) v)) g (members me a) (among_members me a g few h ne)))));
             }),
-          )))
-
-      asks : (c : Command) → is_too_long c ≡ false → suc (service_last w (service_of c)) ≤ 2 ^ 62 → ((x : List Op) → value w c i ≡ Ok x → Val x) → Surely (Goal c) (ask me now session c (at_rest w s))
-      asks c short service vals = by_test (is_leading s.phase) (λ _. by_test (is_too_long c) (never short) (λ _. by_test (may_propose me now (at_rest w s) && not (has_queue (at_rest w s)))
-          (λ _. where_fits (Goal c) which.Version (suc (service_last w (service_of c))) (λ _. begin_made me now (origin.Session session) (value w c i) (at_rest w s)) service (λ _. made c vals (value w c i) refl)) (λ t. never t free))) (λ t. never t (ap is_leading P.phase))
-
-      by : (c : Command) → is_too_long c ≡ false → suc (service_last w (service_of c)) ≤ 2 ^ 62 → ((x : List Op) → value w c i ≡ Ok x → Val x) → Surely (Goal c) (hear_client me now session (request_of c) (at_rest w s))
-      by (command.Set k v) short service vals = asks (command.Set k v) short service vals
-      by (command.Remove k) short service vals = asks (command.Remove k) short service vals
-      by (command.Log t) short service vals = asks (command.Log t) short service vals
+          ))

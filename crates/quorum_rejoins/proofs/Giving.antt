@@ -17,13 +17,14 @@ use Rattle.mon_wire.specs.declared.parts.Cookie.{Cookie}
 use Rattle.mon_wire.specs.declared.parts.Place.{Place}
 use Rattle.mon_wire.specs.declared.phase.Phase.TheVariants as phase
 use Rattle.quorum_elects.proofs.Moving.{Sound}
-use Rattle.quorum_elects.proofs.Rows.{heard}
 use Rattle.quorum_elects.proofs.Standing.{letter}
-use Rattle.quorum_elects.proofs.Walking.{Surely, by_test, done, never, where_fits}
+use Rattle.quorum_elects.proofs.Walking.{Surely, done, so, where_fits}
 use Rattle.quorum_model.proofs.Members.{member_of}
 use Rattle.quorum_model.specs.Monitors.{Monitors}
 use Rattle.quorum_walk.proofs.Lists.{Among}
-use Rattle.std.proofs.Common.{Bool, List, None, Option, Some, [], arith, eqb, false, inl, length, ltb, not, refl, suc, true, zero, ℕ, ◌&&◌, ◌<◌, ◌^◌, ◌||◌, ◌∙◌, ◌∷◌, ◌≡◌, ◌≤◌}
+use Rattle.table_rows.proofs.Copying.{get_chunk_row, get_cookie_full_row, get_cookie_recent_row}
+use Rattle.table_rows.proofs.Hearing.{another}
+use Rattle.std.proofs.Common.{Bool, List, None, Option, Some, [], ap, arith, eqb, false, inl, length, ltb, not, refl, suc, true, zero, ℕ, ◌&&◌, ◌<◌, ◌^◌, ◌||◌, ◌∙◌, ◌∷◌, ◌≡◌, ◌≤◌}
 use Rattle.std.proofs.lemmas.Bool.{eq-eqb, le-ltb, ne_eqb}
 use Rattle.std.specs.Prelude.{filter, slice_index_or, slice_set}
 
@@ -45,10 +46,6 @@ module _ (ms : Monitors) (several : 1 < ms.count) (i : ℕ) (lt : ltb i ms.count
   abbrev Does : Readings → (Course → Type 0) → Course → Type 0
   Does w R y = Sound w y × R y
 
-  -- it hears another monitor of the map
-  pub meets : (f : ℕ) → (f ≡ i → ⊥) → (not (eqb f i) && eqb n n && true) ≡ true
-  meets f ne = λ j. not (ne_eqb f i ne j) && eq-eqb n n refl j && true
-
   -- ---- cookies
 
   abbrev pub next_cookie : Readings → State → Cookie
@@ -68,17 +65,11 @@ module _ (ms : Monitors) (several : 1 < ms.count) (i : ℕ) (lt : ltb i ms.count
 
   pub grants_full : (w : Readings) (s : State) (k e : ℕ) → (k ≡ i → ⊥) → w.marked ≡ false → same_phase s.phase phase.Booting ≡ false → s.provider.next_cookie ≤ 2 ^ 62
       → Surely (Does w (Grants k true w s)) (react me sh now w s (input.Deliver (letter n k e body.GetCookieFull)))
-  unfolding hear_get_cookie_full
-  grants_full w s k e ne unmarked up room =
-      heard ms several 0 i lt sh now (Does w (Grants k true w s)) w s k e body.GetCookieFull up (meets k ne)
-      (by_test w.marked (never unmarked) (λ _. granted k true w s unmarked room))
+  grants_full w s k e ne unmarked up room = so (get_cookie_full_row me sh now w e (another ne up) unmarked) (granted k true w s unmarked room)
 
   pub grants_recent : (w : Readings) (s : State) (k e last : ℕ) → (k ≡ i → ⊥) → w.marked ≡ false → same_phase s.phase phase.Booting ≡ false → s.provider.next_cookie ≤ 2 ^ 62 → w.first ≤ suc last
       → Surely (Does w (Grants k false w s)) (react me sh now w s (input.Deliver (letter n k e (body.GetCookieRecent last))))
-  unfolding hear_get_cookie_recent
-  grants_recent w s k e last ne unmarked up room low =
-      heard ms several 0 i lt sh now (Does w (Grants k false w s)) w s k e (body.GetCookieRecent last) up (meets k ne)
-      (by_test w.marked (never unmarked) (λ _. by_test (ltb (suc last) w.first) (never (le-ltb (suc last) w.first low)) (λ _. granted k false w s unmarked room)))
+  grants_recent w s k e last ne unmarked up room low = so (get_cookie_recent_row me sh now w e (another ne up) unmarked last low) (granted k false w s unmarked room)
 
   -- ---- chunks
 
@@ -90,12 +81,6 @@ module _ (ms : Monitors) (several : 1 < ms.count) (i : ℕ) (lt : ltb i ms.count
 
   pub gives : (w : Readings) (s : State) (k e : ℕ) (c : Cookie) (p : Place) → (k ≡ i → ⊥) → w.marked ≡ false → same_phase s.phase phase.Booting ≡ false → slice_index_or s.provider.cookies k None ≡ Some c → w.first ≤ suc p.version
       → Surely (Does w (Gives k (chunk w.last c p (filter (is_after p.key) sh) n w.record_of) w s)) (react me sh now w s (input.Deliver (letter n k e (body.GetChunk c p))))
-  unfolding hear_get_chunk
   gives w s k e c p ne unmarked up held low =
-      heard ms several 0 i lt sh now (Does w (Gives k (chunk w.last c p (filter (is_after p.key) sh) n w.record_of) w s)) w s k e (body.GetChunk c p) up (meets k ne)
-      (by_test w.marked (never unmarked) (λ _.
-      by_test (not (is_cookie c (slice_index_or s.provider.cookies k None)) || ltb (suc p.version) w.first) (never known) (λ _.
-      done (record { tells = refl; fits = tt; short = tt; unmarked = unmarked }, record { state = refl; still = refl; reads = refl; says = inl refl }))))
-    where
-      known : (not (is_cookie c (slice_index_or s.provider.cookies k None)) || ltb (suc p.version) w.first) ≡ false
-      known = (λ j. not (is_cookie c (held j)) || le-ltb (suc p.version) w.first low j) ∙ (λ j. not (same_cookie_is c j) || false)
+      so (get_chunk_row me sh now w e (another ne up) unmarked c p (ap (is_cookie c) held ∙ same_cookie_is c) low)
+      (done (record { tells = refl; fits = tt; short = tt; unmarked = unmarked }, record { state = refl; still = refl; reads = refl; says = inl refl }))

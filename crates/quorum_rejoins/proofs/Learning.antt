@@ -28,15 +28,15 @@ use Rattle.mon_wire.specs.declared.parts.Cookie.{Cookie}
 use Rattle.mon_wire.specs.declared.parts.Place.{Place}
 use Rattle.mon_wire.specs.declared.phase.Phase.TheVariants as phase
 use Rattle.quorum_elects.proofs.Moving.{Sound}
-use Rattle.quorum_elects.proofs.Rows.{heard}
 use Rattle.quorum_elects.proofs.Standing.{letter}
-use Rattle.quorum_elects.proofs.Walking.{Surely, by_test, done, never}
+use Rattle.quorum_elects.proofs.Walking.{Surely, done, so}
 use Rattle.quorum_model.proofs.Members.{member_of}
 use Rattle.quorum_model.specs.Monitors.{Monitors}
-use Rattle.quorum_rejoins.proofs.Giving.{meets}
-use Rattle.quorum_rejoins.proofs.Taking.{Chunks, Takes, is_ours_now}
+use Rattle.quorum_rejoins.proofs.Taking.{Chunks, Takes, gives_to, is_ours_now}
 use Rattle.quorum_walk.proofs.Lists.{Among}
 use Rattle.quorum_walk.proofs.Sparing.{Own, Spares, learned_own, own_of, played_more}
+use Rattle.table_rows.proofs.Copying.{chunk_row, last_chunk_row}
+use Rattle.table_rows.proofs.Starting.{probes}
 use Rattle.std.proofs.Common.{Bool, List, Ok, Result, Some, [], ap, arith, false, inl, leb, length, ltb, refl, subst, suc, sym, true, ℕ, ◌++◌, ◌+◌, ◌<◌, ◌^◌, ◌∙◌, ◌∷◌, ◌≡◌, ◌≤◌}
 use Rattle.std.proofs.lemmas.Bool.{le-leb, lt-ltb}
 use Rattle.std.proofs.lemmas.List.{length-set}
@@ -121,11 +121,8 @@ module _ (ms : Monitors) (several : 1 < ms.count) (i : ℕ) (lt : ltb i ms.count
 
   pub learns_chunk : (w : Readings) (s : State) (f e : ℕ) (c : Cookie) (start v : ℕ) (xs : List (List Op)) → (f ≡ i → ⊥) → Chunks f false c start (at_version v) s → w.marked ≡ false → w.last ≡ v → AllByRecursion IsPlain xs → v + length xs ≤ 2 ^ 62
       → Surely (λ y. Sound w y × Learns f c start v xs w y) (react me sh now w s (input.Deliver (letter n f e (body.Chunk c (at_version v) xs [] true))))
-  unfolding hear_chunk
   learns_chunk w s f e c start v xs ne C unmarked at h room =
-      heard ms several 0 i lt sh now (λ y. Sound w y × Learns f c start v xs w y) w s f e (body.Chunk c (at_version v) xs [] true) (ap (λ p. same_phase p phase.Booting) T.phase) (meets ms several i lt sh now f ne)
-      (by_test (is_ours f c (at_version v) (at_rest w s)) (λ _. subst (λ (r : Result Course Which). Surely (λ y. Sound w y × Learns f c start v xs w y) r) (sym is) (done (after (learned w s (suc v) xs) (learned_is w s v xs unmarked at h room))))
-      (λ t. never t (is_ours_now ms several i lt sh now w s f false c start (at_version v) C)))
+      so (chunk_row me sh now w e (gives_to T ne) c (at_version v) xs [] (is_ours_now s f false c start (at_version v) C) true ∙ is) (done (after (learned w s (suc v) xs) (learned_is w s v xs unmarked at h room)))
     where
       T : Takes f false sync.Chunks s
       T = C.takes
@@ -162,19 +159,15 @@ module _ (ms : Monitors) (several : 1 < ms.count) (i : ℕ) (lt : ltb i ms.count
     pub own : own_of y.readings ≡ record (own_of w) { last = v + length xs }
 
   stops : (w : Readings) (s : State) (v : ℕ) (xs : List (List Op)) (y : Course) → IsLearned w s (v + length xs) y → Surely (λ y. Sound w y × Stops v xs w y) (bootstrap me now (y ▸ requester_is (record s.requester { place = at_version (v + length xs) })))
-  unfolding bootstrap
-  stops w s v xs y L = by_test (ltb 1 n) (λ _. done (
+  stops w s v xs y L = so (probes me now _ (lt-ltb 1 n several)) (done (
     record { tells = (let S = L.sound in S.tells); fits = (let S = L.sound in S.fits); short = (let S = L.sound in S.short); unmarked = (let S = L.sound in S.unmarked) },
     record { phase = refl; own = L.own },
-  )) (λ t. never t (lt-ltb 1 n several))
+  ))
 
   pub learns_last : (w : Readings) (s : State) (f e : ℕ) (c : Cookie) (start v : ℕ) (xs : List (List Op)) (last : ℕ) → (f ≡ i → ⊥) → Chunks f false c start (at_version v) s → w.marked ≡ false → w.last ≡ v → AllByRecursion IsPlain xs → v + length xs ≤ 2 ^ 62
       → Surely (λ y. Sound w y × Stops v xs w y) (react me sh now w s (input.Deliver (letter n f e (body.LastChunk c (at_version v) xs [] last))))
-  unfolding hear_last_chunk
   learns_last w s f e c start v xs last ne C unmarked at h room =
-      heard ms several 0 i lt sh now (λ y. Sound w y × Stops v xs w y) w s f e (body.LastChunk c (at_version v) xs [] last) (ap (λ p. same_phase p phase.Booting) T.phase) (meets ms several i lt sh now f ne)
-      (by_test (is_ours f c (at_version v) (at_rest w s)) (λ _. subst (λ (r : Result Course Which). Surely (λ y. Sound w y × Stops v xs w y) r) (sym is) (stops w s v xs (learned w s (suc v) xs) (learned_is w s v xs unmarked at h room)))
-      (λ t. never t (is_ours_now ms several i lt sh now w s f false c start (at_version v) C)))
+      so (last_chunk_row me sh now w e (gives_to T ne) c (at_version v) xs [] (is_ours_now s f false c start (at_version v) C) last ∙ is) (stops w s v xs (learned w s (suc v) xs) (learned_is w s v xs unmarked at h room))
     where
       T : Takes f false sync.Chunks s
       T = C.takes

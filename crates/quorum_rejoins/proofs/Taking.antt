@@ -32,14 +32,17 @@ use Rattle.mon_wire.specs.declared.parts.Cookie.{Cookie}
 use Rattle.mon_wire.specs.declared.parts.Place.{Place}
 use Rattle.mon_wire.specs.declared.phase.Phase.TheVariants as phase
 use Rattle.mon_wire.specs.declared.phase.Timer.TheVariants as timer
-use Rattle.quorum_elects.proofs.Rows.{counted, heard, probing}
+use Rattle.quorum_elects.proofs.Rows.{counted}
 use Rattle.quorum_elects.proofs.Standing.{SaysAll, among_map, among_others, letter}
-use Rattle.quorum_elects.proofs.Walking.{Surely, by_test, done, never, where_fits}
+use Rattle.quorum_elects.proofs.Walking.{Surely, by_test, done, never, so}
 use Rattle.quorum_elects.specs.Ready.{HasRoom}
 use Rattle.quorum_model.proofs.Members.{member_of}
 use Rattle.quorum_model.specs.Monitors.{Monitors}
-use Rattle.quorum_rejoins.proofs.Giving.{meets, same_cookie_is}
+use Rattle.quorum_rejoins.proofs.Giving.{same_cookie_is}
 use Rattle.quorum_walk.proofs.Lists.{Among}
+use Rattle.table_rows.proofs.Copying.{chunk_row, cookie_row, last_chunk_row, step_row}
+use Rattle.table_rows.proofs.Hearing.{IsProvider}
+use Rattle.table_rows.proofs.Starting.{asks_recent_row, copies_again_row, copies_row, probes, probing, start_row}
 use Rattle.std.proofs.Common.{Bool, List, None, Ok, Option, Result, Some, [], ap, arith, eqb, false, inl, inr, leb, length, ltb, not, refl, subst, suc, sym, true, ℕ, ◌&&◌, ◌+◌, ◌-◌, ◌<◌, ◌^◌, ◌||◌, ◌∙◌, ◌∷◌, ◌≡◌, ◌≤◌, ◌⊎◌}
 use Rattle.std.proofs.lemmas.Bool.{eq-eqb, le-leb, lt-ltb}
 use Rattle.std.proofs.lemmas.List.{length-set}
@@ -95,6 +98,15 @@ pub record Chunks (f : ℕ) (whole : Bool) (c : Cookie) (first : ℕ) (p : Place
   pub start : s.requester.start ≡ first
   pub place : s.requester.place ≡ p
 
+pub gives_to : {me : Me} {f : ℕ} {whole : Bool} {kind : SyncStage} {s : State} → Takes f whole kind s → (f ≡ me.member.rank → ⊥) → IsProvider me s f
+gives_to T ne = record { other = ne; takes = T.phase; provider = T.provider }
+
+-- a chunk for its place is its own
+pub is_ours_now : (s : State) (f : ℕ) (full : Bool) (c : Cookie) (start : ℕ) (p : Place) → Chunks f full c start p s → (takes_chunks s.requester.stage && is_cookie c s.requester.cookie && same_place p s.requester.place) ≡ true
+is_ours_now s f full c start p C =
+    let T = C.takes in
+    (λ j. takes_chunks (T.stage j) && is_cookie c (C.cookie j) && same_place p (C.place j)) ∙ (λ j. true && same_cookie_is c j && same_place_is p j)
+
 module _ (ms : Monitors) (several : 1 < ms.count) (i : ℕ) (lt : ltb i ms.count ≡ true) (sh : List Entry) (now : ℕ) where
   abbrev n : ℕ
   n = ms.count
@@ -121,10 +133,10 @@ module _ (ms : Monitors) (several : 1 < ms.count) (i : ℕ) (lt : ltb i ms.count
   none_one (Some e) t = absurd cc
 
   pub begins : (w : Readings) → HasRoom w.boot → Surely (Begins w) (react me sh now w (booting i) input.Start)
-  unfolding react start bootstrap
-  begins w boot = where_fits (Begins w) which.Boot (suc w.boot) _ (omega arith) (λ fits. by_test (ltb 1 n) (λ _. by fits (not (is_some w.epoch)) refl) (λ t. never t (lt-ltb 1 n several)))
+  begins w boot =
+      so (start_row me sh now w (booting i) refl (omega arith) ∙ probes me now (counted ms several 0 i lt sh now w (not (is_some w.epoch))) (lt-ltb 1 n several)) (by (omega arith) (not (is_some w.epoch)) refl)
     where
-      by : suc w.boot ≤ 2 ^ 62 → (b : Bool) → not (is_some w.epoch) ≡ b → Surely (Begins w) (Ok (probing ms several 0 i lt sh now (counted ms several 0 i lt sh now w b)))
+      by : suc w.boot ≤ 2 ^ 62 → (b : Bool) → not (is_some w.epoch) ≡ b → Surely (Begins w) (Ok (probing me now (counted ms several 0 i lt sh now w b)))
       by fits true t = done (record {
         phase = refl;
         provider = refl;
@@ -178,13 +190,10 @@ module _ (ms : Monitors) (several : 1 < ms.count) (i : ℕ) (lt : ltb i ms.count
 
   pub must_copy : (w : Readings) (s : State) (f e : ℕ) (quorum : List Bool) (first last : ℕ) → (f ≡ i → ⊥) → s.phase ≡ phase.Probing → MustCopy w first last
       → Surely (Marks f w) (react me sh now w s (input.Deliver (letter n f e (body.ProbeReply quorum first last))))
-  unfolding hear_probe_reply
-  must_copy w s f e quorum first last ne is why =
-      heard ms several 0 i lt sh now (Marks f w) w s f e (body.ProbeReply quorum first last) (ap (λ p. same_phase p phase.Booting) is) (meets ms several i lt sh now f ne)
-      (by_test (not (same_phase s.phase phase.Probing)) (never (ap (λ p. not (same_phase p phase.Probing)) is)) (λ _. elim why [
-        | inl k ↦ by_test w.marked (λ _. by_test (leb 1 last && leb w.floor last) (λ _. marks f w s is) (λ t. never t (λ j. le-leb 1 last k.1 j && le-leb w.floor last k.2 j))) (λ t. never t k.0)
-        | inr k ↦ by_test w.marked (never k.0) (λ _. by_test (ltb w.last first && ltb 1 first) (λ _. marks f w s is) (λ t. never t (λ j. lt-ltb w.last first k.1 j && lt-ltb 1 first k.2 j)))
-      ]))
+  must_copy w s f e quorum first last ne is why = elim why [
+    | inl k ↦ so (copies_again_row me sh now w s e quorum first last ne is k.0 k.1 k.2) (marks f w s is)
+    | inr k ↦ so (copies_row me sh now w s e quorum first last ne is k.0 k.1 k.2) (marks f w s is)
+  ]
 
   -- ---- a recent copy begins
 
@@ -196,13 +205,9 @@ module _ (ms : Monitors) (several : 1 < ms.count) (i : ℕ) (lt : ltb i ms.count
 
   pub must_ask : (w : Readings) (s : State) (f e : ℕ) (quorum : List Bool) (first last : ℕ) → (f ≡ i → ⊥) → s.phase ≡ phase.Probing → w.marked ≡ false → (ltb w.last first && ltb 1 first) ≡ false → w.last + lag < last
       → Surely (Asks f w) (react me sh now w s (input.Deliver (letter n f e (body.ProbeReply quorum first last))))
-  unfolding hear_probe_reply recent_sync
+  unfolding recent_sync
   must_ask w s f e quorum first last ne is unmarked near late =
-      heard ms several 0 i lt sh now (Asks f w) w s f e (body.ProbeReply quorum first last) (ap (λ p. same_phase p phase.Booting) is) (meets ms several i lt sh now f ne)
-      (by_test (not (same_phase s.phase phase.Probing)) (never (ap (λ p. not (same_phase p phase.Probing)) is)) (λ _.
-      by_test w.marked (never unmarked) (λ _.
-      by_test (ltb w.last first && ltb 1 first) (never near) (λ _.
-      by_test (ltb (w.last + lag) last) (λ _. done (record {
+      so (asks_recent_row me sh now w s e quorum first last ne is unmarked near late) (done (record {
         takes = record {
           phase = refl;
           provider = refl;
@@ -213,7 +218,7 @@ module _ (ms : Monitors) (several : 1 < ms.count) (i : ℕ) (lt : ltb i ms.count
         still = refl;
         reads = refl;
         says = inl refl;
-      })) (λ t. never t (lt-ltb (w.last + lag) last late))))))
+      }))
 
   -- ---- a cookie
 
@@ -229,10 +234,8 @@ module _ (ms : Monitors) (several : 1 < ms.count) (i : ℕ) (lt : ltb i ms.count
 
   pub takes_cookie : (w : Readings) (s : State) (f e : ℕ) (full : Bool) (c : Cookie) (last : ℕ) → (f ≡ i → ⊥) → Takes f full sync.Cookie s → (full && ltb last w.floor) ≡ false
       → Surely (Asked f full c (first_place full last w.last) w) (react me sh now w s (input.Deliver (letter n f e (body.Cookie full c last))))
-  unfolding hear_cookie
   takes_cookie w s f e full c last ne T low =
-      heard ms several 0 i lt sh now (Asked f full c (first_place full last w.last) w) w s f e (body.Cookie full c last) (ap (λ p. same_phase p phase.Booting) T.phase) (meets ms several i lt sh now f ne)
-      (by_test (not (of_provider f (at_rest w s) && awaits_cookie s.requester.stage && same_flag full s.requester.full) || (full && ltb last w.floor)) (never (λ j. not (ours j) || low j)) (λ _. done (record {
+      so (cookie_row me sh now w e (gives_to T ne) full c last (ap awaits_cookie T.stage) (ap (same_flag full) T.full ∙ same_flag_is full) low) (done (record {
         chunks = record {
           takes = record { phase = T.phase; provider = T.provider; full = T.full; stage = refl; timers = subst (λ (k : ℕ). 8 < k) (sym (length-set s.timers 7 (Some _))) T.timers };
           cookie = refl;
@@ -242,18 +245,9 @@ module _ (ms : Monitors) (several : 1 < ms.count) (i : ℕ) (lt : ltb i ms.count
         still = refl;
         reads = refl;
         says = inl (ap (λ (z : ℕ). send.Message z (letter n i (epoch_of w) (body.GetChunk c (first_place full last w.last)))) (sym T.provider));
-      })))
-    where
-      ours : (of_provider f (at_rest w s) && awaits_cookie s.requester.stage && same_flag full s.requester.full) ≡ true
-      ours = (λ j. (same_phase (T.phase j) phase.Synchronizing && eqb f (T.provider j)) && awaits_cookie (T.stage j) && same_flag full (T.full j)) ∙ (λ j. (true && eq-eqb f f refl j) && true && same_flag_is full j)
+      }))
 
   -- ---- chunks
-
-  pub is_ours_now : (w : Readings) (s : State) (f : ℕ) (full : Bool) (c : Cookie) (start : ℕ) (p : Place) → Chunks f full c start p s → is_ours f c p (at_rest w s) ≡ true
-  is_ours_now w s f full c start p C =
-      let T = C.takes in
-      (λ j. (same_phase (T.phase j) phase.Synchronizing && eqb f (T.provider j)) && takes_chunks (T.stage j) && is_cookie c (C.cookie j) && same_place p (C.place j))
-      ∙ (λ j. (true && eq-eqb f f refl j) && true && same_cookie_is c j && same_place_is p j)
 
   -- a chunk of a whole copy, with entries alone
   abbrev filled : Readings → State → Place → List Entry → Bool → Course
@@ -270,10 +264,8 @@ module _ (ms : Monitors) (several : 1 < ms.count) (i : ℕ) (lt : ltb i ms.count
 
   pub takes_chunk : (w : Readings) (s : State) (f e : ℕ) (c : Cookie) (start : ℕ) (p : Place) (entries : List Entry) → (f ≡ i → ⊥) → Chunks f true c start p s → p.version ≤ 2 ^ 62
       → Surely (Copies f c start p entries w) (react me sh now w s (input.Deliver (letter n f e (body.Chunk c p [] entries false))))
-  unfolding hear_chunk
   takes_chunk w s f e c start p entries ne C room =
-      heard ms several 0 i lt sh now (Copies f c start p entries w) w s f e (body.Chunk c p [] entries false) (ap (λ p. same_phase p phase.Booting) T.phase) (meets ms several i lt sh now f ne)
-      (by_test (is_ours f c p (at_rest w s)) (λ _. subst (λ (r : Result Course Which). Surely (Copies f c start p entries w) r) (sym is) (done (record {
+      so (chunk_row me sh now w e (gives_to T ne) c p [] entries (is_ours_now s f true c start p C) false ∙ is) (done (record {
         chunks = record {
           takes = record { phase = T.phase; provider = T.provider; full = T.full; stage = T.stage; timers = subst (λ (k : ℕ). 8 < k) (sym (length-set s.timers 7 (Some _))) T.timers };
           cookie = C.cookie;
@@ -283,7 +275,7 @@ module _ (ms : Monitors) (several : 1 < ms.count) (i : ℕ) (lt : ltb i ms.count
         changes = refl;
         reads = refl;
         says = inl (λ j. send.Message (sym T.provider j) (letter n i (epoch_of (played (copy_changes entries) w)) (body.GetChunk c (record { version = sym same j; key = after_entries entries p.key }))));
-      }))) (λ t. never t (is_ours_now w s f true c start p C)))
+      }))
     where
       T : Takes f true sync.Chunks s
       T = C.takes
@@ -307,15 +299,13 @@ module _ (ms : Monitors) (several : 1 < ms.count) (i : ℕ) (lt : ltb i ms.count
 
   pub takes_last : (w : Readings) (s : State) (f e : ℕ) (c : Cookie) (start : ℕ) (p : Place) (entries : List Entry) (last : ℕ) → (f ≡ i → ⊥) → Chunks f true c start p s → p.version ≤ 2 ^ 62 → suc start ≤ 2 ^ 62
       → Surely (Replays f start last entries w) (react me sh now w s (input.Deliver (letter n f e (body.LastChunk c p [] entries last))))
-  unfolding hear_last_chunk
   takes_last w s f e c start p entries last ne C room more =
-      heard ms several 0 i lt sh now (Replays f start last entries w) w s f e (body.LastChunk c p [] entries last) (ap (λ p. same_phase p phase.Booting) T.phase) (meets ms several i lt sh now f ne)
-      (by_test (is_ours f c p (at_rest w s)) (λ _. subst (λ (r : Result Course Which). Surely (Replays f start last entries w) r) (sym is) (done (record {
+      so (last_chunk_row me sh now w e (gives_to T ne) c p [] entries (is_ours_now s f true c start p C) last ∙ is) (done (record {
         takes = record { phase = T.phase; provider = T.provider; full = T.full; stage = ap (λ (z : ℕ). sync.Replay (suc z) last) C.start; timers = subst (λ (k : ℕ). 8 < k) (sym (length-set (slice_set s.timers 7 None) 8 (Some _))) long };
         armed_now = armed_step (slice_set s.timers 7 None) _ long;
         changes = refl;
         reads = refl;
-      }))) (λ t. never t (is_ours_now w s f true c start p C)))
+      }))
     where
       T : Takes f true sync.Chunks s
       T = C.takes
@@ -337,16 +327,11 @@ module _ (ms : Monitors) (several : 1 < ms.count) (i : ℕ) (lt : ltb i ms.count
     pub reads : y.readings ≡ play Unmark (play (Last t) w)
 
   pub ends : (w : Readings) (s : State) (f t : ℕ) → Takes f true (sync.Replay (suc t) t) s → is_armed timer.Step s.timers ≡ true → Surely (Ends t w) (react me sh now w s (input.Timer timer.Step))
-  unfolding react replay_step step_of bootstrap
+  unfolding step_of
   ends w s f t T on =
-      by_test (same_phase s.phase phase.Booting) (never (ap (λ p. same_phase p phase.Booting) T.phase)) (λ _.
-      by_test (is_armed timer.Step s.timers) (λ _.
-      by_test (same_phase s.phase phase.Synchronizing) (λ _.
-      subst (λ (z : SyncStage). Surely (Ends t w) (step_in me now z x1)) (sym T.stage)
+      so (step_row me sh now w s T.phase on (suc t) t T.stage)
       (subst (λ (k : ℕ). Surely (Ends t w) (replay_any me now (suc t) t (step_of w.record_of k (suc t)) x1)) (sym none)
-      (by_test (ltb t (suc t + 0)) (λ _. by_test (ltb 1 n) (λ _. done (record { phase = refl; changes = refl; reads = refl })) (λ t. never t (lt-ltb 1 n several))) (λ u. never u (lt-ltb t (suc t + 0) (omega arith))))))
-      (λ t. never t (ap (λ p. same_phase p phase.Synchronizing) T.phase)))
-      (λ t. never t on))
+      (by_test (ltb t (suc t + 0)) (λ _. so (probes me now _ (lt-ltb 1 n several)) (done (record { phase = refl; changes = refl; reads = refl }))) (λ u. never u (lt-ltb t (suc t + 0) (omega arith)))))
     where
       x1 : Course
       x1 = disarm timer.Step (at_rest w s)

@@ -3,10 +3,8 @@ use Rattle.mon_bytes.specs.declared.entry.Entry.{Entry}
 use Rattle.mon_lease.specs.Lease as lease
 use Rattle.mon_msg.specs.Protocol.Changes.{Last, Learn, Vote}
 use Rattle.mon_msg.specs.Protocol.Course.{Course, arm, change, change_all, disarm_if, leader_is, peon_is, ◌▸◌}
-use Rattle.mon_msg.specs.Protocol.Leader.{hear_accept, hear_lease_ack, renew}
-use Rattle.mon_msg.specs.Protocol.Leading.{be_active, commit, extend}
-use Rattle.mon_msg.specs.Protocol.Learning.{learn}
-use Rattle.mon_msg.specs.Protocol.Peon.{cancel, hear_begin, hear_commit, hear_lease}
+use Rattle.mon_msg.specs.Protocol.Leading.{be_active, extend}
+use Rattle.mon_msg.specs.Protocol.Peon.{cancel}
 use Rattle.mon_msg.specs.Protocol.Played.{played}
 use Rattle.mon_msg.specs.Protocol.Readings.{Readings, epoch_of, promise_of}
 use Rattle.mon_msg.specs.Protocol.Records.{pending}
@@ -27,15 +25,10 @@ use Rattle.mon_wire.specs.declared.reply.Reply.TheVariants as reply
 use Rattle.quorum_model.proofs.Members.{member_of}
 use Rattle.quorum_model.specs.Monitors.{Monitors}
 use Rattle.quorum_stays.proofs.Timers.{extended_timers, maybe_armed}
-use Rattle.std.proofs.Common.{Bool, List, None, Ok, Some, [], arith, false, ltb, map, not, refl, suc, sym, true, ℕ, ◌+◌, ◌++◌, ◌-◌, ◌^◌, ◌∷◌, ◌≡◌, ◌≤◌}
-use Rattle.std.proofs.lemmas.Bool.{eq-eqb, le-leb, le-ltb, ne_eqb}
+use Rattle.table_rows.proofs.Hearing.{IsLeader, IsMember}
+use Rattle.table_rows.proofs.Values as rows
+use Rattle.std.proofs.Common.{Bool, List, None, Ok, Some, [], false, inr, ltb, map, not, refl, suc, sym, true, ℕ, ◌++◌, ◌^◌, ◌∙◌, ◌∷◌, ◌≡◌, ◌≤◌}
 use Rattle.std.specs.Prelude.{is_some}
-
--- one value is learned
-learned : (v : ℕ) (x : List Op) (y : Course) → suc v ≤ 2 ^ 62
-    → learn (suc v) (x ∷ []) y ≡ Ok (y ▸ change_all (Learn (suc v) x ∷ []) ▸ change (Last (suc v)))
-unfolding learn
-learned v x y fits = let same : suc v + 0 ≡ suc v = omega arith in rw same (rw (le-leb (suc v) (2 ^ 62) fits) refl)
 
 module _ (ms : Monitors) (i : ℕ) (lt : ltb i ms.count ≡ true) (sh : List Entry) (now : ℕ) (w : Readings) (s : State) where
   abbrev me : Me
@@ -44,44 +37,39 @@ module _ (ms : Monitors) (i : ℕ) (lt : ltb i ms.count ≡ true) (sh : List Ent
   -- ---- a peon
 
   module _ (f e : ℕ) (nf : f ≡ i → ⊥) (follows : s.phase ≡ phase.Peon) (leader : s.peon.leader ≡ f) (epoch : epoch_of w ≡ e) where
+    led : IsLeader me w s f e
+    led = record { other = nf; follows = follows; epoch = epoch; leader = leader }
+
     pub commit_row : (x : List Op) → suc w.last ≤ 2 ^ 62
         → react me sh now w s (input.Deliver (record { from = f; monitors = ms.count; epoch = e; body = body.Commit (suc w.last) (x ∷ []) }))
         ≡ Ok (at_rest w s ▸ change_all (Learn (suc w.last) x ∷ []) ▸ change (Last (suc w.last)))
-    unfolding react hear_commit
-    commit_row x fits =
-        let none : suc w.last - suc w.last ≡ 0 = omega arith in
-        rw (follows, ne_eqb f i nf, eq-eqb ms.count ms.count refl, eq-eqb e (epoch_of w) (sym epoch), eq-eqb f s.peon.leader (sym leader), le-ltb (suc w.last) (suc w.last) (omega arith), none)
-        (learned w.last x (at_rest w (record s { phase = phase.Peon })) fits)
+    commit_row x fits = rows.commit_row me sh now led (suc w.last) x refl fits
 
     pub lease_row : is_some (pending w) ≡ false
         → react me sh now w s (input.Deliver (record { from = f; monitors = ms.count; epoch = e; body = body.Lease w.last }))
         ≡ Ok (at_rest w s ▸ peon_is (record s.peon { lease = lease.extended now }) ▸ arm now timer.Lease ▸ send me f (body.LeaseAck w.last))
-    unfolding react hear_lease
-    lease_row settled =
-        rw (follows, ne_eqb f i nf, eq-eqb ms.count ms.count refl, eq-eqb e (epoch_of w) (sym epoch), eq-eqb f s.peon.leader (sym leader), eq-eqb w.last w.last refl, settled) refl
+    lease_row settled = rows.lease_row me sh now led w.last refl settled
 
     pub begin_row : (x : List Op)
         → react me sh now w s (input.Deliver (record { from = f; monitors = ms.count; epoch = e; body = body.Begin (promise_of w) (suc w.last) x }))
         ≡ Ok (at_rest w s ▸ change (Vote (suc w.last) (promise_of w) x) ▸ cancel ▸ send me f (body.Accept (promise_of w) (suc w.last)))
-    unfolding react hear_begin
-    begin_row x =
-        rw (follows, ne_eqb f i nf, eq-eqb ms.count ms.count refl, eq-eqb e (epoch_of w) (sym epoch), eq-eqb f s.peon.leader (sym leader), eq-eqb (promise_of w) (promise_of w) refl, eq-eqb (suc w.last) (suc w.last) refl) refl
+    begin_row x = rows.begin_row me sh now led (promise_of w) (suc w.last) x refl refl
 
   -- ---- the leader
 
   module _ (f e : ℕ) (nf : f ≡ i → ⊥) (member : has s.leader.quorum f ≡ true) (epoch : epoch_of w ≡ e) where
+    is_member : s.phase ≡ phase.Active → IsMember me w s phase.Active f e
+    is_member leads = record { other = nf; leads = leads; epoch = epoch; member = member }
+
     pub ack_row : s.phase ≡ phase.Active
         → react me sh now w s (input.Deliver (record { from = f; monitors = ms.count; epoch = e; body = body.LeaseAck w.last }))
         ≡ Ok (at_rest w s ▸ leader_is (record s.leader { acks = with_rank s.leader.acks f }) ▸ disarm_if (are_within ms.count s.leader.quorum (with_rank s.leader.acks f)) timer.LeaseAck)
-    unfolding react hear_lease_ack
-    ack_row leads =
-        rw (leads, ne_eqb f i nf, eq-eqb ms.count ms.count refl, eq-eqb e (epoch_of w) (sym epoch), member, eq-eqb w.last w.last refl) refl
+    ack_row leads = rows.lease_ack_row me sh now (is_member leads) w.last refl
 
     -- one that comes while a value is in progress
     pub late_ack_row : (v : ℕ) → s.phase ≡ phase.Updating
         → react me sh now w s (input.Deliver (record { from = f; monitors = ms.count; epoch = e; body = body.LeaseAck v })) ≡ Ok (at_rest w s)
-    unfolding react hear_lease_ack
-    late_ack_row v leads = rw (leads, ne_eqb f i nf, eq-eqb ms.count ms.count refl) refl
+    late_ack_row v leads = rows.late_lease_ack_row me sh now w s e nf leads v
 
   -- the leases are renewed
   abbrev pub renews : Course
@@ -96,8 +84,8 @@ module _ (ms : Monitors) (i : ℕ) (lt : ltb i ms.count ≡ true) (sh : List Ent
   }
 
   pub renew_row : s.phase ≡ phase.Active → is_some (end_of timer.Renew s.timers) ≡ true → react me sh now w s (input.Timer timer.Renew) ≡ Ok renews
-  unfolding react renew extend
-  renew_row leads armed = rw (leads, armed) refl
+  unfolding extend
+  renew_row leads armed = rows.renew_row me sh now w s leads armed
 
   -- ---- a value in progress
 
@@ -106,12 +94,13 @@ module _ (ms : Monitors) (i : ℕ) (lt : ltb i ms.count ≡ true) (sh : List Ent
     proposing = record s { phase = phase.Updating; leader = record s.leader { quorum = q; pn = pn; value = Some x } }
 
     module _ (f e : ℕ) (nf : f ≡ i → ⊥) (member : has q f ≡ true) (epoch : epoch_of w ≡ e) where
+      proposes_to : IsMember me w proposing phase.Updating f e
+      proposes_to = record { other = nf; leads = refl; epoch = epoch; member = member }
+
       pub accept_row : are_within ms.count q (with_rank s.leader.accepted f) ≡ false
           → react me sh now w proposing (input.Deliver (record { from = f; monitors = ms.count; epoch = e; body = body.Accept pn (suc w.last) }))
           ≡ Ok (at_rest w proposing ▸ leader_is (record (proposing.leader) { accepted = with_rank s.leader.accepted f }))
-      unfolding react hear_accept
-      accept_row more =
-          rw (ne_eqb f i nf, eq-eqb ms.count ms.count refl, eq-eqb e (epoch_of w) (sym epoch), member, eq-eqb pn pn refl, eq-eqb (suc w.last) (suc w.last) refl, more) refl
+      accept_row more = rows.accept_row me sh now (inr refl) proposes_to pn (suc w.last) refl refl more
 
       -- what the store's readers return after the commit
       abbrev pub after_commit : Readings
@@ -142,7 +131,6 @@ module _ (ms : Monitors) (i : ℕ) (lt : ltb i ms.count ≡ true) (sh : List Ent
 
       pub last_accept_row : are_within ms.count q (with_rank s.leader.accepted f) ≡ true → suc w.last ≤ 2 ^ 62
           → react me sh now w proposing (input.Deliver (record { from = f; monitors = ms.count; epoch = e; body = body.Accept pn (suc w.last) })) ≡ Ok commits
-      unfolding react hear_accept commit be_active extend
+      unfolding be_active extend
       last_accept_row all fits =
-          rw (ne_eqb f i nf, eq-eqb ms.count ms.count refl, eq-eqb e (epoch_of w) (sym epoch), member, eq-eqb pn pn refl, eq-eqb (suc w.last) (suc w.last) refl, all)
-          (rw (learned w.last x (at_rest w proposing ▸ leader_is (record (proposing.leader) { accepted = with_rank s.leader.accepted f })) fits) refl)
+          rows.last_accept_row me sh now (inr refl) proposes_to pn (suc w.last) refl refl all x refl ∙ rows.commits me now x (rows.accepted w proposing f) fits
