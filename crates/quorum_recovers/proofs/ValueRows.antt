@@ -161,26 +161,26 @@ module _ (ms : Monitors) (several : 1 < ms.count) (i : ℕ) (lt : ltb i ms.count
       by true t = so (last_accept_row me sh now which_phase (proposes_to P ne h) pn (suc l) (sym P.number) (ap suc (sym P.last)) t value P.proposes)
           (weaken (Does w (Commits e a l pn value o)) Goal (commit me now value (accepted w s f)) (λ y k. (k.0, inr k.1)) (committed w s ph e a l pn A value o P X f))
       by false t = so (accept_row me sh now which_phase (proposes_to P ne h) pn (suc l) (sym P.number) (ap suc (sym P.last)) t) (done (
-            record { tells = refl; fits = tt; short = tt; unmarked = P.unmarked },
-            inl (
-              record {
-                unmarked = P.unmarked;
-                epoch = P.epoch;
-                last = P.last;
-                promised = P.promised;
-                short = P.short;
-                room = P.room;
-                phase = P.phase;
-                quorum = P.quorum;
-                number = P.number;
-                accepted = ap (λ (b : List Bool). with_rank b f) P.accepted;
-                proposes = P.proposes;
-                origin = P.origin;
-                queue = P.queue;
-              },
-              (λ j. are_within n (sym P.quorum j) (with_rank (sym P.accepted j) f)) ∙ t,
-            ),
-          ))
+        record { tells = refl; fits = tt; short = tt; unmarked = P.unmarked },
+        inl (
+          record {
+            unmarked = P.unmarked;
+            epoch = P.epoch;
+            last = P.last;
+            promised = P.promised;
+            short = P.short;
+            room = P.room;
+            phase = P.phase;
+            quorum = P.quorum;
+            number = P.number;
+            accepted = ap (λ (b : List Bool). with_rank b f) P.accepted;
+            proposes = P.proposes;
+            origin = P.origin;
+            queue = P.queue;
+          },
+          (λ j. are_within n (sym P.quorum j) (with_rank (sym P.accepted j) f)) ∙ t,
+        ),
+      ))
 
   -- ---- a client asks
 
