@@ -185,7 +185,6 @@ module _ (me : Me) (several : 1 < me.member.monitors) (now : ℕ) (x y : Course)
 
     pub hears_else : (shared : List Entry) (f t : ℕ) (b : Body) → IsElse b → hear me shared now f t b x ≡ Ok y → Still x y
     hears_else shared f t body.Probe h e = probe f e
-    hears_else shared f t (body.ProbeReply quorum first own) h e = absurd h
     hears_else shared f t (body.Propose table) h e = propose f t table e
     hears_else shared f t body.Ack h e = ack f t e
     hears_else shared f t (body.Victory quorum) h e = victory f t quorum e
@@ -200,15 +199,13 @@ module _ (me : Me) (several : 1 < me.member.monitors) (now : ℕ) (x y : Course)
     hears_else shared f t (body.Route seq r) h e = route f t seq r e
     hears_else shared f t body.GetCookieFull h e = get_cookie_full f e
     hears_else shared f t (body.GetCookieRecent own) h e = get_cookie_recent f own e
-    hears_else shared f t (body.Cookie full cookie own) h e = absurd h
     hears_else shared f t (body.GetChunk cookie p) h e = get_chunk shared f cookie p e
-    hears_else shared f t (body.Chunk cookie p values entries done) h e = absurd h
-    hears_else shared f t (body.LastChunk cookie p values entries own) h e = absurd h
     hears_else shared f t (body.NoCookie cookie) h e = no_cookie f cookie e
     hears_else shared f t (body.Ping table) h e = ping_comes f table e
     hears_else shared f t (body.PingReply table) h e = ping_reply f table e
     hears_else shared f t (body.Request id r) h e = drops e
     hears_else shared f t (body.Reply id r) h e = drops e
+    hears_else shared f t other h e = absurd h
 
     -- ---- clients
 
@@ -251,14 +248,9 @@ module _ (me : Me) (several : 1 < me.member.monitors) (now : ℕ) (x y : Course)
     IsElseTimer other = Unit {0}
 
     pub rings_else : (t : Timer) → IsElseTimer t → timer_comes me now t x ≡ Ok y → Still x y
-    rings_else timer.Probe h e = anew e
     rings_else timer.Election h e = election e
-    rings_else timer.Collect h e = anew e
-    rings_else timer.Accept h e = anew e
     rings_else timer.Renew h e = renews e
-    rings_else timer.LeaseAck h e = anew e
-    rings_else timer.Lease h e = anew e
-    rings_else timer.Sync h e = anew e
     rings_else timer.Step h e = absurd h
     rings_else timer.Propose h e = proposes e
     rings_else timer.Ping h e = pings e
+    rings_else other h e = anew e

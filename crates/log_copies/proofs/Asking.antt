@@ -282,17 +282,12 @@ module _ (log : List (List ℕ)) (me : Me) (several : 1 < me.member.monitors) (n
 
     rings : (t : Timer) → Then Matches (timer_comes me now t x)
     unfolding election_ends renew propose_due ping
-    rings timer.Probe = anew x H
     rings timer.Election = rw A.electing (stay x H)
-    rings timer.Collect = anew x H
-    rings timer.Accept = anew x H
     rings timer.Renew = rw A.active (stay x H)
-    rings timer.LeaseAck = anew x H
-    rings timer.Lease = anew x H
-    rings timer.Sync = anew x H
     rings timer.Step = steps x H
     rings timer.Propose = rw A.active (stay x H)
     rings timer.Ping = done Matches _ (says_each (epoch_of x.readings) (body.Ping (own_table me (elector_is (measure me now x.state.elector) x))) (others me) tt H)
+    rings other = anew x H
 
   -- ---- one that starts
 

@@ -33,13 +33,7 @@ begun = phase.Previous ∷ phase.Updating ∷ []
 pub begun_is : (p : Phase) → is_one_of begun p ≡ true → (p ≡ phase.Previous) ⊎ (p ≡ phase.Updating)
 begun_is phase.Previous e = inl refl
 begun_is phase.Updating e = inr refl
-begun_is phase.Booting e = no e
-begun_is phase.Probing e = no e
-begun_is phase.Synchronizing e = no e
-begun_is phase.Electing e = no e
-begun_is phase.Collecting e = no e
-begun_is phase.Active e = no e
-begun_is phase.Peon e = no e
+begun_is other e = no e
 
 pub then_map : {A : Type 0} (P Q : A → Type 0) (r : Result A Which) → ((x : A) → P x → Q x) → Then P r → Then Q r
 then_map P Q (Ok x) f k = record { holds = f x k.holds }

@@ -99,15 +99,11 @@ pub peon_leads_not : (p : Phase) → is_peon p ≡ true → is_leading p ≡ fal
 peon_leads_not p e = ap is_leading (peon_is_peon p e)
 
 sync_leads_not : (p : Phase) → same_phase p phase.Synchronizing ≡ true → is_leading p ≡ false
-sync_leads_not phase.Synchronizing t = refl
-sync_leads_not phase.Booting t = refl
-sync_leads_not phase.Probing t = refl
-sync_leads_not phase.Electing t = refl
 sync_leads_not phase.Collecting t = no t
 sync_leads_not phase.Previous t = no t
 sync_leads_not phase.Active t = no t
 sync_leads_not phase.Updating t = no t
-sync_leads_not phase.Peon t = refl
+sync_leads_not other t = refl
 
 -- ---- an event, from what the store's readers returned and what was remembered before it
 
@@ -235,12 +231,7 @@ module _ (me : Me) (now : ℕ) (w : Readings) (s : State) (From : ℕ → Comman
   leads_not phase.Collecting l e t = no (sym t)
   leads_not phase.Previous l e t = no (sym t)
   leads_not phase.Updating l e t = no (sym t)
-  leads_not phase.Booting l e t = tt
-  leads_not phase.Probing l e t = tt
-  leads_not phase.Synchronizing l e t = tt
-  leads_not phase.Electing l e t = tt
-  leads_not phase.Active l e t = tt
-  leads_not phase.Peon l e t = tt
+  leads_not other l e t = tt
 
   peon_lead : (p : Phase) (l : Leader) (e : ℕ) → is_peon p ≡ true → Lead p l e
   peon_lead p l e t = leads_not p l e (peon_leads_not p t)

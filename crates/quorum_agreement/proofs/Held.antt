@@ -147,13 +147,7 @@ module _ (ms : Monitors) (w : World) (J : InvOf ms w) (a : Acknowledged) (H : Is
     in_phase_has : (p : Phase) → s.phase ≡ p → is_active p ≡ true → InPhase n J.g i c p → a.what.pn ≤ s.leader.pn → a.what.version ≤ (readings_at w i).last
     in_phase_has phase.Active e t k = leads_has _ (ap is_active e) (ap has_heard e) k.0
     in_phase_has phase.Updating e t k = leads_has _ (ap is_active e) (ap has_heard e) k.0
-    in_phase_has phase.Booting e t k = no t
-    in_phase_has phase.Probing e t k = no t
-    in_phase_has phase.Synchronizing e t k = no t
-    in_phase_has phase.Electing e t k = no t
-    in_phase_has phase.Collecting e t k = no t
-    in_phase_has phase.Previous e t k = no t
-    in_phase_has phase.Peon e t k = no t
+    in_phase_has other e t k = no t
 
     -- ---- whoever may show
 
@@ -224,13 +218,7 @@ module _ (ms : Monitors) (w : World) (J : InvOf ms w) (a : Acknowledged) (H : Is
   active_votes : (p : Phase) → is_active p ≡ true → votes p ≡ true
   active_votes phase.Active t = refl
   active_votes phase.Updating t = refl
-  active_votes phase.Booting t = no t
-  active_votes phase.Probing t = no t
-  active_votes phase.Synchronizing t = no t
-  active_votes phase.Electing t = no t
-  active_votes phase.Collecting t = no t
-  active_votes phase.Previous t = no t
-  active_votes phase.Peon t = no t
+  active_votes other t = no t
 
   leader_has : (i : ℕ) → i < n → (o : Option State) → w.state i ≡ o → LeaderHas a.what o (w.store i)
   leader_has i lt None e = tt

@@ -86,14 +86,7 @@ nobody q r n one lt = subst (λ (z : ℕ). filter (λ k. has q k && not (eqb k r
 
 pub active_is : (p : Phase) → same_phase p phase.Active ≡ true → p ≡ phase.Active
 active_is phase.Active t = refl
-active_is phase.Booting t = no t
-active_is phase.Probing t = no t
-active_is phase.Synchronizing t = no t
-active_is phase.Electing t = no t
-active_is phase.Collecting t = no t
-active_is phase.Previous t = no t
-active_is phase.Updating t = no t
-active_is phase.Peon t = no t
+active_is other t = no t
 
 -- a message that says nothing of any log, or a reply
 abbrev pub SaysNothing : Sent → Type 0
@@ -336,20 +329,15 @@ module _ (me : Me) (one : me.member.monitors ≡ 1) (now : ℕ) (g : Ghost) (G :
 
       rings : (t : Timer) (s : State) → InPhase me.member.monitors g i (core_of (own_of w) s) s.phase → Then Outcome (timer_comes me now t (at_rest w s))
       unfolding renew extend ping
-      rings timer.Probe s K = bootstraps _ (rests s)
       rings timer.Election s K = election_over _ (rests s)
-      rings timer.Collect s K = bootstraps _ (rests s)
-      rings timer.Accept s K = bootstraps _ (rests s)
       rings timer.Renew s K = by_test (not (same_phase s.phase phase.Active)) (λ _. quietly _ (rests s))
           (λ _. quietly _ (says_quiet _ (map (message_to me (epoch_of w) (body.Lease w.last)) (members me s.leader.quorum)) (at_rest w s) (to_none s.leader.quorum (epoch_of w) (body.Lease w.last)) (rests s)))
-      rings timer.LeaseAck s K = bootstraps _ (rests s)
-      rings timer.Lease s K = bootstraps _ (rests s)
-      rings timer.Sync s K = bootstraps _ (rests s)
       rings timer.Step s K = steps s K
       rings timer.Propose s K = due s K
       rings timer.Ping s K =
           let table = own_table me (elector_is (measure me now s.elector) (at_rest w s)) in
           quietly _ (says_quiet _ (map (message_to me (epoch_of w) (body.Ping table)) (others me)) (at_rest w s) (to_each (epoch_of w) (body.Ping table) (λ log. tt) (others me)) (rests s))
+      rings other s K = bootstraps _ (rests s)
 
       clients : (t : Session) (r : Request) (s : State) → IsAsked g i t r → Then Outcome (hear_client me now t r (at_rest w s))
       unfolding hear_client

@@ -42,37 +42,23 @@ module _ (me : Me) (g : Ghost) (w : Readings) (s : State) (G : Glob me.member.mo
   role_in phase.Previous t k = k.0.reigns.role
   role_in phase.Active t k = k.0.reigns.role
   role_in phase.Updating t k = k.0.reigns.role
-  role_in phase.Booting t k = no t
-  role_in phase.Probing t k = no t
-  role_in phase.Synchronizing t k = no t
-  role_in phase.Electing t k = no t
-  role_in phase.Peon t k = no t
+  role_in other t k = no t
 
   stands_in : (p : Phase) → same_phase p phase.Electing ≡ true → InPhase n g i c p → StandsIn n i c
   stands_in p t k = subst (InPhase n g i c) (electing_is p t) k
 
   pub requests_in : (p : Phase) → same_phase p phase.Synchronizing ≡ true → InPhase n g i c p → RequestsIn g c
   requests_in phase.Synchronizing t k = k
-  requests_in phase.Booting t k = no t
-  requests_in phase.Probing t k = no t
-  requests_in phase.Electing t k = no t
-  requests_in phase.Collecting t k = no t
-  requests_in phase.Previous t k = no t
-  requests_in phase.Active t k = no t
-  requests_in phase.Updating t k = no t
-  requests_in phase.Peon t k = no t
+  requests_in other t k = no t
 
   -- a monitor that votes in an odd epoch is a candidate
   odd_stands : (p : Phase) → votes p ≡ true → is_even (epoch_of w) ≡ false → InPhase n g i c p → StandsIn n i c
   odd_stands phase.Electing t odd k = k
-  odd_stands phase.Collecting t odd k = no (sym odd ∙ G.roles.even i (epoch_in c.own) i c.quorum k.0.reigns.role)
-  odd_stands phase.Previous t odd k = no (sym odd ∙ G.roles.even i (epoch_in c.own) i c.quorum k.0.reigns.role)
-  odd_stands phase.Active t odd k = no (sym odd ∙ G.roles.even i (epoch_in c.own) i c.quorum k.0.reigns.role)
-  odd_stands phase.Updating t odd k = no (sym odd ∙ G.roles.even i (epoch_in c.own) i c.quorum k.0.reigns.role)
   odd_stands phase.Peon t odd k = no (sym odd ∙ G.roles.even i (epoch_in c.own) c.leader c.members k.role)
   odd_stands phase.Booting t odd k = no t
   odd_stands phase.Probing t odd k = no t
   odd_stands phase.Synchronizing t odd k = no t
+  odd_stands other t odd k = no (sym odd ∙ G.roles.even i (epoch_in c.own) i c.quorum k.0.reigns.role)
 
   module _ (several : 1 < n) (K : InPhase n g i c s.phase) where
     -- ---- it has others

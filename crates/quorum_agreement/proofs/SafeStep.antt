@@ -119,23 +119,12 @@ lead_of : (me : Me) (now : ℕ) (r : Readings) (s : State) (From : ℕ → Comma
 lead_of me now r s From Routed Voted Looked phase.Collecting e k = k
 lead_of me now r s From Routed Voted Looked phase.Previous e k = k
 lead_of me now r s From Routed Voted Looked phase.Updating e k = inl (record { epoch = refl; updating = e; origin = refl; proposes = refl; number = refl })
-lead_of me now r s From Routed Voted Looked phase.Booting e k = tt
-lead_of me now r s From Routed Voted Looked phase.Probing e k = tt
-lead_of me now r s From Routed Voted Looked phase.Synchronizing e k = tt
-lead_of me now r s From Routed Voted Looked phase.Electing e k = tt
-lead_of me now r s From Routed Voted Looked phase.Active e k = tt
-lead_of me now r s From Routed Voted Looked phase.Peon e k = tt
+lead_of me now r s From Routed Voted Looked other e k = tt
 
 still_of : (me : Me) (now : ℕ) (r : Readings) (s : State) (From : ℕ → Command → Origin → Type 0) (Routed : (f e seq : ℕ) → Reply → Type 0) (Voted : (f pn v : ℕ) → Type 0) (Looked : Session → Request → Type 0) (p : Phase) (l : Leader) (e : ℕ) → Lead me now r s From Routed Voted Looked p l e → Still p l
 still_of me now r s From Routed Voted Looked phase.Collecting l e k = k
 still_of me now r s From Routed Voted Looked phase.Previous l e k = k
-still_of me now r s From Routed Voted Looked phase.Updating l e k = tt
-still_of me now r s From Routed Voted Looked phase.Booting l e k = tt
-still_of me now r s From Routed Voted Looked phase.Probing l e k = tt
-still_of me now r s From Routed Voted Looked phase.Synchronizing l e k = tt
-still_of me now r s From Routed Voted Looked phase.Electing l e k = tt
-still_of me now r s From Routed Voted Looked phase.Active l e k = tt
-still_of me now r s From Routed Voted Looked phase.Peon l e k = tt
+still_of me now r s From Routed Voted Looked other l e k = tt
 
 -- what a reaction makes of the world
 pub record Moved (w next : World) (rank : ℕ) (m : Store) (y : Course) : Type 0 where

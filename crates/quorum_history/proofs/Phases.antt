@@ -20,14 +20,7 @@ no e = absurd (false≢true e)
 
 pub electing_is : (p : Phase) → same_phase p phase.Electing ≡ true → p ≡ phase.Electing
 electing_is phase.Electing e = refl
-electing_is phase.Booting e = no e
-electing_is phase.Probing e = no e
-electing_is phase.Synchronizing e = no e
-electing_is phase.Collecting e = no e
-electing_is phase.Previous e = no e
-electing_is phase.Active e = no e
-electing_is phase.Updating e = no e
-electing_is phase.Peon e = no e
+electing_is other e = no e
 
 -- the phases that rows of a leader name
 pub same_leads : (p q : Phase) → is_leading q ≡ true → same_phase p q ≡ true → is_leading p ≡ true
@@ -51,39 +44,18 @@ leads_or b p q l f e = elim (or_cases (same_phase p q) b e) [ inl s ↦ same_lea
 
 pub collecting_is : (p : Phase) → (same_phase p phase.Collecting || false) ≡ true → p ≡ phase.Collecting
 collecting_is phase.Collecting e = refl
-collecting_is phase.Booting e = no e
-collecting_is phase.Probing e = no e
-collecting_is phase.Synchronizing e = no e
-collecting_is phase.Electing e = no e
-collecting_is phase.Previous e = no e
-collecting_is phase.Active e = no e
-collecting_is phase.Updating e = no e
-collecting_is phase.Peon e = no e
+collecting_is other e = no e
 
 pub any_leads : (p : Phase) → (same_phase p phase.Collecting || (same_phase p phase.Previous || (same_phase p phase.Active || (same_phase p phase.Updating || false)))) ≡ true → is_leading p ≡ true
 any_leads p = leads_or _ p phase.Collecting refl (leads_or _ p phase.Previous refl (leads_or _ p phase.Active refl (leads_or _ p phase.Updating refl no)))
 
 pub peon_is_peon : (p : Phase) → is_peon p ≡ true → p ≡ phase.Peon
 peon_is_peon phase.Peon e = refl
-peon_is_peon phase.Booting e = no e
-peon_is_peon phase.Probing e = no e
-peon_is_peon phase.Synchronizing e = no e
-peon_is_peon phase.Electing e = no e
-peon_is_peon phase.Collecting e = no e
-peon_is_peon phase.Previous e = no e
-peon_is_peon phase.Active e = no e
-peon_is_peon phase.Updating e = no e
+peon_is_peon other e = no e
 
 pub active_is : (p : Phase) → same_phase p phase.Active ≡ true → p ≡ phase.Active
 active_is phase.Active e = refl
-active_is phase.Booting e = no e
-active_is phase.Probing e = no e
-active_is phase.Synchronizing e = no e
-active_is phase.Electing e = no e
-active_is phase.Collecting e = no e
-active_is phase.Previous e = no e
-active_is phase.Updating e = no e
-active_is phase.Peon e = no e
+active_is other e = no e
 
 -- ---- what holds in it
 
@@ -95,35 +67,25 @@ queue_in n g i c ws phase.Collecting e f k = (requeued g i c ws _ f k.0, k.1)
 queue_in n g i c ws phase.Previous e f k = (requeued g i c ws _ f k.0, k.1, k.2)
 queue_in n g i c ws phase.Active e f k = (requeued g i c ws _ f k.0, k.1, k.2)
 queue_in n g i c ws phase.Updating e f k = (requeued g i c ws _ f k.0, k.1, k.2)
-queue_in n g i c ws phase.Booting e f k = no e
-queue_in n g i c ws phase.Probing e f k = no e
-queue_in n g i c ws phase.Synchronizing e f k = no e
-queue_in n g i c ws phase.Electing e f k = no e
-queue_in n g i c ws phase.Peon e f k = no e
+queue_in n g i c ws other e f k = no e
 
 -- a monitor that votes in an odd epoch is electing: it is in no quorum
 pub votes_in_odd : (n : ℕ) (h : Ghost) (i : ℕ) (c : Core) (p : Phase) → RolesHold n h.roles → is_even (epoch_in c.own) ≡ false → votes p ≡ true → InPhase n h i c p → p ≡ phase.Electing
 votes_in_odd n h i c phase.Electing G odd v k = refl
-votes_in_odd n h i c phase.Collecting G odd v k = no (sym odd ∙ G.even i (epoch_in c.own) i c.quorum k.0.reigns.role)
-votes_in_odd n h i c phase.Previous G odd v k = no (sym odd ∙ G.even i (epoch_in c.own) i c.quorum k.0.reigns.role)
-votes_in_odd n h i c phase.Active G odd v k = no (sym odd ∙ G.even i (epoch_in c.own) i c.quorum k.0.reigns.role)
-votes_in_odd n h i c phase.Updating G odd v k = no (sym odd ∙ G.even i (epoch_in c.own) i c.quorum k.0.reigns.role)
 votes_in_odd n h i c phase.Peon G odd v k = no (sym odd ∙ G.even i (epoch_in c.own) c.leader c.members k.role)
 votes_in_odd n h i c phase.Booting G odd v k = no v
 votes_in_odd n h i c phase.Probing G odd v k = no v
 votes_in_odd n h i c phase.Synchronizing G odd v k = no v
+votes_in_odd n h i c other G odd v k = no (sym odd ∙ G.even i (epoch_in c.own) i c.quorum k.0.reigns.role)
 
 -- a monitor that votes is under no full synchronization
 pub votes_unmarked : (n : ℕ) (h : Ghost) (i : ℕ) (c : Core) (p : Phase) → votes p ≡ true → InPhase n h i c p → c.own.marked ≡ false
 votes_unmarked n h i c phase.Electing v k = k.unmarked
-votes_unmarked n h i c phase.Collecting v k = k.0.reigns.unmarked
-votes_unmarked n h i c phase.Previous v k = k.0.reigns.unmarked
-votes_unmarked n h i c phase.Active v k = k.0.reigns.unmarked
-votes_unmarked n h i c phase.Updating v k = k.0.reigns.unmarked
 votes_unmarked n h i c phase.Peon v k = k.unmarked
 votes_unmarked n h i c phase.Booting v k = no v
 votes_unmarked n h i c phase.Probing v k = no v
 votes_unmarked n h i c phase.Synchronizing v k = no v
+votes_unmarked n h i c other v k = k.0.reigns.unmarked
 
 -- ---- of a monitor
 

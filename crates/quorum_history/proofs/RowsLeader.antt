@@ -257,13 +257,7 @@ module _ (me : Me) (now : ℕ) (g : Ghost) (Known : ℕ → List Op → Type 0) 
   begun_is : (p : Phase) → (same_phase p phase.Previous || (same_phase p phase.Updating || false)) ≡ true → (p ≡ phase.Previous) ⊎ (p ≡ phase.Updating)
   begun_is phase.Previous t = inl refl
   begun_is phase.Updating t = inr refl
-  begun_is phase.Booting t = no t
-  begun_is phase.Probing t = no t
-  begun_is phase.Synchronizing t = no t
-  begun_is phase.Electing t = no t
-  begun_is phase.Collecting t = no t
-  begun_is phase.Active t = no t
-  begun_is phase.Peon t = no t
+  begun_is other t = no t
 
   counts_too : (h : Ghost) (c : Core) (f : ℕ) (y : List Op) → Glob n h → Accepted h f (suc c.own.last) c.pn y → ProposesIn h i c → Proposes h i c.pn c.own.last c.value (with_rank c.accepted f)
   counts_too h c f y G a P = record {

@@ -101,14 +101,7 @@ module _ (me : Me) (now : ℕ) (g : Ghost) (Known : ℕ → List Op → Type 0) 
 
   sync_is : (p : Phase) → same_phase p phase.Synchronizing ≡ true → p ≡ phase.Synchronizing
   sync_is phase.Synchronizing t = refl
-  sync_is phase.Booting t = no t
-  sync_is phase.Probing t = no t
-  sync_is phase.Electing t = no t
-  sync_is phase.Collecting t = no t
-  sync_is phase.Previous t = no t
-  sync_is phase.Active t = no t
-  sync_is phase.Updating t = no t
-  sync_is phase.Peon t = no t
+  sync_is other t = no t
 
   cookie_is : (s : SyncStage) → awaits_cookie s ≡ true → s ≡ sync.Cookie
   cookie_is sync.Cookie t = refl

@@ -130,12 +130,7 @@ module _ (ms : Monitors) (w : World) (I : InvOf ms w) where
     in_phase_knows phase.Previous e t k = knows _ k.0 k.1 (λ v r l. inr (repeats e v r l))
     in_phase_knows phase.Active e t k = knows Nowhere k.0 k.1 (λ v r l. absurd l)
     in_phase_knows phase.Updating e t k = knows Nowhere k.0 k.1 (λ v r l. absurd l)
-    in_phase_knows phase.Booting e t k = no t
-    in_phase_knows phase.Probing e t k = no t
-    in_phase_knows phase.Synchronizing e t k = no t
-    in_phase_knows phase.Electing e t k = no t
-    in_phase_knows phase.Collecting e t k = no t
-    in_phase_knows phase.Peon e t k = no t
+    in_phase_knows other e t k = no t
 
   pub leaders_know : LeadersKnow w
   leaders_know i s up t = in_phase_knows i s s.phase refl t (state_holds ms w I i s up)

@@ -42,11 +42,7 @@ module _ (ms : Monitors) (w : World) (I : InvOf ms w) where
   queue_in i c phase.Previous t k = k.0.reigns.queue
   queue_in i c phase.Active t k = k.0.reigns.queue
   queue_in i c phase.Updating t k = k.0.reigns.queue
-  queue_in i c phase.Booting t k = no t
-  queue_in i c phase.Probing t k = no t
-  queue_in i c phase.Synchronizing t k = no t
-  queue_in i c phase.Electing t k = no t
-  queue_in i c phase.Peon t k = no t
+  queue_in i c other t k = no t
 
   leader_holds : (i : ℕ) (s : State) → w.state i ≡ Some s → is_leading s.phase ≡ true → AllByRecursion (λ q. HasOrigin ms.count w.asked i q.command q.origin) s.clients.queue
   leader_holds i s up leads =

@@ -22,7 +22,7 @@ use Rattle.quorum_model.specs.World.{Event, World, first_world, plain_of}
 use Rattle.quorum_walk.proofs.Lists.{all_among}
 use Rattle.quorum_walk.proofs.Ranks.{majorities}
 use Rattle.quorum_walk.proofs.Sparing.{own_of}
-use Rattle.std.proofs.Common.{Bool, List, None, Option, Some, [], ap, arith, refl, subst, sym, true, ℕ, ◌++◌, ◌∙◌, ◌∷◌, ◌≡◌}
+use Rattle.std.proofs.Common.{Bool, List, None, Option, Some, ap, arith, refl, subst, sym, true, ℕ, ◌++◌, ◌∙◌, ◌≡◌}
 use Rattle.std.proofs.lemmas.Bool.{false≢true}
 
 pub one_active : (ms : Monitors) (events : List Event) → AllFit ms.count events → OneActive (run ms events)

@@ -54,13 +54,7 @@ envelopes_last n i g h E es k = all_map (EnvelopeHolds n g) (EnvelopeHolds n h) 
 pub was_active : (n : ℕ) (h : Ghost) (i : ℕ) (c : Core) (p : Phase) → is_active p ≡ true → InPhase n h i c p → WasActive n h (epoch_in c.own, i)
 was_active n h i c phase.Active e k = (c.quorum, k.0.reigns.role, λ m lt a. (k.0.heard m (within_at n c.quorum c.answered m k.1 lt a)).joined)
 was_active n h i c phase.Updating e k = (c.quorum, k.0.reigns.role, λ m lt a. (k.0.heard m (within_at n c.quorum c.answered m k.1 lt a)).joined)
-was_active n h i c phase.Booting e k = no e
-was_active n h i c phase.Probing e k = no e
-was_active n h i c phase.Synchronizing e k = no e
-was_active n h i c phase.Electing e k = no e
-was_active n h i c phase.Collecting e k = no e
-was_active n h i c phase.Previous e k = no e
-was_active n h i c phase.Peon e k = no e
+was_active n h i c other e k = no e
 
 -- ---- what is put and sent
 
