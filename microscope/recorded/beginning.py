@@ -29,7 +29,8 @@ def beginning(lives: Lives, exports: dict[int, Map]) -> Beginning:
     begin = next(iter(lives.values()))[0].begin
     first = f'monitors {begin.monitors} {begin.rule}'
     stores = stores_of(lives, exports)
-    if not any(stores.values()) and all(found[0].begin.part == 0 for found in lives.values()):
+    are_new = not any(stores.values()) and any(it is not None for it in stores.values())
+    if are_new and all(found[0].begin.part == 0 for found in lives.values()):
         return Beginning(lives, stores, Stage(first), [])
     places = cut(lives)
     if places is None:
