@@ -102,8 +102,9 @@ class Leading:
         leader = self.stores[reign.winner]
         own = [leader.last] if leader.accepted_pn == pn else []
         end = min([len(self.commands), *later, *lagging, *here, *own])
-        # A monitor that has to be asked has to be in the quorum.
-        return next((at for at in range(base, end) if self.commands[at].asked not in (None, *quorum)), end)
+        # A monitor that has to be asked has to be in the quorum, unless the value is recovered.
+        first = base + any(self.stage.number(rank, b'paxos', b'pending_v') == base + 1 for rank in quorum)
+        return next((at for at in range(first, end) if self.commands[at].asked not in (None, *quorum)), end)
 
     def begun(self, reign: Reign, quorum: set[int], version: int) -> int:
         """The version after the last one, if a member of a quorum accepts its value as its last one under this number; otherwise 0."""
@@ -143,9 +144,13 @@ class Leading:
         version, leader = work.begun, self.stores[reign.winner]
         if self.stage.last(leader.rank) != version - 1:
             raise Failing(f'monitor {leader.rank} has version {self.stage.last(leader.rank)}, and was to begin {version}')
-        self.stage.begin(leader.rank, self.command(reign.pn, version))
+        command = self.command(reign.pn, version)
+        self.stage.begin(leader.rank, command)
         is_committed = leader.last >= version and leader.accepted_pn == reign.pn
-        here = [rank for rank in work.hears if is_committed or (self.stores[rank].accepted_pn, self.stores[rank].accepted) == (reign.pn, version)]
+        # A later leader recovers the value if it can't ask the same monitor.
+        is_kept = command.asked is not None and command in self.commands[version - 1:version]
+        here = [rank for rank in work.hears if is_committed or is_kept and self.stores[rank].accepted_pn > reign.pn
+                or (self.stores[rank].accepted_pn, self.stores[rank].accepted) == (reign.pn, version)]
         self.stage.accept(leader.rank, here, is_committed)
         if is_committed:
             self.learn(reign, work, version)

@@ -24,14 +24,17 @@ class Reign(NamedTuple):
 
 
 class Ranking:
-    """Who may win an election, by a rule of which the scores are all equal."""
+    """Who may win an election. If scores count, each monitor that may lead can have those by which it outranks all others."""
 
     def __init__(self, count: int, rule: str):
         self.count = count
         name, _, ranks = rule.partition('=')
         self.barred = {int(rank) for rank in ranks.split(',')} if ranks else set()
+        self.has_scores = name == 'connectivity'
 
     def outranks(self, one: int, other: int) -> bool:
+        if self.has_scores:
+            return one != other and one not in self.barred
         return (one in self.barred, one) < (other in self.barred, other)
 
     def may_lead(self, rank: int) -> bool:

@@ -17,6 +17,8 @@ LEAVING = dict(Peon='lease', Collecting='collect', Previous='accept', Updating='
 CLIENT = 4_000_000_002
 # A store copies what it lacks from another one if it lacks more versions than this.
 FEW = 10
+# The milliseconds after which a score is whole if its monitor was heard in them, and 0 if it wasn't.
+HALVED = 86_400_000
 # The most that a copy takes: its messages and steps.
 MOST_STEPS = 100_000
 
@@ -30,6 +32,9 @@ class Stage:
 
     def __init__(self, first: str):
         self.play, self.lines, self.asked = Play(first), [first], 0
+        self.has_scores = 'connectivity' in first
+        # The time at which scores are updated. All else happens at time 0.
+        self.time = 0
 
     def event(self, line: str) -> None:
         if self.play.events >= MOST_EVENTS or not self.play.take(line):
@@ -140,9 +145,33 @@ class Stage:
             if rank != first:
                 self.join(rank, first, epoch)
 
+    def ping(self, rank: int) -> None:
+        """Lets a monitor update its scores and send them."""
+        self.event(f'timer {rank} ping {self.time}')
+
+    def favour(self, rank: int) -> None:
+        """Lets a monitor have scores by which it outranks all others: these heard each other for so long that their scores are whole, and it heard none for as
+        long."""
+        others = [it for it in self.up() if it != rank]
+        for it in [rank, *others]:
+            self.ping(it)
+        for it in others:
+            for other in [rank, *others]:
+                if other != it:
+                    self.deliver(other, it, 'Ping')
+        self.time += HALVED
+        for it in others:
+            self.ping(it)
+            self.deliver(it, rank, 'Ping')
+        self.ping(rank)
+        self.time += HALVED
+        self.ping(rank)
+
     def win(self, winner: int, voters: list[int], epoch: int) -> None:
         """Lets a monitor win the election of an epoch by the votes of others that are in it."""
-        if not self.state(winner).elector.candidate:
+        if self.has_scores:
+            self.favour(winner)
+        if self.has_scores or not self.state(winner).elector.candidate:
             self.timer(winner, 'election')
         for rank in voters:
             deferred = self.state(rank).elector.deferred
