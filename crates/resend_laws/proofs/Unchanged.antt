@@ -37,27 +37,7 @@ not_asked kind.Accept kept came e = absurd cc
 not_asked kind.Route kept came e = absurd cc
 not_asked kind.Chunk kept came e = absurd cc
 not_asked kind.LastChunk kept came e = absurd cc
-not_asked kind.Probe kept came e = refl
-not_asked kind.ProbeReply kept came e = refl
-not_asked kind.Propose kept came e = refl
-not_asked kind.Ack kept came e = refl
-not_asked kind.Victory kept came e = refl
-not_asked kind.Collect kept came e = refl
-not_asked kind.Last kept came e = refl
-not_asked kind.Begin kept came e = refl
-not_asked kind.Commit kept came e = refl
-not_asked kind.Lease kept came e = refl
-not_asked kind.LeaseAck kept came e = refl
-not_asked kind.Forward kept came e = refl
-not_asked kind.GetCookieFull kept came e = refl
-not_asked kind.GetCookieRecent kept came e = refl
-not_asked kind.Cookie kept came e = refl
-not_asked kind.GetChunk kept came e = refl
-not_asked kind.NoCookie kept came e = refl
-not_asked kind.Ping kept came e = refl
-not_asked kind.PingReply kept came e = refl
-not_asked kind.Request kept came e = refl
-not_asked kind.Reply kept came e = refl
+not_asked other kept came e = refl
 
 unless : (x n : Note) (b : Bool) → b ≡ false → cond b x n ≡ n
 unless x n true e = absurd cc
@@ -90,31 +70,8 @@ unchanged LeftQuorum now n w g e = refl
 -- ---- a FORWARD is such a message
 
 by_kind : (k : Kind) → same_kind k kind.Forward ≡ true → k ≡ kind.Forward
-by_kind kind.Probe e = absurd cc
-by_kind kind.ProbeReply e = absurd cc
-by_kind kind.Propose e = absurd cc
-by_kind kind.Ack e = absurd cc
-by_kind kind.Victory e = absurd cc
-by_kind kind.Collect e = absurd cc
-by_kind kind.Last e = absurd cc
-by_kind kind.Begin e = absurd cc
-by_kind kind.Accept e = absurd cc
-by_kind kind.Commit e = absurd cc
-by_kind kind.Lease e = absurd cc
-by_kind kind.LeaseAck e = absurd cc
 by_kind kind.Forward e = refl
-by_kind kind.Route e = absurd cc
-by_kind kind.GetCookieFull e = absurd cc
-by_kind kind.GetCookieRecent e = absurd cc
-by_kind kind.Cookie e = absurd cc
-by_kind kind.GetChunk e = absurd cc
-by_kind kind.Chunk e = absurd cc
-by_kind kind.LastChunk e = absurd cc
-by_kind kind.NoCookie e = absurd cc
-by_kind kind.Ping e = absurd cc
-by_kind kind.PingReply e = absurd cc
-by_kind kind.Request e = absurd cc
-by_kind kind.Reply e = absurd cc
+by_kind other e = absurd cc
 
 pub forward_by_time : (k : Kind) → same_kind k kind.Forward ≡ true → way_of k ≡ way.ByTime
 forward_by_time k e = subst (λ k. way_of k ≡ way.ByTime) (sym (by_kind k e)) refl

@@ -111,30 +111,7 @@ calls_same own (Comes now got ∷ calls) n s same = calls_same own calls (notes_
 
 named_at : (n own : ℕ) (b : Body) → kind_at (encoded n own b).tag ≡ Some (kind_in b)
 named_at n own body.Probe = refl
-named_at n own (body.ProbeReply quorum first last) = refl
-named_at n own (body.Propose t) = refl
-named_at n own body.Ack = refl
-named_at n own (body.Victory quorum) = refl
-named_at n own (body.Collect pn first last) = refl
-named_at n own (body.Last pn first l whole from values pending) = refl
-named_at n own (body.Begin pn version v) = refl
-named_at n own (body.Accept pn version) = refl
-named_at n own (body.Commit from values) = refl
-named_at n own (body.Lease l) = refl
-named_at n own (body.LeaseAck l) = refl
-named_at n own (body.Forward seq command) = refl
-named_at n own (body.Route seq reply) = refl
-named_at n own body.GetCookieFull = refl
-named_at n own (body.GetCookieRecent l) = refl
-named_at n own (body.Cookie full k l) = refl
-named_at n own (body.GetChunk k at) = refl
-named_at n own (body.Chunk k at values entries done) = refl
-named_at n own (body.LastChunk k at values entries l) = refl
-named_at n own (body.NoCookie k) = refl
-named_at n own (body.Ping t) = refl
-named_at n own (body.PingReply t) = refl
-named_at n own (body.Request id r) = refl
-named_at n own (body.Reply id r) = refl
+named_at n own other = refl
 
 header_in : (m : Message) → HasText m → header_of (text m) ≡ Some (heading m)
 header_in m h =
@@ -166,31 +143,18 @@ table_short n (Some t) few = omega (arith, mul-le n (16 + 4 * n) 15 76 few (omeg
 long_unseen : (own to : ℕ) (b : Body) (from monitors epoch : ℕ) (s : Seen) → monitors ≤ 15 → 60000 < message_length monitors b → (long : Bool) → long ≡ false
     → cond (not (same_kind (kind_in b) kind.Last) || long) (after_header own to (Some (heading (record { from = from; monitors = monitors; epoch = epoch; body = b }))) s) s ≡ s
 long_unseen own to body.Probe from monitors epoch s few far long e = absurd (omega (arith, far))
-long_unseen own to (body.ProbeReply quorum first last) from monitors epoch s few far long e = refl
 long_unseen own to (body.Propose t) from monitors epoch s few far long e = absurd (omega (arith, far, table_short monitors t few))
 long_unseen own to body.Ack from monitors epoch s few far long e = absurd (omega (arith, far))
 long_unseen own to (body.Victory quorum) from monitors epoch s few far long e = absurd (omega (arith, far))
 long_unseen own to (body.Collect pn first last) from monitors epoch s few far long e = absurd (omega (arith, far))
 long_unseen own to (body.Last pn first l whole at values pending) from monitors epoch s few far long e =
     ap (λ b. cond b (after_header own to (Some (heading (record { from = from; monitors = monitors; epoch = epoch; body = body.Last pn first l whole at values pending }))) s) s) e
-long_unseen own to (body.Begin pn version v) from monitors epoch s few far long e = refl
 long_unseen own to (body.Accept pn version) from monitors epoch s few far long e = absurd (omega (arith, far))
-long_unseen own to (body.Commit at values) from monitors epoch s few far long e = refl
 long_unseen own to (body.Lease l) from monitors epoch s few far long e = absurd (omega (arith, far))
 long_unseen own to (body.LeaseAck l) from monitors epoch s few far long e = absurd (omega (arith, far))
-long_unseen own to (body.Forward seq command) from monitors epoch s few far long e = refl
-long_unseen own to (body.Route seq reply) from monitors epoch s few far long e = refl
 long_unseen own to body.GetCookieFull from monitors epoch s few far long e = absurd (omega (arith, far))
 long_unseen own to (body.GetCookieRecent l) from monitors epoch s few far long e = absurd (omega (arith, far))
-long_unseen own to (body.Cookie full k l) from monitors epoch s few far long e = refl
-long_unseen own to (body.GetChunk k at) from monitors epoch s few far long e = refl
-long_unseen own to (body.Chunk k at values entries done) from monitors epoch s few far long e = refl
-long_unseen own to (body.LastChunk k at values entries l) from monitors epoch s few far long e = refl
-long_unseen own to (body.NoCookie k) from monitors epoch s few far long e = refl
-long_unseen own to (body.Ping t) from monitors epoch s few far long e = refl
-long_unseen own to (body.PingReply t) from monitors epoch s few far long e = refl
-long_unseen own to (body.Request id r) from monitors epoch s few far long e = refl
-long_unseen own to (body.Reply id r) from monitors epoch s few far long e = refl
+long_unseen own to other from monitors epoch s few far long e = refl
 
 -- ---- what a core sends
 

@@ -39,30 +39,7 @@ use Rattle.watch_laws.specs.Watching.{IsShown, LagEnds, ReadsShort, after_all, a
 -- no message shows that its monitor hasn't started
 shown_real : (k : Kind) → shown k ≡ Some phase.Booting → ⊥
 shown_real kind.Probe e = cc
-shown_real kind.ProbeReply e = cc
-shown_real kind.Propose e = cc
-shown_real kind.Ack e = cc
-shown_real kind.Victory e = cc
-shown_real kind.Collect e = cc
-shown_real kind.Last e = cc
-shown_real kind.Begin e = cc
-shown_real kind.Accept e = cc
-shown_real kind.Commit e = cc
-shown_real kind.Lease e = cc
-shown_real kind.LeaseAck e = cc
-shown_real kind.Forward e = cc
-shown_real kind.Route e = cc
-shown_real kind.GetCookieFull e = cc
-shown_real kind.GetCookieRecent e = cc
-shown_real kind.Cookie e = cc
-shown_real kind.GetChunk e = cc
-shown_real kind.Chunk e = cc
-shown_real kind.LastChunk e = cc
-shown_real kind.NoCookie e = cc
-shown_real kind.Ping e = cc
-shown_real kind.PingReply e = cc
-shown_real kind.Request e = cc
-shown_real kind.Reply e = cc
+shown_real other e = cc
 
 sync_is : (p : Phase) → same_phase p phase.Synchronizing ≡ true → p ≡ phase.Synchronizing
 sync_is phase.Booting t = no t
