@@ -160,43 +160,22 @@ module _ (me : Me) (b : ℕ) {p : Phase} {stage : SyncStage} {q : List Bool} whe
 -- ---- which timers are no phase's own
 
 pub not_lease_ack : (p : Phase) (z : SyncStage) → eqb (index_of (timer_of p z)) (index_of timer.LeaseAck) ≡ false
-not_lease_ack phase.Booting z = refl
-not_lease_ack phase.Probing z = refl
 not_lease_ack phase.Synchronizing sync.Cookie = refl
 not_lease_ack phase.Synchronizing sync.Chunks = refl
 not_lease_ack phase.Synchronizing (sync.Replay next end) = refl
-not_lease_ack phase.Electing z = refl
-not_lease_ack phase.Collecting z = refl
-not_lease_ack phase.Previous z = refl
-not_lease_ack phase.Active z = refl
-not_lease_ack phase.Updating z = refl
-not_lease_ack phase.Peon z = refl
+not_lease_ack other z = refl
 
 pub not_propose : (p : Phase) (z : SyncStage) → eqb (index_of (timer_of p z)) (index_of timer.Propose) ≡ false
-not_propose phase.Booting z = refl
-not_propose phase.Probing z = refl
 not_propose phase.Synchronizing sync.Cookie = refl
 not_propose phase.Synchronizing sync.Chunks = refl
 not_propose phase.Synchronizing (sync.Replay next end) = refl
-not_propose phase.Electing z = refl
-not_propose phase.Collecting z = refl
-not_propose phase.Previous z = refl
-not_propose phase.Active z = refl
-not_propose phase.Updating z = refl
-not_propose phase.Peon z = refl
+not_propose other z = refl
 
 pub not_ping : (p : Phase) (z : SyncStage) → eqb (index_of (timer_of p z)) (index_of timer.Ping) ≡ false
-not_ping phase.Booting z = refl
-not_ping phase.Probing z = refl
 not_ping phase.Synchronizing sync.Cookie = refl
 not_ping phase.Synchronizing sync.Chunks = refl
 not_ping phase.Synchronizing (sync.Replay next end) = refl
-not_ping phase.Electing z = refl
-not_ping phase.Collecting z = refl
-not_ping phase.Previous z = refl
-not_ping phase.Active z = refl
-not_ping phase.Updating z = refl
-not_ping phase.Peon z = refl
+not_ping other z = refl
 
 -- ---- which timers are one phase's own
 
@@ -204,41 +183,22 @@ clash : {A : Type 0} → true ≡ false → A
 clash e = absurd (false≢true (sym e))
 
 pub not_election : (p : Phase) (z : SyncStage) → same_phase p phase.Electing ≡ false → eqb (index_of (timer_of p z)) (index_of timer.Election) ≡ false
-not_election phase.Booting z e = refl
-not_election phase.Probing z e = refl
 not_election phase.Synchronizing sync.Cookie e = refl
 not_election phase.Synchronizing sync.Chunks e = refl
 not_election phase.Synchronizing (sync.Replay next end) e = refl
 not_election phase.Electing z e = clash e
-not_election phase.Collecting z e = refl
-not_election phase.Previous z e = refl
-not_election phase.Active z e = refl
-not_election phase.Updating z e = refl
-not_election phase.Peon z e = refl
+not_election other z e = refl
 
 pub not_renew : (p : Phase) (z : SyncStage) → same_phase p phase.Active ≡ false → eqb (index_of (timer_of p z)) (index_of timer.Renew) ≡ false
-not_renew phase.Booting z e = refl
-not_renew phase.Probing z e = refl
 not_renew phase.Synchronizing sync.Cookie e = refl
 not_renew phase.Synchronizing sync.Chunks e = refl
 not_renew phase.Synchronizing (sync.Replay next end) e = refl
-not_renew phase.Electing z e = refl
-not_renew phase.Collecting z e = refl
-not_renew phase.Previous z e = refl
 not_renew phase.Active z e = clash e
-not_renew phase.Updating z e = refl
-not_renew phase.Peon z e = refl
+not_renew other z e = refl
 
 pub not_step : (p : Phase) (z : SyncStage) → same_phase p phase.Synchronizing ≡ false → eqb (index_of (timer_of p z)) (index_of timer.Step) ≡ false
-not_step phase.Booting z e = refl
-not_step phase.Probing z e = refl
 not_step phase.Synchronizing z e = clash e
-not_step phase.Electing z e = refl
-not_step phase.Collecting z e = refl
-not_step phase.Previous z e = refl
-not_step phase.Active z e = refl
-not_step phase.Updating z e = refl
-not_step phase.Peon z e = refl
+not_step other z e = refl
 
 -- ---- which timer a phase waits for
 
@@ -247,22 +207,8 @@ no e = absurd (false≢true e)
 
 pub active_by : (p : Phase) (z : SyncStage) → same_phase p phase.Active ≡ true → timer_of p z ≡ timer.Renew
 active_by phase.Active z t = refl
-active_by phase.Booting z t = no t
-active_by phase.Probing z t = no t
-active_by phase.Synchronizing z t = no t
-active_by phase.Electing z t = no t
-active_by phase.Collecting z t = no t
-active_by phase.Previous z t = no t
-active_by phase.Updating z t = no t
-active_by phase.Peon z t = no t
+active_by other z t = no t
 
 pub synchronizing_is : (p : Phase) → same_phase p phase.Synchronizing ≡ true → p ≡ phase.Synchronizing
 synchronizing_is phase.Synchronizing t = refl
-synchronizing_is phase.Active t = no t
-synchronizing_is phase.Booting t = no t
-synchronizing_is phase.Probing t = no t
-synchronizing_is phase.Electing t = no t
-synchronizing_is phase.Collecting t = no t
-synchronizing_is phase.Previous t = no t
-synchronizing_is phase.Updating t = no t
-synchronizing_is phase.Peon t = no t
+synchronizing_is other t = no t

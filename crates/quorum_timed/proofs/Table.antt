@@ -79,9 +79,7 @@ module _ (me : Me) (b now : ℕ) (le : now ≤ b) (many : ltb 1 me.member.monito
 
   before : (came : Input) (x : Course) → W x → Then W (before_start me now came x)
   before input.Start x A = starts x A.good
-  before (input.Deliver m) x A = done A
-  before (input.Timer t) x A = done A
-  before (input.Client s r) x A = done A
+  before other x A = done A
 
   runs : (came : Input) (x : Course) → W x → Then W (running me shared now came x)
   runs input.Start x A = done A
