@@ -53,9 +53,7 @@ module _ (ms : Monitors) (i : ℕ) (lt : ltb i ms.count ≡ true) (sh : List Ent
     unfolding hear_client
     asks session (request.Show service) k = record { reply = shown w service; is = reads session (λ z. shown z service); shows = refl }
     asks session (request.Since service version) k = record { reply = since w service version; is = reads session (λ z. since z service version); shows = refl }
-    asks session (request.Set key value) k = absurd k
-    asks session (request.Remove key) k = absurd k
-    asks session (request.Log text) k = absurd k
+    asks session other k = absurd k
 
     pub show_row : (session : Session) (r : Request) → Reads r → same_phase s.phase phase.Booting ≡ false → Shows r session (react me sh now w s (input.Client session r))
     unfolding react

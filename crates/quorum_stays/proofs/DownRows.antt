@@ -350,13 +350,11 @@ module _ (b : Terms) (me : Me) (now : ℕ) (other_rank : b.lost ≡ me.member.ra
   pub hear_client_stays : (s : Session) (r : Request) → Reads r ⊎ MayBegin b → (x : Course) → Still x → Then Ends (hear_client me now s r x)
   unfolding hear_client
   hear_client_stays s (request.Set key value) (inr may) x A = ask_stays may s (command.Set key value) x A
-  hear_client_stays s (request.Set key value) (inl reads) x A = absurd reads
   hear_client_stays s (request.Remove key) (inr may) x A = ask_stays may s (command.Remove key) x A
-  hear_client_stays s (request.Remove key) (inl reads) x A = absurd reads
   hear_client_stays s (request.Log text) (inr may) x A = ask_stays may s (command.Log text) x A
-  hear_client_stays s (request.Log text) (inl reads) x A = absurd reads
   hear_client_stays s (request.Show v) k x A = read_stays s (λ w. shown w v) x A
   hear_client_stays s (request.Since v n) k x A = read_stays s (λ w. since w v n) x A
+  hear_client_stays s other (inl reads) x A = absurd reads
 
   -- ---- probing
 

@@ -76,14 +76,7 @@ active_is p t = by p t
   where
     by : (p : Phase) → same_phase p phase.Active ≡ true → same_phase p phase.Peon ≡ false
     by phase.Peon t = absurd (false≢true t)
-    by phase.Booting t = refl
-    by phase.Probing t = refl
-    by phase.Synchronizing t = refl
-    by phase.Electing t = refl
-    by phase.Collecting t = refl
-    by phase.Previous t = refl
-    by phase.Active t = refl
-    by phase.Updating t = refl
+    by other t = refl
 
 module _ (q : List Bool) (b : ℕ) (me : Me) (now : ℕ) (many : ltb 1 me.member.monitors ≡ true) where
   abbrev W : Course → Type 0

@@ -81,9 +81,7 @@ module _ (q : List Bool) (b : ℕ) (me : Me) (now : ℕ) (many : ltb 1 me.member
 
   before : (came : Input) (x : Course) → W x → Then W (before_start me now came x)
   before input.Start x A = starts x
-  before (input.Deliver m) x A = done A
-  before (input.Timer t) x A = done A
-  before (input.Client s r) x A = done A
+  before other x A = done A
 
   runs : (came : Input) → FromMember q came → (x : Course) → W x → Then W (running me shared now came x)
   runs input.Start k x A = done A

@@ -105,14 +105,7 @@ replies_route_none (a ∷ asked) r = (tt, replies_route_none asked r)
 -- no peon leads
 leads_alone : (p : Phase) → is_leading p ≡ true → is_peon p ≡ false
 leads_alone phase.Peon t = absurd cc
-leads_alone phase.Booting t = refl
-leads_alone phase.Probing t = refl
-leads_alone phase.Synchronizing t = refl
-leads_alone phase.Electing t = refl
-leads_alone phase.Collecting t = refl
-leads_alone phase.Previous t = refl
-leads_alone phase.Active t = refl
-leads_alone phase.Updating t = refl
+leads_alone other t = refl
 
 none_waits : (xs : List Waiting) → not (not (is_empty xs)) ≡ true → xs ≡ []
 none_waits [] t = refl

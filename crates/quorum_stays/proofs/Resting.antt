@@ -102,11 +102,9 @@ module _ (ms : Monitors) (q : List Bool) (pace : Pace) (reign : Reign) (K : IsQu
               taken_nowhere me t.world reign.leader s _ (brought (u + pace.clock i) g.0) (comes g.0 g.1) (no_forward me (readings_of (t.world.store reign.leader)) s g.0.message none)
 
       request_none : (session : Session) (x : Request) → ((Reads x → ⊥) → ⊥) → taken_request me (readings_of (t.world.store reign.leader)) s session x ≡ None
-      request_none session (request.Set key value) k = absurd (k (λ z. z))
-      request_none session (request.Remove key) k = absurd (k (λ z. z))
-      request_none session (request.Log text) k = absurd (k (λ z. z))
       request_none session (request.Show service) k = refl
       request_none session (request.Since service version) k = refl
+      request_none session other k = absurd (k (λ z. z))
 
       takes_none : (next : Timed) (e : Event) → (Writes e → ⊥) → Comes ms q pace (at_time ms q pace u t) next e → taken_by me t.world reign.leader s e ≡ None
       takes_none next e quiet (Arriving f i qf qi o others first is went) = ap (taken_by me t.world reign.leader s) is ∙ from_message f i qf qi o others first

@@ -166,11 +166,9 @@ module _ (ms : Monitors) (q : List Bool) (pace : Pace) (reign : Reign) (K : IsQu
   leads_phase r (Some b) s P = let X = P.proposes in let p = X.leads in rw p refl
 
   taken_command : (w : Readings) (me : Me) (s : State) (session : Session) (x : Request) → (Reads x → ⊥) → is_leading s.phase ≡ true → taken_request me w s session x ≡ Some (origin.Session session)
-  taken_command w me s session (request.Set key value) k t = rw t refl
-  taken_command w me s session (request.Remove key) k t = rw t refl
-  taken_command w me s session (request.Log text) k t = rw t refl
   taken_command w me s session (request.Show service) k t = absurd (k tt)
   taken_command w me s session (request.Since service version) k t = absurd (k tt)
+  taken_command w me s session other k t = rw t refl
 
   module _ (r : Round) (t : Timed) (S : Steady ms q pace reign r t) (A : Attends pace reign r t) (u : ℕ) (M : MayBe ms q pace t u) (later : Round) (next : Timed) (e : Event)
       (V : Served ms pace reign e u t.world next.world r later) (asker : Origin) (takes : taken_by (member_of ms reign.leader V.here) t.world reign.leader V.was e ≡ Some asker) where
