@@ -167,24 +167,12 @@ module _ (ms : Monitors) (several : 1 < ms.count) (w : World) (I : InvOf ms w) (
   gathering : (p : Phase) → s.phase ≡ p → is_gathering p ≡ true → AllByRecursion (NoLease rank (epoch_of w0)) w.messages
   gathering phase.Collecting q t = before phase.Collecting q (λ e. no (ap is_gathering (sym e)))
   gathering phase.Previous q t = before phase.Previous q (λ e. no (ap is_gathering (sym e)))
-  gathering phase.Active q t = no t
-  gathering phase.Updating q t = no t
-  gathering phase.Peon q t = no t
-  gathering phase.Booting q t = no t
-  gathering phase.Probing q t = no t
-  gathering phase.Synchronizing q t = no t
-  gathering phase.Electing q t = no t
+  gathering other q t = no t
 
   acting : (p : Phase) → s.phase ≡ p → is_active p ≡ true → Mark n w I.g (epoch_of w0) w0.last
   acting phase.Active q t = before phase.Active q (λ e. no (ap is_active (sym e)))
   acting phase.Updating q t = before phase.Updating q (λ e. no (ap is_active (sym e)))
-  acting phase.Collecting q t = no t
-  acting phase.Previous q t = no t
-  acting phase.Peon q t = no t
-  acting phase.Booting q t = no t
-  acting phase.Probing q t = no t
-  acting phase.Synchronizing q t = no t
-  acting phase.Electing q t = no t
+  acting other q t = no t
 
   -- it sent no LEASE before in its epoch
   silent : saying.Gathers me d.by.at w0 s d.by.came From AnyRoute Voted d.y.changes (epoch_of r) → AllByRecursion (NoLease rank (epoch_of r)) w.messages
@@ -298,10 +286,7 @@ module _ (ms : Monitors) (several : 1 < ms.count) (w : World) (I : InvOf ms w) (
   phase_now phase.Active q k = goes (ap has_answers q) k
   phase_now phase.Updating q k = goes (ap has_answers q) k
   phase_now phase.Peon q k = λ t. leased (k t)
-  phase_now phase.Booting q k = tt
-  phase_now phase.Probing q k = tt
-  phase_now phase.Synchronizing q k = tt
-  phase_now phase.Electing q k = tt
+  phase_now other q k = tt
 
   pub up_now : (i : ℕ) (z : State) → next.state i ≡ Some z → (i ≡ rank) ⊎ (i ≡ rank → ⊥) → StateMark n next K.g i z
   up_now i z e (inl q) =
@@ -322,12 +307,7 @@ module _ (ms : Monitors) (several : 1 < ms.count) (w : World) (I : InvOf ms w) (
       by phase.Previous q k u = fresh t (silent k)
       by phase.Active q k u = goes t k
       by phase.Updating q k u = goes t k
-      by phase.Collecting q k u = no u
-      by phase.Peon q k u = no u
-      by phase.Booting q k u = no u
-      by phase.Probing q k u = no u
-      by phase.Synchronizing q k u = no u
-      by phase.Electing q k u = no u
+      by other q k u = no u
 
   pub sent_now : AllByRecursion (SentMark n w I.g) w.messages → AllByRecursion (SentMark n next K.g) next.messages
   sent_now old = subst (AllByRecursion (SentMark n next K.g)) (sym messages) (all_append (SentMark n next K.g) w.messages new (all_map _ _ (sent_lasts n w next I.g K.g new lasts) w.messages old)

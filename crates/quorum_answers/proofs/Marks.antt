@@ -108,23 +108,13 @@ pub was_led : (n : ℕ) (h : Ghost) (i : ℕ) (c : Core) (p : Phase) → has_ans
 was_led n h i c phase.Active e k = (c.quorum, k.0.reigns.role, λ m lt a. (k.0.heard m (within_at n c.quorum c.answered m k.1 lt a)).joined)
 was_led n h i c phase.Updating e k = (c.quorum, k.0.reigns.role, λ m lt a. (k.0.heard m (within_at n c.quorum c.answered m k.1 lt a)).joined)
 was_led n h i c phase.Previous e k = (c.quorum, k.0.reigns.role, λ m lt a. (k.0.heard m (within_at n c.quorum c.answered m k.1 lt a)).joined)
-was_led n h i c phase.Booting e k = no e
-was_led n h i c phase.Probing e k = no e
-was_led n h i c phase.Synchronizing e k = no e
-was_led n h i c phase.Electing e k = no e
-was_led n h i c phase.Collecting e k = no e
-was_led n h i c phase.Peon e k = no e
+was_led n h i c other e k = no e
 
 pub led_unmarked : (n : ℕ) (h : Ghost) (i : ℕ) (c : Core) (p : Phase) → has_answers p ≡ true → InPhase n h i c p → c.own.marked ≡ false
 led_unmarked n h i c phase.Active e k = k.0.reigns.unmarked
 led_unmarked n h i c phase.Updating e k = k.0.reigns.unmarked
 led_unmarked n h i c phase.Previous e k = k.0.reigns.unmarked
-led_unmarked n h i c phase.Booting e k = no e
-led_unmarked n h i c phase.Probing e k = no e
-led_unmarked n h i c phase.Synchronizing e k = no e
-led_unmarked n h i c phase.Electing e k = no e
-led_unmarked n h i c phase.Collecting e k = no e
-led_unmarked n h i c phase.Peon e k = no e
+led_unmarked n h i c other e k = no e
 
 -- ---- who reads
 
@@ -194,10 +184,7 @@ module _ (ms : Monitors) (several : 1 < ms.count) (w : World) (J : InvOf ms w) (
     in_phase phase.Peon q t still k M =
         let given = has_lease s.peon.lease (ap (λ (q : Phase). cond (is_peon q) s.peon.lease (cond (is_leading q) s.leader.lease None)) q) in
         ((M given).0, peon_has k given (M given).1)
-    in_phase phase.Booting q t still k M = no t
-    in_phase phase.Probing q t still k M = no t
-    in_phase phase.Synchronizing q t still k M = no t
-    in_phase phase.Electing q t still k M = no t
+    in_phase other q t still k M = no t
 
     pub reads : is_member s.phase ≡ true → Still s.phase s.leader → StateMark n w J.g i s → Reads
     reads member still M = in_phase s.phase refl member still (state_holds ms w J i s up) M

@@ -194,12 +194,7 @@ pub answers_vote : (p : Phase) → has_answers p ≡ true → votes p ≡ true
 answers_vote phase.Previous t = refl
 answers_vote phase.Active t = refl
 answers_vote phase.Updating t = refl
-answers_vote phase.Booting t = no t
-answers_vote phase.Probing t = no t
-answers_vote phase.Synchronizing t = no t
-answers_vote phase.Electing t = no t
-answers_vote phase.Collecting t = no t
-answers_vote phase.Peon t = no t
+answers_vote other t = no t
 
 module _ (ms : Monitors) (w : World) (I : InvOf ms w) (O : Onward ms.count w) (asked : List Asked) (J : InvWith ms w asked) (d : Does ms w Quiet asked J) where
   abbrev pub rank : ℕ

@@ -379,11 +379,7 @@ module _ (me : Me) (now : ℕ) (w : Readings) (s : State) (came : Input) (From :
   sync_lead phase.Booting cs e v z t = tt
   sync_lead phase.Probing cs e v z t = tt
   sync_lead phase.Electing cs e v z t = tt
-  sync_lead phase.Collecting cs e v z t = no t
-  sync_lead phase.Previous cs e v z t = no t
-  sync_lead phase.Active cs e v z t = no t
-  sync_lead phase.Updating cs e v z t = no t
-  sync_lead phase.Peon cs e v z t = no t
+  sync_lead other cs e v z t = no t
 
   pub rest_lead : (p : Phase) → s.phase ≡ p → Lead p [] (epoch_of w) w.last s.peon.lease
   rest_lead phase.Collecting e = inl (ap is_gathering e, λ F. refl)
@@ -391,10 +387,7 @@ module _ (me : Me) (now : ℕ) (w : Readings) (s : State) (came : Input) (From :
   rest_lead phase.Active e = inl (ap is_active e, (λ F. refl), refl)
   rest_lead phase.Updating e = inl (ap is_active e, (λ F. refl), refl)
   rest_lead phase.Peon e = λ t. record { peon = ap is_peon e; epoch = λ F. refl; how = inl (t, refl) }
-  rest_lead phase.Booting e = tt
-  rest_lead phase.Probing e = tt
-  rest_lead phase.Synchronizing e = tt
-  rest_lead phase.Electing e = tt
+  rest_lead other e = tt
 
   -- what is learned leaves the epoch
   pub learned_same : (v : ℕ) (values : List (List Op)) (x y : Course) → Learned v values x y → SameEpoch x.changes (epoch_of x.readings) → SameEpoch y.changes (epoch_of y.readings)
