@@ -2,6 +2,8 @@
 from __future__ import annotations
 
 import os
+import subprocess
+import tempfile
 from typing import Dict, Mapping, Optional, Sequence
 
 import antt
@@ -50,3 +52,11 @@ def bundle(parts: Sequence[str], calls: Mapping[str, tuple], definitions: Mappin
 def program() -> str:
     """The program that replays schedules."""
     return bundle(['texts', 'plays', 'replay'], STEP, texts(STEP))
+
+
+def run(parts: Sequence[str], calls: Mapping[str, tuple], words: Sequence[str]) -> int:
+    """Runs a program of these parts by `node`, with these arguments. Returns its status."""
+    with tempfile.NamedTemporaryFile('w', suffix='.js', encoding='utf-8') as file:
+        file.write(bundle(parts, calls, texts(calls)))
+        file.flush()
+        return subprocess.run(['node', file.name, *words], check=False).returncode

@@ -9,10 +9,7 @@ greatest share of the bound. The status is 0 if each command was answered within
 """
 from __future__ import annotations
 
-import os
-import subprocess
 import sys
-import tempfile
 
 import bundled
 
@@ -21,11 +18,7 @@ def main() -> int:
     if len(sys.argv) != 3 or not all(word.isdigit() for word in sys.argv[1:]):
         print(__doc__, end='', file=sys.stderr)
         return 2
-    with tempfile.TemporaryDirectory() as folder:
-        path = os.path.join(folder, 'timed.js')
-        with open(path, 'w', encoding='utf-8') as file:
-            file.write(bundled.bundle(['texts', 'plays', 'timed'], bundled.STEP, bundled.texts(bundled.STEP)))
-        return subprocess.run(['node', path, *sys.argv[1:]], check=False).returncode
+    return bundled.run(['texts', 'plays', 'runs', 'timed'], bundled.STEP, sys.argv[1:])
 
 
 if __name__ == '__main__':
