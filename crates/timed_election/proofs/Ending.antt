@@ -1,34 +1,24 @@
 -- An election goes on, event by event, until the best member wins it.
-use Rattle.mon_msg.specs.Protocol.Course.{Course}
-use Rattle.mon_msg.specs.Protocol.Readings.{readings_of, shared_entries}
+use Rattle.mon_msg.specs.Protocol.Readings.{shared_entries}
 use Rattle.mon_msg.specs.Protocol.State.{State}
-use Rattle.mon_msg.specs.Protocol.Table.{react}
-use Rattle.mon_msg.specs.Protocol.Timers.{end_of}
-use Rattle.mon_msg.specs.declared.input.Input.TheVariants as input
-use Rattle.mon_msg.specs.declared.input.Input.{Input}
 use Rattle.mon_types.specs.Ranks.{has}
-use Rattle.mon_wire.specs.declared.message.Message.{Message}
-use Rattle.quorum_model.proofs.Members.{member_of}
-use Rattle.quorum_model.specs.Clients.{messages_of}
-use Rattle.quorum_model.specs.Happens.{happens}
-use Rattle.quorum_model.specs.Meets.{arrival, message_at, state_at}
+use Rattle.quorum_model.specs.Meets.{message_at}
 use Rattle.quorum_model.specs.Monitors.{Monitors}
-use Rattle.quorum_model.specs.World.{Arrives, Client, Deliver, Envelope, Event, Plain, Ring}
-use Rattle.quorum_stays.proofs.Onward.{one_state}
+use Rattle.quorum_model.specs.World.{Envelope, Event}
 use Rattle.quorum_stays.proofs.Staying.{goes_on, time_of_next}
-use Rattle.quorum_stays.proofs.Stepping.{Did, did, reacts}
 use Rattle.quorum_stays.proofs.SteppingDown.{here}
 use Rattle.quorum_stays.specs.Reading.{ClocksGoOn}
 use Rattle.quorum_stays.specs.Steady.{Reign}
-use Rattle.quorum_timed.specs.Begins.{IsQuick}
-use Rattle.quorum_timed.specs.Calls.{IsCandidate}
-use Rattle.quorum_timed.specs.Timed.{Again, Arriving, Asking, Comes, Firing, Leads, MayBe, Owed, Pace, Timed, Went, at_time, without_first}
-use Rattle.std.proofs.Common.{Bool, List, Ok, Some, [], ap, arith, inl, inr, ltb, refl, subst, sym, true, ℕ, ◌+◌, ◌<◌, ◌∙◌, ◌∷◌, ◌≡◌, ◌≤◌, ◌⊎◌}
+use Rattle.log_model.proofs.Lists.{all_map}
+use Rattle.quorum_timed.specs.Begins.{IsBetween, IsQuick}
+use Rattle.quorum_timed.specs.Timed.{Comes, Leads, MayBe, Pace, Timed, at_time}
+use Rattle.std.proofs.Common.{Bool, List, [], ap, arith, inl, inr, refl, true, ℕ, ◌+◌, ◌<◌, ◌∷◌, ◌≡◌, ◌≤◌, ◌⊎◌}
 use Rattle.std.proofs.lemmas.Bool.{lt-ltb}
 use Rattle.std.specs.List.{AllByRecursion}
-use Rattle.std.specs.Prelude.{option_map}
-use Rattle.timed_election.proofs.Events.{How, Result, again, asks, fires, first, result, turns, won}
-use Rattle.timed_election.proofs.Lists.{opened}
+use Rattle.std.specs.Prelude.{IsSomeAnd}
+use Rattle.timed_election.proofs.Events.{Result, result, turns, won}
+use Rattle.timed_election.proofs.Coming.{Handled, handled}
+use Rattle.timed_election.proofs.Lists.{closed, opened}
 use Rattle.timed_election.proofs.Times.{over_by}
 use Rattle.timed_election.proofs.Turning.{is_won, turned}
 use Rattle.timed_election.specs.Election.{CanElect, Election, Elects, IsOfElection, IsWon, IsWonBy, TakesPart}
@@ -37,46 +27,24 @@ module _ (ms : Monitors) (q : List Bool) (pace : Pace) (quick : IsQuick pace) (E
   -- ---- one event
 
   module _ (t : Timed) (X : Elects ms q pace E t) (u : ℕ) (M : MayBe ms q pace t u) (next : Timed) (room : ClocksGoOn q pace u) where
-    C : CanElect ms q E.best
+    abbrev C : CanElect ms q E.best
     C = X.can
 
-    happens_so : (e : Event) (p : Plain) (is : e ≡ Arrives p) (left : ℕ → ℕ → List Owed) (went : Went ms q pace (at_time ms q pace u t) e left next) (i : ℕ) (qi : has q i ≡ true) (came : Input)
-        → arrival t.world p ≡ Some (record { rank = i; at = u + pace.clock i; input = came }) → ((s : State) → t.world.state i ≡ Some s → state_at i (t.world.state i) came ≡ Some s)
-        → ((s : State) → t.world.state i ≡ Some s → How ms q pace quick E t X u M i came e left s) → Elects ms q pace E next ⊎ IsWon q E next.world
-    happens_so e p is left went i qi came a running how =
-        let lt = lt-ltb i ms.count (C.members i qi) in
-        let P = opened (TakesPart q pace E i) (t.world.state i) (X.part i qi) in
-        let happened : happens ms t.world (Arrives p) ≡ Ok next.world = subst (λ (z : Event). happens ms t.world z ≡ Ok next.world) is went.happened in
-        let R = reacts ms t.world next.world p i lt (u + pace.clock i) came P.0 a (running P.0 P.1) happened in
-        let D = did ms t.world next.world p i lt (u + pace.clock i) came P.0 a (running P.0 P.1) happened R.0 R.1 in
-        by lt P.0 P.1 R.0 R.1 D (result ms q pace quick E t X u M i qi lt came e left P.0 P.1 (how P.0 P.1) (shared_entries (t.world.store i)) R.0 R.1 (room i qi))
-      where
-        by : (lt : ltb i ms.count ≡ true) (s : State) (up : t.world.state i ≡ Some s) (y : Course) (r : react (member_of ms i lt) (shared_entries (t.world.store i)) (u + pace.clock i) (readings_of (t.world.store i)) s came ≡ Ok y)
-            (D : Did t.world next.world i y.state y.changes (messages_of y.out)) → Result ms q pace quick E t X u M i qi lt came e left s up (how s up) (shared_entries (t.world.store i)) y r (room i qi) → Elects ms q pace E next ⊎ IsWon q E next.world
-        by lt s up y r D (turns unchanged T) = inl (turned ms q pace quick E t X u M next e left went i qi lt came s up (how s up) y r (room i qi) D unchanged T)
-        by lt s up y r D (won best all W) = inr (is_won ms q pace quick E t X u M next e left went i qi lt came s up (how s up) y r (room i qi) D best all W)
+    between : (f i : ℕ) → has q f ≡ true → has q i ≡ true → AllByRecursion (λ o. IsBetween t.world f i o.number) (t.under_way f i)
+    between f i qf qi = all_map (IsOfElection E t.world.messages f i (t.time + pace.delay)) (λ o. IsBetween t.world f i o.number) (λ o O. closed (λ (m : Envelope). (m.message.from ≡ f) × (m.to ≡ i)) (message_at t.world.messages o.number) O.envelope O.there (O.sender, O.receiver)) (t.under_way f i) (X.under_way f i qf qi)
 
-    delivered : (e : Event) (i : ℕ) (qi : has q i ≡ true) (k : ℕ) (m : Message) → message_at t.world.messages k ≡ Some (record { to = i; message = m }) → e ≡ Arrives (Deliver k (u + pace.clock i)) → (left : ℕ → ℕ → List Owed)
-        → Went ms q pace (at_time ms q pace u t) e left next → ((s : State) → t.world.state i ≡ Some s → How ms q pace quick E t X u M i (input.Deliver m) e left s) → Elects ms q pace E next ⊎ IsWon q E next.world
-    delivered e i qi k m there is left went how =
-        happens_so e (Deliver k (u + pace.clock i)) is left went i qi (input.Deliver m) (ap (option_map (λ (z : Envelope). record { rank = z.to; at = u + pace.clock i; input = input.Deliver z.message })) there) (λ s up. up) how
+    ups : (i : ℕ) → has q i ≡ true → IsSomeAnd (t.world.state i) (λ s. Unit {0})
+    ups i qi = let P = opened (TakesPart q pace E i) (t.world.state i) (X.part i qi) in closed (λ (s : State). Unit {0}) (t.world.state i) P.0 P.1 tt
 
     stepped : (e : Event) → Comes ms q pace (at_time ms q pace u t) next e → Elects ms q pace E next ⊎ IsWon q E next.world
-    stepped e (Arriving f i qf qi o others list is went) =
-        let all = subst (AllByRecursion (IsOfElection E t.world.messages f i (t.time + pace.delay))) list (X.under_way f i qf qi) in
-        let O : IsOfElection E t.world.messages f i (t.time + pace.delay) o = all.0 in
-        let there : message_at t.world.messages o.number ≡ Some (record { to = i; message = O.envelope.message }) = O.there ∙ ap (λ (z : ℕ). Some (record { to = z; message = O.envelope.message })) O.receiver in
-        delivered e i qi o.number O.envelope.message there is (without_first f i others t.under_way) went (λ s up. first f qf o others O.envelope.message list there O.sender refl is refl)
-    stepped e (Again f i qf qi k calls is went) =
-        let B = opened (TakesPart q pace E f) (t.world.state f) (X.part f qf) in
-        let there : message_at t.world.messages k ≡ Some (record { to = i; message = calls.envelope.message }) = calls.there ∙ ap (λ (z : ℕ). Some (record { to = z; message = calls.envelope.message })) calls.receiver in
-        let still : IsCandidate t.world f calls.envelope.message.epoch = calls.still in
-        delivered e i qi k calls.envelope.message there is t.under_way went
-        (λ s up. again k calls.envelope.message there (subst (λ (z : ℕ). has q z ≡ true) (sym calls.sender) qf) calls.call (sym still.epoch_is ∙ X.epoch f qf) refl is refl)
-    stepped e (Firing i qi s up kind end set due is went) =
-        happens_so e (Ring i kind (u + pace.clock i)) is t.under_way went i qi (input.Timer kind) refl (λ s up. up) (λ z on. fires kind end (subst (λ (v : State). end_of kind v.timers ≡ Some end) (one_state (t.world.state i) s z up on) set) due refl is refl)
-    stepped e (Asking i qi session request is went) =
-        happens_so e (Client i (u + pace.clock i) session request) is t.under_way went i qi (input.Client session request) refl (λ s up. up) (λ s up. asks session request refl is refl)
+    stepped e comes = by (result ms q pace quick E t X u M H.i H.member (lt-ltb H.i ms.count (C.members H.i H.member)) H.came e H.left H.state H.up H.how (shared_entries (t.world.store H.i)) H.course H.reacts (room H.i H.member))
+      where
+        H : Handled ms q pace C.members t u next e
+        H = handled ms q pace C.members t u between ups next e comes
+
+        by : Result ms q pace quick E t X u M H.i H.member (lt-ltb H.i ms.count (C.members H.i H.member)) H.came e H.left H.state H.up H.how (shared_entries (t.world.store H.i)) H.course H.reacts (room H.i H.member) → Elects ms q pace E next ⊎ IsWon q E next.world
+        by (turns unchanged T) = inl (turned ms q pace quick E t X u M next e H.left H.went H.i H.member (lt-ltb H.i ms.count (C.members H.i H.member)) H.came H.state H.up H.how H.course H.reacts (room H.i H.member) H.did unchanged T)
+        by (won best all W) = inr (is_won ms q pace quick E t X u M next e H.left H.went H.i H.member (lt-ltb H.i ms.count (C.members H.i H.member)) H.came H.state H.up H.how H.course H.reacts (room H.i H.member) H.did best all W)
 
   -- ---- the run
 

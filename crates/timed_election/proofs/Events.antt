@@ -20,21 +20,19 @@ use Rattle.mon_wire.specs.declared.body.Body.TheVariants as body
 use Rattle.mon_wire.specs.declared.message.Message.{Message}
 use Rattle.mon_wire.specs.declared.phase.Timer.TheVariants as timer
 use Rattle.mon_wire.specs.declared.phase.Timer.{Timer}
-use Rattle.mon_wire.specs.declared.request.Request.{Request}
-use Rattle.mon_wire.specs.declared.request.Session.{Session}
 use Rattle.quorum_agreement.proofs.Others.{others as has_others}
 use Rattle.quorum_elects.proofs.Ranks.{count_more}
 use Rattle.quorum_model.proofs.Members.{member_of}
 use Rattle.quorum_model.specs.Clients.{messages_of}
 use Rattle.quorum_model.specs.Meets.{message_at}
 use Rattle.quorum_model.specs.Monitors.{Monitors}
-use Rattle.quorum_model.specs.World.{Arrives, Client, Deliver, Envelope, Event, Ring}
+use Rattle.quorum_model.specs.World.{Envelope, Event}
 use Rattle.quorum_stays.proofs.Onward.{one_state}
 use Rattle.quorum_stays.proofs.Timers.{armed_size, disarmed_size, ends, same_kind_or, still_ends, still_on}
 use Rattle.quorum_timed.proofs.Armed.{Timers}
 use Rattle.quorum_timed.specs.Begins.{IsQuick}
-use Rattle.quorum_timed.specs.Calls.{IsCall}
-use Rattle.quorum_timed.specs.Timed.{MayBe, Owed, Pace, Timed, without_first}
+use Rattle.quorum_timed.specs.Calls.{IsCall, IsCandidate}
+use Rattle.quorum_timed.specs.Timed.{MayBe, Owed, Pace, Timed}
 use Rattle.quorum_walk.proofs.Ranks.{has_only_is, has_with, has_with_is, nobody}
 use Rattle.quorum_walk.proofs.Walk.{Then}
 use Rattle.std.proofs.Common.{Bool, List, None, Ok, Option, Some, [], ap, arith, eqb, false, inl, inr, length, ltb, map, refl, subst, sym, true, ℕ, ◌&&◌, ◌*◌, ◌||◌, ◌+◌, ◌<◌, ◌^◌, ◌∙◌, ◌∷◌, ◌≡◌, ◌≤◌, ◌⊎◌}
@@ -42,6 +40,7 @@ use Rattle.std.proofs.lemmas.Bool.{and_from, and_parts, cases_eq, eq-eqb, eqb-tr
 use Rattle.std.proofs.lemmas.List.{get_or-set_same, length-set}
 use Rattle.std.specs.List.{AllByRecursion}
 use Rattle.std.specs.Prelude.{IsSomeAnd}
+use Rattle.timed_election.proofs.Coming.{How, again, asks, fires, first}
 use Rattle.timed_election.proofs.Counting.{count_lacking}
 use Rattle.timed_election.proofs.Lists.{closed, opened}
 use Rattle.timed_election.proofs.Outcomes.{Heard as Came, IsLow, IsQuiet, Outcome, Stays, Wins, ack_taken, call_taken, calls, calls_again, counts, defers, reacted, rests, says, wins}
@@ -57,15 +56,6 @@ module _ (ms : Monitors) (q : List Bool) (pace : Pace) (quick : IsQuick pace) (E
   C = X.can
 
   -- ---- an event
-
-  -- how it comes to member i
-  pub data How (i : ℕ) (came : Input) (e : Event) (left : ℕ → ℕ → List Owed) (s : State) : Type 0 where
-    first : (f : ℕ) → has q f ≡ true → (o : Owed) (others : List Owed) (m : Message) → t.under_way f i ≡ o ∷ others → message_at t.world.messages o.number ≡ Some (record { to = i; message = m })
-        → m.from ≡ f → came ≡ input.Deliver m → e ≡ Arrives (Deliver o.number (u + pace.clock i)) → left ≡ without_first f i others t.under_way → How i came e left s
-    again : (k : ℕ) (m : Message) → message_at t.world.messages k ≡ Some (record { to = i; message = m }) → has q m.from ≡ true → IsCall m.body → m.epoch ≡ E.epoch
-        → came ≡ input.Deliver m → e ≡ Arrives (Deliver k (u + pace.clock i)) → left ≡ t.under_way → How i came e left s
-    fires : (kind : Timer) (end : ℕ) → end_of kind s.timers ≡ Some end → end ≤ u + pace.clock i → came ≡ input.Timer kind → e ≡ Arrives (Ring i kind (u + pace.clock i)) → left ≡ t.under_way → How i came e left s
-    asks : (session : Session) (r : Request) → came ≡ input.Client session r → e ≡ Arrives (Client i (u + pace.clock i) session r) → left ≡ t.under_way → How i came e left s
 
   -- what it leaves of the election, if nobody wins it
   pub record Turn (i : ℕ) (came : Input) (s after : State) (out : List Sent) : Type 0 where
@@ -84,7 +74,7 @@ module _ (ms : Monitors) (q : List Bool) (pace : Pace) (quick : IsQuick pace) (E
   all_sent P Q f (sent.Message to m ∷ out) k = (f to m k.0, all_sent P Q f out k.1)
   all_sent P Q f (sent.Reply to r ∷ out) k = all_sent P Q f out k.1
 
-  module _ (i : ℕ) (qi : has q i ≡ true) (lt : ltb i ms.count ≡ true) (came : Input) (e : Event) (left : ℕ → ℕ → List Owed) (s : State) (up : t.world.state i ≡ Some s) (how : How i came e left s)
+  module _ (i : ℕ) (qi : has q i ≡ true) (lt : ltb i ms.count ≡ true) (came : Input) (e : Event) (left : ℕ → ℕ → List Owed) (s : State) (up : t.world.state i ≡ Some s) (how : How ms q pace t u i came e left s)
       (sh : List Entry) (y : Course) (reacts : react (member_of ms i lt) sh (u + pace.clock i) (readings_of (t.world.store i)) s came ≡ Ok y) (room : u + pace.clock i + 10000 ≤ 2 ^ 62) where
     abbrev now : ℕ
     now = u + pace.clock i
@@ -115,7 +105,7 @@ module _ (ms : Monitors) (q : List Bool) (pace : Pace) (quick : IsQuick pace) (E
     pub of_member : (m : Message) → came ≡ input.Deliver m → (has q m.from ≡ true) × (m.epoch ≤ E.epoch)
     of_member m is = by how
       where
-        by : How i came e left s → (has q m.from ≡ true) × (m.epoch ≤ E.epoch)
+        by : How ms q pace t u i came e left s → (has q m.from ≡ true) × (m.epoch ≤ E.epoch)
         by (first f qf o others z list there from k at rest) =
             let all = subst (AllByRecursion (IsOfElection E t.world.messages f i (t.time + pace.delay))) list (X.under_way f i qf qi) in
             let O : IsOfElection E t.world.messages f i (t.time + pace.delay) o = all.0 in
@@ -124,9 +114,9 @@ module _ (ms : Monitors) (q : List Bool) (pace : Pace) (quick : IsQuick pace) (E
             let low = O.epoch in
             let number : O.envelope.message.epoch ≡ m.epoch = ap (λ (p : Envelope). p.message.epoch) whole ∙ ap (λ (p : Message). p.epoch) same in
             (subst (λ (p : ℕ). has q p ≡ true) (sym from ∙ ap (λ (p : Message). p.from) same) qf, omega arith)
-        by (again k z there from call epoch h at rest) =
+        by (again k z there from call still h at rest) =
             let same : z ≡ m = cc in
-            let number : m.epoch ≡ E.epoch = sym (ap (λ (p : Message). p.epoch) same) ∙ epoch in
+            let number : m.epoch ≡ E.epoch = sym (ap (λ (p : Message). p.epoch) same) ∙ (let c : IsCandidate t.world z.from z.epoch = still in sym c.epoch_is ∙ X.epoch z.from from) in
             (subst (λ (p : Message). has q p.from ≡ true) same from, omega arith)
         by (fires kind end on due k at rest) = absurd cc
         by (asks session r k at rest) = absurd cc
@@ -144,9 +134,9 @@ module _ (ms : Monitors) (q : List Bool) (pace : Pace) (quick : IsQuick pace) (E
     pub fired : came ≡ input.Timer timer.Election → (end : ℕ) × (end_of timer.Election s.timers ≡ Some end) × (end ≤ now)
     fired is = by how
       where
-        by : How i came e left s → (end : ℕ) × (end_of timer.Election s.timers ≡ Some end) × (end ≤ now)
+        by : How ms q pace t u i came e left s → (end : ℕ) × (end_of timer.Election s.timers ≡ Some end) × (end ≤ now)
         by (first f qf o others z list there from k at rest) = absurd cc
-        by (again k z there from call epoch h at rest) = absurd cc
+        by (again k z there from call still h at rest) = absurd cc
         by (fires kind end on due k at rest) =
             let same : kind ≡ timer.Election = cc in
             (end, subst (λ (z : Timer). end_of z s.timers ≡ Some end) same on, due)
@@ -287,9 +277,9 @@ module _ (ms : Monitors) (q : List Bool) (pace : Pace) (quick : IsQuick pace) (E
             X.alike i k (record { to = i; message = m }) (subst (λ (p : Message). message_at t.world.messages k ≡ Some (record { to = i; message = p })) (sym same) there) calling from refl epoch in
             is ∙ ap (λ (p : Envelope). input.Deliver p.message) whole
 
-        by : How i came e left s → came ≡ input.Deliver (record { from = b; monitors = ms.count; epoch = E.epoch; body = body.Propose None })
+        by : How ms q pace t u i came e left s → came ≡ input.Deliver (record { from = b; monitors = ms.count; epoch = E.epoch; body = body.Propose None })
         by (first f qf o others z list there from k at rest) = so o.number z there k
-        by (again k z there from call epoch h at rest) = so k z there h
+        by (again k z there from call still h at rest) = so k z there h
         by (fires kind end on due k at rest) = absurd cc
         by (asks session r k at rest) = absurd cc
 

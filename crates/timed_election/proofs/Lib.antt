@@ -1,8 +1,11 @@
+pub mod Coming
 pub mod Counting
 pub mod Ending
 pub mod Events
 pub mod Lists
 pub mod Outcomes
+pub mod Probing
+pub mod ProbingRows
 pub mod Ranking
 pub mod Times
 pub mod Turning

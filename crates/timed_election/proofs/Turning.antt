@@ -1,5 +1,5 @@
 -- What one event leaves of an election: it goes on, or the best member wins it.
-use Rattle.log_model.proofs.Lists.{all_append, all_both, all_map}
+use Rattle.log_model.proofs.Lists.{all_both, all_map}
 use Rattle.mon_msg.specs.Protocol.Changes.{Change}
 use Rattle.mon_msg.specs.Protocol.Course.{Course}
 use Rattle.mon_msg.specs.Protocol.Played.{Fits, played}
@@ -18,18 +18,18 @@ use Rattle.quorum_model.specs.Clients.{messages_of}
 use Rattle.quorum_model.specs.Meets.{message_at}
 use Rattle.quorum_model.specs.Monitors.{Monitors}
 use Rattle.quorum_model.specs.World.{Arrives, Deliver, Envelope, Event}
-use Rattle.quorum_stays.proofs.Carrying.{more_messages}
 use Rattle.quorum_stays.proofs.Onward.{here_left, one_state, other_left}
 use Rattle.quorum_stays.proofs.Stepping.{Did}
-use Rattle.quorum_stays.proofs.UnderWay.{all_numbers, all_owed, new_are, new_there, numbers}
+use Rattle.quorum_stays.proofs.UnderWay.{numbers}
 use Rattle.quorum_timed.specs.Begins.{IsQuick}
-use Rattle.quorum_timed.specs.Calls.{IsCall, IsDelivery, IsNewCall}
-use Rattle.quorum_timed.specs.Timed.{MayBe, Owed, Pace, Timed, Went, at_time, new_between, owed_by, without_first}
+use Rattle.quorum_timed.specs.Calls.{IsCall, IsCandidate, IsDelivery, IsNewCall}
+use Rattle.quorum_timed.specs.Timed.{MayBe, Owed, Pace, Timed, Went, at_time, owed_by, without_first}
 use Rattle.std.proofs.Common.{Bool, List, None, Ok, Some, [], ap, arith, false, inl, inr, length, ltb, refl, subst, suc, sym, true, ℕ, ◌++◌, ◌+◌, ◌^◌, ◌∙◌, ◌∷◌, ◌≡◌, ◌≤◌, ◌⊎◌}
 use Rattle.std.proofs.lemmas.Bool.{cases_eq, eq-eqb, false≢true}
 use Rattle.std.specs.List.{AllByRecursion}
 use Rattle.std.specs.Prelude.{IsSomeAnd, slice_get}
-use Rattle.timed_election.proofs.Events.{How, Turn, ack_counts, again, asks, call_answered, call_is, fires, first, part}
+use Rattle.timed_election.proofs.Coming.{How, again, asks, fires, first, left_all, left_same, new_at, next_all, no_delivery, on_state, same_there, still, time_is, under_now}
+use Rattle.timed_election.proofs.Events.{Turn, ack_counts, call_answered, call_is, part}
 use Rattle.timed_election.proofs.Lists.{arrives_last, arrives_more, at_place, closed, is_call, is_old, letter_is, message_in, old_or_new, one, opened}
 use Rattle.timed_election.proofs.Outcomes.{Heard as Came, Stays, Wins, says}
 use Rattle.timed_election.proofs.Times.{unheard_by}
@@ -37,7 +37,7 @@ use Rattle.timed_election.specs.Election.{ArrivesBy, CanElect, Defers, Election,
 
 module _ (ms : Monitors) (q : List Bool) (pace : Pace) (quick : IsQuick pace) (E : Election) (t : Timed) (X : Elects ms q pace E t) (u : ℕ) (M : MayBe ms q pace t u)
     (next : Timed) (e : Event) (left : ℕ → ℕ → List Owed) (went : Went ms q pace (at_time ms q pace u t) e left next)
-    (i : ℕ) (qi : has q i ≡ true) (lt : ltb i ms.count ≡ true) (came : Input) (s : State) (up : t.world.state i ≡ Some s) (how : How ms q pace quick E t X u M i came e left s)
+    (i : ℕ) (qi : has q i ≡ true) (lt : ltb i ms.count ≡ true) (came : Input) (s : State) (up : t.world.state i ≡ Some s) (how : How ms q pace t u i came e left s)
     (y : Course) (reacts_so : react (member_of ms i lt) (shared_entries (t.world.store i)) (u + pace.clock i) (readings_of (t.world.store i)) s came ≡ Ok y) (room : u + pace.clock i + 10000 ≤ 2 ^ 62)
     (D : Did t.world next.world i y.state y.changes (messages_of y.out)) where
   abbrev b : ℕ
@@ -54,70 +54,6 @@ module _ (ms : Monitors) (q : List Bool) (pace : Pace) (quick : IsQuick pace) (E
 
   abbrev due : ℕ
   due = u + pace.delay
-
-  time_is : next.time ≡ u
-  time_is = went.time
-
-  -- ---- states, stores and messages
-
-  on_state : (P Q : State → Type 0) (j : ℕ) → (j ≡ i → Q y.state) → ((j ≡ i → ⊥) → (z : State) → P z → Q z) → IsSomeAnd (t.world.state j) P → IsSomeAnd (next.world.state j) Q
-  on_state P Q j mine other k = elim (cases_eq j i) [
-    | inl same ↦ closed Q (next.world.state j) y.state (subst (λ (z : ℕ). next.world.state z ≡ Some y.state) (sym same) D.up) (mine same)
-    | inr ne ↦ (let o = opened P (t.world.state j) k in closed Q (next.world.state j) o.0 (D.others j ne ∙ o.1) (other ne o.0 o.2))
-  ]
-
-  still : (k : ℕ) (m : Envelope) → message_at t.world.messages k ≡ Some m → message_at next.world.messages k ≡ Some m
-  still k m there = ap (λ (z : List Envelope). message_at z k) D.messages ∙ more_messages t.world.messages es k m there
-
-  -- one that was there before is the same
-  same_there : (k : ℕ) (m n : Envelope) → message_at t.world.messages k ≡ Some m → message_at next.world.messages k ≡ Some n → m ≡ n
-  same_there k m n old new = let two : Some m ≡ Some n = sym (still k m old) ∙ new in cc
-
-  new_at : (d : ℕ) (m : Envelope) → slice_get es d ≡ Some m → message_at next.world.messages (suc count + d) ≡ Some m
-  new_at d m there =
-      let number : suc count + d ≡ suc (count + d) = omega arith in
-      ap (λ (z : List Envelope). message_at z (suc count + d)) D.messages ∙ ap (message_at (t.world.messages ++ es)) number ∙ new_there t.world.messages es d m there
-
-  under_now : (f j : ℕ) → next.under_way f j ≡ left f j ++ owed_by due (numbers f j (suc count) es)
-  under_now f j =
-      went.sent f j
-      ∙ ap (λ (m : List Envelope). left f j ++ owed_by due (new_between count f j m)) D.messages
-      ∙ ap (λ (ns : List ℕ). left f j ++ owed_by due ns) (new_are f j t.world.messages es)
-
-  -- what was under way before, to others
-  left_same : (f j : ℕ) → (j ≡ i → ⊥) → left f j ≡ t.under_way f j
-  left_same f j ne = by how
-    where
-      by : How ms q pace quick E t X u M i came e left s → left f j ≡ t.under_way f j
-      by (first g qg o others m list there from k at rest) = ap (λ (z : ℕ → ℕ → List Owed). z f j) rest ∙ other_left g i others t.under_way f j (λ _ is. ne is)
-      by (again k m there from call epoch h at rest) = ap (λ (z : ℕ → ℕ → List Owed). z f j) rest
-      by (fires kind end on over k at rest) = ap (λ (z : ℕ → ℕ → List Owed). z f j) rest
-      by (asks session r k at rest) = ap (λ (z : ℕ → ℕ → List Owed). z f j) rest
-
-  left_all : (P : Owed → Type 0) (f j : ℕ) → AllByRecursion P (t.under_way f j) → AllByRecursion P (left f j)
-  left_all P f j all = elim (cases_eq j i) [
-    | inr ne ↦ subst (AllByRecursion P) (sym (left_same f j ne)) all
-    | inl is ↦ by is how
-  ]
-    where
-      by : j ≡ i → How ms q pace quick E t X u M i came e left s → AllByRecursion P (left f j)
-      by is (first g qg o others m list there from k at rest) = subst (λ (z : ℕ → ℕ → List Owed). AllByRecursion P (z f j)) (sym rest) (elim (cases_eq f g) [
-        | inl same ↦ (let few = (subst (AllByRecursion P) list (subst (λ (z : ℕ). AllByRecursion P (t.under_way z i)) same (subst (λ (z : ℕ). AllByRecursion P (t.under_way f z)) is all))).1 in
-            subst (λ (z : ℕ). AllByRecursion P (without_first g i others t.under_way z j)) (sym same) (subst (λ (z : ℕ). AllByRecursion P (without_first g i others t.under_way g z)) (sym is)
-            (subst (AllByRecursion P) (sym (here_left g i others t.under_way)) few)))
-        | inr ne ↦ subst (AllByRecursion P) (sym (other_left g i others t.under_way f j (λ k _. ne k))) all
-      ])
-      by is (again k m there from call epoch h at rest) = subst (λ (z : ℕ → ℕ → List Owed). AllByRecursion P (z f j)) (sym rest) all
-      by is (fires kind end on over k at rest) = subst (λ (z : ℕ → ℕ → List Owed). AllByRecursion P (z f j)) (sym rest) all
-      by is (asks session r k at rest) = subst (λ (z : ℕ → ℕ → List Owed). AllByRecursion P (z f j)) (sym rest) all
-
-  next_all : (P : Owed → Type 0) (f j : ℕ) → AllByRecursion P (left f j)
-      → ((d : ℕ) (m : Envelope) → slice_get es d ≡ Some m → m.message.from ≡ f → m.to ≡ j → message_at next.world.messages (suc count + d) ≡ Some m → P (record { number = suc count + d; by = due }))
-      → AllByRecursion P (next.under_way f j)
-  next_all P f j old new = subst (AllByRecursion P) (sym (under_now f j))
-      (all_append P (left f j) (owed_by due (numbers f j (suc count) es)) old
-      (all_owed due (numbers f j (suc count) es) (λ k. P (record { number = k; by = due })) P (λ k h. h)
-      (all_numbers f j (suc count) es (λ k. P (record { number = k; by = due })) (λ d m there from to. new d m there from to (new_at d m there)))))
 
   -- ---- what comes
 
@@ -139,14 +75,14 @@ module _ (ms : Monitors) (q : List Bool) (pace : Pace) (quick : IsQuick pace) (E
         epoch = subst (λ (p : Message). p.from ≡ b → IsCall p.body → p.epoch ≡ E.epoch) same epoch;
       }
 
-      by : How ms q pace quick E t X u M i came e left s → Comes_by m
+      by : How ms q pace t u i came e left s → Comes_by m
       by (first f qf o others z list there from k at rest) =
           let all = subst (AllByRecursion (IsOfElection E t.world.messages f i (t.time + pace.delay))) list (X.under_way f i qf qi) in
           let O : IsOfElection E t.world.messages f i (t.time + pace.delay) o = all.0 in
           let whole : O.envelope ≡ record { to = i; message = z } = (let two : Some O.envelope ≡ Some (record { to = i; message = z }) = sym O.there ∙ there in cc) in
           let same : z ≡ m = cc in
           of (u + pace.clock i) o.number z same there at (λ fb call. sym (ap (λ (p : Envelope). p.message.epoch) whole) ∙ O.calls (sym from ∙ fb) (subst (λ (p : Envelope). IsCall p.message.body) (sym whole) call))
-      by (again k z there from call epoch h at rest) = let same : z ≡ m = cc in of (u + pace.clock i) k z same there at (λ _ _. epoch)
+      by (again k z there from call cand h at rest) = let same : z ≡ m = cc in of (u + pace.clock i) k z same there at (λ _ _. let c : IsCandidate t.world z.from z.epoch = cand in sym c.epoch_is ∙ X.epoch z.from from)
       by (fires kind end on over k at rest) = absurd cc
       by (asks session r k at rest) = absurd cc
 
@@ -168,16 +104,6 @@ module _ (ms : Monitors) (q : List Bool) (pace : Pace) (quick : IsQuick pace) (E
         ]
       ]
 
-  -- no event comes without a delivery or a timer
-  no_delivery : (k : ℕ) → ((m : Message) → came ≡ input.Deliver m → ⊥) → IsDelivery k e → ⊥
-  no_delivery k none d = by how
-    where
-      by : How ms q pace quick E t X u M i came e left s → ⊥
-      by (first f qf o others z list there from h at rest) = none z h
-      by (again k z there from call epoch h at rest) = none z h
-      by (fires kind end on over h at rest) = subst (IsDelivery k) at d
-      by (asks session r h at rest) = subst (IsDelivery k) at d
-
   -- ---- it goes on
 
   module _ (unchanged : y.changes ≡ []) (T : Turn ms q pace quick E t X u M i came s y.state y.out) where
@@ -194,8 +120,8 @@ module _ (ms : Monitors) (q : List Bool) (pace : Pace) (quick : IsQuick pace) (E
     own d m there = at_place (λ (m : Envelope). (m.message.from ≡ i) × (m.message.epoch ≡ E.epoch)) es d m T.own there
 
     under_way_next : (f j : ℕ) → has q f ≡ true → has q j ≡ true → AllByRecursion (IsOfElection E next.world.messages f j (next.time + pace.delay)) (next.under_way f j)
-    under_way_next f j qf qj = next_all (IsOfElection E next.world.messages f j (next.time + pace.delay)) f j
-        (left_all (IsOfElection E next.world.messages f j (next.time + pace.delay)) f j
+    under_way_next f j qf qj = next_all ms q pace t u next e left went i came s y how D (IsOfElection E next.world.messages f j (next.time + pace.delay)) f j
+        (left_all ms q pace t u next e left went i came s y how D (IsOfElection E next.world.messages f j (next.time + pace.delay)) f j
         (all_map (IsOfElection E t.world.messages f j (t.time + pace.delay)) (IsOfElection E next.world.messages f j (next.time + pace.delay)) grows (t.under_way f j) (X.under_way f j qf qj)))
         (λ d m there from to at. record {
           envelope = m;
@@ -204,18 +130,18 @@ module _ (ms : Monitors) (q : List Bool) (pace : Pace) (quick : IsQuick pace) (E
           receiver = to;
           epoch = (let z = (own d m there).1 in omega arith);
           calls = λ _ _. (own d m there).1;
-          in_time = (let z = time_is in omega arith);
+          in_time = (let z = time_is ms q pace t u next e left went i came s y how D in omega arith);
         })
       where
         grows : (o : Owed) → IsOfElection E t.world.messages f j (t.time + pace.delay) o → IsOfElection E next.world.messages f j (next.time + pace.delay) o
         grows o O = record {
           envelope = O.envelope;
-          there = still o.number O.envelope O.there;
+          there = still ms q pace t u next e left went i came s y how D o.number O.envelope O.there;
           sender = O.sender;
           receiver = O.receiver;
           epoch = O.epoch;
           calls = O.calls;
-          in_time = (let a = O.in_time in let z = time_is in let l = M.later in omega arith);
+          in_time = (let a = O.in_time in let z = time_is ms q pace t u next e left went i came s y how D in let l = M.later in omega arith);
         }
 
     alike_next : (j k : ℕ) (m : Envelope) → message_at next.world.messages k ≡ Some m → IsCall m.message.body → m.message.from ≡ b → m.to ≡ j → m.message.epoch ≡ E.epoch → m ≡ in_election ms E b j (body.Propose None)
@@ -236,9 +162,9 @@ module _ (ms : Monitors) (q : List Bool) (pace : Pace) (quick : IsQuick pace) (E
     ]
       where
         by : (c : Input) → came ≡ c → message_at t.world.messages N.number ≡ Some N.envelope → IsDelivery N.number e → ⊥
-        by input.Start is old delivers = no_delivery N.number (λ m k. cc) delivers
-        by (input.Timer kind) is old delivers = no_delivery N.number (λ m k. cc) delivers
-        by (input.Client session r) is old delivers = no_delivery N.number (λ m k. cc) delivers
+        by input.Start is old delivers = no_delivery ms q pace t u next e left went i came s y how D N.number (λ m k. cc) delivers
+        by (input.Timer kind) is old delivers = no_delivery ms q pace t u next e left went i came s y how D N.number (λ m k. cc) delivers
+        by (input.Client session r) is old delivers = no_delivery ms q pace t u next e left went i came s y how D N.number (λ m k. cc) delivers
         by (input.Deliver m) is old delivers =
             let c = comes_by m is in
             let whole : N.envelope ≡ record { to = i; message = m } = (let two : Some N.envelope ≡ Some (record { to = i; message = m }) =
@@ -258,10 +184,10 @@ module _ (ms : Monitors) (q : List Bool) (pace : Pace) (quick : IsQuick pace) (E
     unheard_next j qj isnt unacked quiet U = record {
       comes = (let k = U.comes in let c = same_call j isnt in omega arith);
       unacked = unacked;
-      silent = next_all (λ o. IsAck ms pace E q next j o → ⊥) j b
-          (left_all (λ o. IsAck ms pace E q next j o → ⊥) j b
+      silent = next_all ms q pace t u next e left went i came s y how D (λ o. IsAck ms pace E q next j o → ⊥) j b
+          (left_all ms q pace t u next e left went i came s y how D (λ o. IsAck ms pace E q next j o → ⊥) j b
           (all_map (λ o. IsOfElection E t.world.messages j b (t.time + pace.delay) o × (IsAck ms pace E q t j o → ⊥)) (λ o. IsAck ms pace E q next j o → ⊥)
-          (λ o k new. k.1 (let O : IsOfElection E t.world.messages j b (t.time + pace.delay) o = k.0 in O.there ∙ ap Some (same_there o.number O.envelope (in_election ms E j b body.Ack) O.there new)))
+          (λ o k new. k.1 (let O : IsOfElection E t.world.messages j b (t.time + pace.delay) o = k.0 in O.there ∙ ap Some (same_there ms q pace t u next e left went i came s y how D o.number O.envelope (in_election ms E j b body.Ack) O.there new)))
           (t.under_way j b) (all_both (IsOfElection E t.world.messages j b (t.time + pace.delay)) (λ o. IsAck ms pace E q t j o → ⊥) (t.under_way j b) (X.under_way j b qj C.member) U.silent)))
           (λ d m there from to at new. quiet d m there from to (let two : Some m ≡ Some (in_election ms E j b body.Ack) = sym at ∙ new in let same : m ≡ in_election ms E j b body.Ack = cc in ap (λ (p : Envelope). p.message.body) same));
     }
@@ -269,8 +195,8 @@ module _ (ms : Monitors) (q : List Bool) (pace : Pace) (quick : IsQuick pace) (E
     -- ---- acknowledgements under way
 
     acks_next : (j : ℕ) → ArrivesBy (E.by + pace.again + pace.delay) (IsAck ms pace E q t j) (left j b) → ArrivesBy (E.by + pace.again + pace.delay) (IsAck ms pace E q next j) (next.under_way j b)
-    acks_next j k = subst (ArrivesBy (E.by + pace.again + pace.delay) (IsAck ms pace E q next j)) (sym (under_now j b))
-        (arrives_more (E.by + pace.again + pace.delay) (IsAck ms pace E q t j) (IsAck ms pace E q next j) (λ o there. still o.number (in_election ms E j b body.Ack) there) (left j b) (owed_by due (numbers j b (suc count) es)) k)
+    acks_next j k = subst (ArrivesBy (E.by + pace.again + pace.delay) (IsAck ms pace E q next j)) (sym (under_now ms q pace t u next e left went i came s y how D j b))
+        (arrives_more (E.by + pace.again + pace.delay) (IsAck ms pace E q t j) (IsAck ms pace E q next j) (λ o there. still ms q pace t u next e left went i came s y how D o.number (in_election ms E j b body.Ack) there) (left j b) (owed_by due (numbers j b (suc count) es)) k)
 
     -- ---- at the best member
 
@@ -292,14 +218,14 @@ module _ (ms : Monitors) (q : List Bool) (pace : Pace) (quick : IsQuick pace) (E
               let same : z ≡ H.message = (let two : input.Deliver z ≡ input.Deliver H.message = sym is ∙ H.is in cc) in
               same ∙ letter_is H.message j ms.count E.epoch body.Ack H.from H.monitors H.epoch H.says
 
-          by : How ms q pace quick E t X u M i came e left s → ⊥
+          by : How ms q pace t u i came e left s → ⊥
           by (first f qf o others z list there from k at rest) =
               let is = whole z k in
               let sender : f ≡ j = sym from ∙ ap (λ (p : Message). p.from) is in
               let here : t.under_way j b ≡ o ∷ others = subst (λ (p : ℕ). t.under_way j p ≡ o ∷ others) best (subst (λ (p : ℕ). t.under_way p i ≡ o ∷ others) sender list) in
               let all = subst (AllByRecursion (λ o. IsAck ms pace E q t j o → ⊥)) here U.silent in
               all.0 (there ∙ ap (λ (p : Message). Some (record { to = i; message = p })) is ∙ ap (λ (p : ℕ). Some (record { to = p; message = record { from = j; monitors = ms.count; epoch = E.epoch; body = body.Ack } })) best)
-          by (again k z there from call epoch h at rest) = subst (λ (p : Message). IsCall p.body) (whole z h) call
+          by (again k z there from call cand h at rest) = subst (λ (p : Message). IsCall p.body) (whole z h) call
           by (fires kind end on over k at rest) = (let clash : input.Timer kind ≡ input.Deliver H.message = sym k ∙ H.is in cc)
           by (asks session r k at rest) = (let clash : input.Client session r ≡ input.Deliver H.message = sym k ∙ H.is in cc)
 
@@ -316,7 +242,7 @@ module _ (ms : Monitors) (q : List Bool) (pace : Pace) (quick : IsQuick pace) (E
 
       best_heard : (j : ℕ) → has q j ≡ true → (j ≡ b → ⊥) → Heard ms pace E q t j → Heard ms pace E q next j
       best_heard j qj nj H = record {
-        defers = on_state (Defers q pace E t.time j) (Defers q pace E next.time j) j (λ same. absurd (nj (same ∙ best))) (λ _ z k. elim k [ inl d ↦ inl d | inr l ↦ inr ((let a = l.0 in let c = time_is in let m = M.later in omega arith), l.1) ]) H.defers;
+        defers = on_state ms q pace t u next e left went i came s y how D (Defers q pace E t.time j) (Defers q pace E next.time j) j (λ same. absurd (nj (same ∙ best))) (λ _ z k. elim k [ inl d ↦ inl d | inr l ↦ inr ((let a = l.0 in let c = time_is ms q pace t u next e left went i came s y how D in let m = M.later in omega arith), l.1) ]) H.defers;
         acks = elim H.acks [
           | inl k ↦ inl (acked_at j true (T.kept best j (before j true k)))
           | inr k ↦ by k how
@@ -326,9 +252,9 @@ module _ (ms : Monitors) (q : List Bool) (pace : Pace) (quick : IsQuick pace) (E
           By : ℕ
           By = E.by + pace.again + pace.delay
 
-          by : ArrivesBy (E.by + pace.again + pace.delay) (IsAck ms pace E q t j) (t.under_way j b) → How ms q pace quick E t X u M i came e left s
+          by : ArrivesBy (E.by + pace.again + pace.delay) (IsAck ms pace E q t j) (t.under_way j b) → How ms q pace t u i came e left s
               → IsSomeAnd (next.world.state b) (λ v. has v.elector.acked j ≡ true) ⊎ ArrivesBy (E.by + pace.again + pace.delay) (IsAck ms pace E q next j) (next.under_way j b)
-          by k (again n m there from call epoch h at rest) = inr (acks_next j (subst (λ (z : ℕ → ℕ → List Owed). ArrivesBy (E.by + pace.again + pace.delay) (IsAck ms pace E q t j) (z j b)) (sym rest) k))
+          by k (again n m there from call cand h at rest) = inr (acks_next j (subst (λ (z : ℕ → ℕ → List Owed). ArrivesBy (E.by + pace.again + pace.delay) (IsAck ms pace E q t j) (z j b)) (sym rest) k))
           by k (fires kind end on over h at rest) = inr (acks_next j (subst (λ (z : ℕ → ℕ → List Owed). ArrivesBy (E.by + pace.again + pace.delay) (IsAck ms pace E q t j) (z j b)) (sym rest) k))
           by k (asks session r h at rest) = inr (acks_next j (subst (λ (z : ℕ → ℕ → List Owed). ArrivesBy (E.by + pace.again + pace.delay) (IsAck ms pace E q t j) (z j b)) (sym rest) k))
           by k (first f qf o others z list there from h at rest) = elim (cases_eq j f) [
@@ -353,10 +279,10 @@ module _ (ms : Monitors) (q : List Bool) (pace : Pace) (quick : IsQuick pace) (E
 
     module _ (other : i ≡ b → ⊥) where
       best_stays : (P : State → Type 0) → IsSomeAnd (t.world.state b) P → IsSomeAnd (next.world.state b) P
-      best_stays P k = on_state P P b (λ same. absurd (other (sym same))) (λ _ z h. h) k
+      best_stays P k = on_state ms q pace t u next e left went i came s y how D P P b (λ same. absurd (other (sym same))) (λ _ z h. h) k
 
       left_to_best : (j : ℕ) → left j b ≡ t.under_way j b
-      left_to_best j = left_same j b (λ same. other (sym same))
+      left_to_best j = left_same ms q pace t u next e left went i came s y how D j b (λ same. other (sym same))
 
       other_unheard : (j : ℕ) → has q j ≡ true → (i ≡ j → came ≡ the_call → ⊥) → Unheard ms pace E q t j → Unheard ms pace E q next j
       other_unheard j qj isnt U = unheard_next j qj isnt (best_stays (λ v. has v.elector.acked j ≡ false) U.unacked)
@@ -364,9 +290,9 @@ module _ (ms : Monitors) (q : List Bool) (pace : Pace) (quick : IsQuick pace) (E
 
       other_heard : (j : ℕ) → Heard ms pace E q t j → Heard ms pace E q next j
       other_heard j H = record {
-        defers = on_state (Defers q pace E t.time j) (Defers q pace E next.time j) j
-            (λ same. subst (λ (z : ℕ). Defers q pace E z j y.state) (sym time_is) (subst (λ (z : ℕ). Defers q pace E u z y.state) (sym same) (T.defers other (mine same))))
-            (λ _ z k. elim k [ inl d ↦ inl d | inr l ↦ inr ((let a = l.0 in let c = time_is in let m = M.later in omega arith), l.1) ]) H.defers;
+        defers = on_state ms q pace t u next e left went i came s y how D (Defers q pace E t.time j) (Defers q pace E next.time j) j
+            (λ same. subst (λ (z : ℕ). Defers q pace E z j y.state) (sym (time_is ms q pace t u next e left went i came s y how D)) (subst (λ (z : ℕ). Defers q pace E u z y.state) (sym same) (T.defers other (mine same))))
+            (λ _ z k. elim k [ inl d ↦ inl d | inr l ↦ inr ((let a = l.0 in let c = time_is ms q pace t u next e left went i came s y how D in let m = M.later in omega arith), l.1) ]) H.defers;
         acks = elim H.acks [
           | inl k ↦ inl (best_stays (λ v. has v.elector.acked j ≡ true) k)
           | inr k ↦ inr (acks_next j (subst (ArrivesBy (E.by + pace.again + pace.delay) (IsAck ms pace E q t j)) (sym (left_to_best j)) k))
@@ -382,8 +308,8 @@ module _ (ms : Monitors) (q : List Bool) (pace : Pace) (quick : IsQuick pace) (E
       hears : Unheard ms pace E q t i → came ≡ the_call → Heard ms pace E q next i
       hears U is = record {
         defers = closed (Defers q pace E next.time i) (next.world.state i) y.state D.up (inl ((K.0).candidate, (K.0).deferred));
-        acks = inr (subst (ArrivesBy (E.by + pace.again + pace.delay) (IsAck ms pace E q next i)) (sym (under_now i b ∙ ap (λ (ns : List ℕ). left i b ++ owed_by due ns) sends))
-            (arrives_last (E.by + pace.again + pace.delay) (IsAck ms pace E q next i) (left i b) (record { number = suc count; by = due }) (left_all (λ o. o.by ≤ E.by + pace.again + pace.delay) i b early) in_time ack));
+        acks = inr (subst (ArrivesBy (E.by + pace.again + pace.delay) (IsAck ms pace E q next i)) (sym (under_now ms q pace t u next e left went i came s y how D i b ∙ ap (λ (ns : List ℕ). left i b ++ owed_by due ns) sends))
+            (arrives_last (E.by + pace.again + pace.delay) (IsAck ms pace E q next i) (left i b) (record { number = suc count; by = due }) (left_all ms q pace t u next e left went i came s y how D (λ o. o.by ≤ E.by + pace.again + pace.delay) i b early) in_time ack));
       }
         where
           K : Stays false no_ranks (Some b) s.timers y × (y.out ≡ says ms i lt (u + pace.clock i) (shared_entries (t.world.store i)) (readings_of (t.world.store i)) s body.Ack b ∷ [])
@@ -402,7 +328,7 @@ module _ (ms : Monitors) (q : List Bool) (pace : Pace) (quick : IsQuick pace) (E
           sends = ap (numbers i b (suc count)) sent ∙ (let x = eq-eqb i i refl in let z = eq-eqb b b refl in rw (x, z) refl)
 
           ack : message_at next.world.messages (suc count) ≡ Some (in_election ms E i b body.Ack)
-          ack = let zeroth : suc count + 0 ≡ suc count = omega arith in subst (λ (z : ℕ). message_at next.world.messages z ≡ Some (in_election ms E i b body.Ack)) zeroth (new_at 0 (in_election ms E i b body.Ack) (ap (λ (z : List Envelope). slice_get z 0) sent))
+          ack = let zeroth : suc count + 0 ≡ suc count = omega arith in subst (λ (z : ℕ). message_at next.world.messages z ≡ Some (in_election ms E i b body.Ack)) zeroth (new_at ms q pace t u next e left went i came s y how D 0 (in_election ms E i b body.Ack) (ap (λ (z : List Envelope). slice_get z 0) sent))
 
     -- ---- all members
 
@@ -427,12 +353,12 @@ module _ (ms : Monitors) (q : List Bool) (pace : Pace) (quick : IsQuick pace) (E
       odd = X.odd;
       since = X.since;
       together = X.together;
-      begun = (let a = X.begun in let c = M.later in let z = time_is in omega arith);
+      begun = (let a = X.begun in let c = M.later in let z = time_is ms q pace t u next e left went i came s y how D in omega arith);
       epoch = epoch_next;
-      part = λ j qj. on_state (TakesPart q pace E j) (TakesPart q pace E j) j (λ same. subst (λ (z : ℕ). TakesPart q pace E z y.state) (sym same) T.part) (λ _ z k. k) (X.part j qj);
-      stands = on_state (Stands q pace E) (Stands q pace E) b (λ same. T.stands (sym same)) (λ _ z k. k) X.stands;
+      part = λ j qj. on_state ms q pace t u next e left went i came s y how D (TakesPart q pace E j) (TakesPart q pace E j) j (λ same. subst (λ (z : ℕ). TakesPart q pace E z y.state) (sym same) T.part) (λ _ z k. k) (X.part j qj);
+      stands = on_state ms q pace t u next e left went i came s y how D (Stands q pace E) (Stands q pace E) b (λ same. T.stands (sym same)) (λ _ z k. k) X.stands;
       under_way = under_way_next;
-      called = λ j qj nj. (let k = X.called j qj nj in (k.0, still k.0 (in_election ms E b j (body.Propose None)) k.1));
+      called = λ j qj nj. (let k = X.called j qj nj in (k.0, still ms q pace t u next e left went i came s y how D k.0 (in_election ms E b j (body.Propose None)) k.1));
       alike = alike_next;
       others = others_next;
     }
@@ -445,7 +371,7 @@ module _ (ms : Monitors) (q : List Bool) (pace : Pace) (quick : IsQuick pace) (E
         (W.phase, λ j. ap (λ (z : List Bool). has z j) W.quorum ∙ same j);
     epoch = subst (λ (z : ℕ). epoch_of (readings_of (next.world.store z)) ≡ suc E.epoch) best (ap epoch_of (D.kept W.fits) ∙ W.epoch ∙ ap suc (X.epoch i qi));
     others = λ j qj nj. (let ne : j ≡ i → ⊥ = (λ is. nj (is ∙ best)) in (
-      on_state (TakesPart q pace E j) (λ z. z.phase ≡ phase.Electing) j (λ is. absurd (ne is)) (λ _ z k. k.elects) (X.part j qj),
+      on_state ms q pace t u next e left went i came s y how D (TakesPart q pace E j) (λ z. z.phase ≡ phase.Electing) j (λ is. absurd (ne is)) (λ _ z k. k.elects) (X.part j qj),
       subst (λ (m : Store). epoch_of (readings_of m) ≡ E.epoch) (sym (D.stores j ne)) (X.epoch j qj),
     ));
   }

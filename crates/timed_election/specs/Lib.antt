@@ -1,1 +1,2 @@
 pub mod Election
+pub mod Probing

@@ -1,10 +1,22 @@
-ghost use Rattle.std.specs.Prelude.{ℕ, ◌+◌, ◌<◌, Bool, List};
+ghost use Rattle.std.specs.Prelude.{ℕ, ◌*◌, ◌+◌, ◌<◌, Bool, List};
 ghost use Rattle.quorum_model.specs.Monitors.{Monitors};
 ghost use Rattle.quorum_model.specs.World.{Event};
 ghost use Rattle.quorum_stays.specs.Reading.{ClocksGoOn};
+ghost use Rattle.quorum_stays.specs.SteppingDown.{EachIs};
 ghost use Rattle.quorum_timed.specs.Begins.{IsQuick};
 ghost use Rattle.quorum_timed.specs.Timed.{Leads, Pace, Timed};
 ghost use Rattle.timed_election.specs.Election.{Election, Elects, IsWonBy};
+ghost use Rattle.timed_election.specs.Probing.{CanAnswer, GoesOnBy, Probes};
+
+/// A member of a majority probes for no more than twice the delay of messages, if this is less than the time after which
+/// it probes anew. Then it calls an election, or begins to copy. No member may be down or in a full synchronization
+/// meanwhile.
+pub fn law_probing_ends()
+    ensures { (ms : Monitors) (q : List Bool) (pace : Pace) (i at : ℕ) (t last : Timed) (more : List (ℕ × Event))
+        → 2 * pace.delay < 2000 → Probes ms pace i at q t → (run : Leads ms q pace t more last)
+        → EachIs ms q pace (CanAnswer q) t more last run → at + 2 * pace.delay < last.time
+        → GoesOnBy ms q pace t more i (at + 2 * pace.delay) }
+{}
 
 /// An election ends in time if all members of a majority joined it within three delays. The member that outranks the
 /// others wins it within 5 seconds and `late` after its timer was armed, and leads all members.

@@ -1,6 +1,6 @@
-//! That an election which all members of a majority joined ends in time, in a run whose messages and timers are punctual.
+//! That a majority of which no member leads elects one in time, in a run whose messages and timers are punctual.
 #![tactic(auto)]
 
 mod laws;
 
-pub use laws::law_election_ends;
+pub use laws::{law_election_ends, law_probing_ends};
