@@ -7,10 +7,10 @@ leases stand, and no client asks. Then the leader or another monitor stops for e
 all leases standing: within 15,000 + 9 d + 3 e milliseconds if the leader stopped, and within 18,000 + 9 d + 4 e otherwise.
 
 The premises are those of docs/LAWS.md, *Runs in time*. Messages take at most a drawn d of 1 to MOST_DELAY (500) milliseconds, in order, and timers are
-late by at most a drawn e of up to MOST_LATE (200), less if d + e would be 2,000 or more. A call for an election comes again within a drawn time r, until
-it is acknowledged, so that r + 4 d + e is less than 5,000. The clocks of monitors differ by a constant. Of the messages under way from the monitor that
-stops, some arrive. Delays, late timers, the moment of the stop and the order of what comes at one time are drawn. In two of five runs they are mostly
-those that should make the failover longest.
+late by at most a drawn e of up to MOST_LATE (200), less if d + e would be 2,000 or more. A call for an election comes again within a drawn time r of 100
+milliseconds or more, until it is acknowledged, so that r + 4 d + e is less than 5,000. The clocks of monitors differ by a constant. Of the messages under
+way from the monitor that stops, some arrive. Delays, late timers, the moment of the stop and the order of what comes at one time are drawn. In two of
+five runs they are mostly those that should make the failover longest.
 
 The script prints for each size, and for what stopped, the number of runs, the median and the longest time, and the greatest share of the bound. The last
 column is by how many milliseconds a run took longer than 15,000 + 6 d + 2 e or 18,000 + 5 d + 3 e, at most: the longest times that are known. A run that
@@ -29,8 +29,8 @@ CALLS = {
 }
 
 
-# The longest delay of which four, and the call that comes again, are below 5,000 milliseconds.
-LONGEST = 1249
+# The longest delay of which four, and the 100 milliseconds between two arrivals of a call, are below 5,000.
+LONGEST = 1224
 
 
 def are_words(words: list[str]) -> bool:

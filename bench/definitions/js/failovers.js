@@ -138,7 +138,7 @@ function hardest(lost, leader, delay) {
 // Draws how long messages take, how late timers are and when calls come again. Returns the most of the first two, and what is drawn of the stop.
 function paced(run, lost, leader, most, {draw, upTo, pick, name}) {
   const delay = pick([1 + upTo(most.delay - 1), 1, Math.min(50, most.delay), most.delay]);
-  const late = Math.min(pick([upTo(most.late), 0, most.late]), LEASES - 1 - delay, CALLS - 2 - 4 * delay), again = CALLS - 1 - 4 * delay - late;
+  const left = CALLS - 1 - 4 * delay, late = Math.min(pick([upTo(most.late), 0, most.late]), LEASES - 1 - delay, left - BETWEEN_CALLS), again = left - late;
   const worst = hardest(lost, leader, delay), isHard = draw() < 0.4, hard = (part, other) => (isHard && draw() < 0.8 ? worst[part] : other());
   const turns = TURNS[name(TURNS)], alike = ALIKE[name(ALIKE)], delays = WAYS[name(WAYS)](delay, draw);
   const lates = WAYS[hard('late', () => name(WAYS))](late, draw);
