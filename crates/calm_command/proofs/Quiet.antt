@@ -30,7 +30,7 @@ use Rattle.quorum_model.specs.Growth.{grown}
 use Rattle.quorum_model.specs.Monitors.{Monitors}
 use Rattle.quorum_model.specs.World.{Envelope}
 use Rattle.std.proofs.Common.{Bool, Err, List, Ok, [], ap, arith, false, length, ltb, refl, subst, suc, sym, true, ℕ, ◌-◌, ◌<◌, ◌^◌, ◌∙◌, ◌∷◌, ◌≡◌, ◌≤◌, ◌&&◌}
-use Rattle.table_rows.proofs.Commands as asking
+use Rattle.table_rows.proofs.Serving as rows
 use Rattle.std.proofs.lemmas.Bool.{eq-eqb, lt-ltb}
 use Rattle.std.specs.Prelude.{slice_index_or, slice_set}
 use Rattle.calm_command.proofs.CommandRows.{comes}
@@ -83,7 +83,7 @@ module _ (ms : Monitors) where
         ≡ Ok (at_peon m s (record { seq = seq; session = session } ∷ []) (suc seq)
         ▸ clients_are (record s.clients { sessions = []; next_seq = suc seq }) ▸ reply_to session r)
     route_row k m s seq session lt nz r =
-        asking.route_row (member_of ms k lt) (shared_entries m) 0
+        rows.route_row (member_of ms k lt) (shared_entries m) 0
         (led ms lt nz u (readings_of m) (record { seq = seq; session = session } ∷ []) (suc seq) s) seq r
         ∙ rw (eq-eqb seq seq refl) refl
 
@@ -94,7 +94,7 @@ module _ (ms : Monitors) where
       long_peon c long lt m s H = let next = unwritten m H.0 in let H1 = H.1 in record {
         y = _;
         is = as_seen _ _ _ _ _ _ _ _ (is_read base fits all u p m H.0) (is_following n true [] seq s H.1)
-            (asks k m s [] seq lt session c ∙ asking.refuses_long (member_of ms k lt) 0 c session (at_peon m s [] seq) refl long);
+            (asks k m s [] seq lt session c ∙ rows.refuses_long (member_of ms k lt) 0 c session (at_peon m s [] seq) refl long);
         small = not_full base fits all _ _ next.versions next.short;
         sends = refl;
         tells = refl;
@@ -112,7 +112,7 @@ module _ (ms : Monitors) where
       forwards c short few lt m s H = let next = unwritten m H.0 in let H1 = H.1 in record {
         y = _;
         is = as_seen _ _ _ _ _ _ _ _ (is_read base fits all u p m H.0) (is_following n true [] seq s H.1)
-            (asks k m s [] seq lt session c ∙ asking.forwards (member_of ms k lt) 0 c session (at_peon m s [] seq) refl short refl few);
+            (asks k m s [] seq lt session c ∙ rows.forwards (member_of ms k lt) 0 c session (at_peon m s [] seq) refl short refl few);
         small = not_full base fits all _ _ next.versions next.short;
         sends = refl;
         tells = refl;
@@ -152,7 +152,7 @@ module _ (ms : Monitors) where
         → Leads_to (input.Client session (request_of c)) acks taken taken c (origin.Session session)
     asks_lead acks taken c session room lt m s h =
         comes (member_of ms 0 lt) (shared_entries m) 0 (reads u (readings_of m)) (active n acks taken s) session c refl
-        ∙ asking.asks_leader (member_of ms 0 lt) 0 c session (at_lead m s acks taken) refl
+        ∙ rows.asks_leader (member_of ms 0 lt) 0 c session (at_lead m s acks taken) refl
 
     pub long_lead : (acks : List Bool) (taken : List ℕ) (c : Command) (session : Session) → is_too_long c ≡ true
         → suc u ≤ 2 ^ 62
@@ -162,7 +162,7 @@ module _ (ms : Monitors) where
       y = _;
       is = as_seen _ _ _ _ _ _ _ _ (is_read base fits all u p m H.0) (is_active n acks taken s H.1)
           (asks_lead acks taken c session room lt m s H1.lease
-          ∙ asking.leader_refuses (member_of ms 0 lt) 0 c (origin.Session session) (at_lead m s acks taken) long);
+          ∙ rows.leader_refuses (member_of ms 0 lt) 0 c (origin.Session session) (at_lead m s acks taken) long);
       small = not_full base fits all _ _ next.versions next.short;
       sends = refl;
       tells = refl;
@@ -187,7 +187,7 @@ module _ (ms : Monitors) where
         → Leads_to (input.Deliver (said n f (body.Forward seq c))) acks taken (slice_set taken f seq) c
         (origin.Forwarded f seq)
     forward_comes acks taken c f seq room pos below new lt m s h =
-        asking.forward_row (member_of ms 0 lt) (shared_entries m) 0 refl refl
+        rows.forward_row (member_of ms 0 lt) (shared_entries m) 0 refl refl
         (led_by ms lt (λ e. omega arith) (has_firsts n ms.most f ∙ lt-ltb f n below) u (readings_of m) acks taken s) seq c new
 
     pub refused : (came : Input) (acks : List Bool) (taken later : List ℕ) (c : Command) (o : Origin)
@@ -201,7 +201,7 @@ module _ (ms : Monitors) where
           y = _;
           is = as_seen _ _ _ _ _ _ _ _ (is_read base fits all u p m S) (is_active n acks taken s H1)
               (comes lt m s H1.lease
-              ∙ asking.proposes (member_of ms 0 lt) 0 c o (at_lead m s acks later) short (ap (λ b. b && true) (standing n s H1.lease))
+              ∙ rows.proposes (member_of ms 0 lt) 0 c o (at_lead m s acks later) short (ap (λ b. b && true) (standing n s H1.lease))
               (service_fits base fits all u p m S (omega arith) (service_of c))
               (ap (λ (w : Readings). value w c (asked_of (member_of ms 0 lt) o))
               (sym (is_read base fits all u p m S))

@@ -38,9 +38,8 @@ use Rattle.quorum_walk.proofs.Sparing.{Own, learned_own}
 use Rattle.std.proofs.Common.{Bool, List, Ok, Some, [], ap, arith, false, inr, is_some, length, ltb, map, refl, subst, suc, sym, true, zero, ℕ, ◌-◌, ◌++◌, ◌<◌, ◌^◌, ◌∙◌, ◌∷◌, ◌≡◌, ◌≤◌, ◌&&◌}
 use Rattle.std.proofs.lemmas.Bool.{lt-ltb}
 use Rattle.std.specs.List.{range_with_len}
-use Rattle.table_rows.proofs.Commands as asking
+use Rattle.table_rows.proofs.Serving as rows
 use Rattle.calm_command.proofs.Rounds.{Hears, to_rank}
-use Rattle.table_rows.proofs.Values as rows
 use Rattle.calm_command.proofs.Sets.{covers_all, covers_not, firsts, has_firsts, one_more, only_first, others_are}
 use Rattle.calm_command.proofs.States.{active, is_active, is_following, is_updating, led, led_by, led_in_update, reads, said}
 use Rattle.calm_command.proofs.Stores.{Makes, Stored, adds_none, adds_one, is_read, long, more, nothing_written, service_fits, short, stored_learned, stored_voted, value_is, values}
@@ -304,7 +303,7 @@ module _ (ms : Monitors) where
         → at_leader (member_of ms 0 lt) 0 c o (leads m s acks later)
         ≡ begin_made (member_of ms 0 lt) 0 o (Ok x) (leads m s acks later)
     proposed m s acks later o lt short lease fits made =
-        asking.proposes (member_of ms 0 lt) 0 c o (leads m s acks later) short (ap (λ b. b && true) (standing n s lease)) fits made
+        rows.proposes (member_of ms 0 lt) 0 c o (leads m s acks later) short (ap (λ b. b && true) (standing n s lease)) fits made
 
     pub proposes : (came : Input) (acks : List Bool) (taken later : List ℕ) (o : Origin) → is_too_long c ≡ false
         → rank_of o ≡ V.asked → 1 < n → Arrives came acks taken later o

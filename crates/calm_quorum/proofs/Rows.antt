@@ -22,15 +22,11 @@ use Rattle.std.proofs.Common.{Bool, List, None, Ok, Option, Some, [], ap, arith,
 use Rattle.std.proofs.lemmas.Bool.{cases_lt, eq-eqb, le-ltb, lt-ltb, ne_eqb}
 use Rattle.std.specs.List.{flat_map}
 use Rattle.std.specs.Prelude.{nat_lt, replicate, slice_index_or, slice_set}
-use Rattle.table_rows.proofs.Collecting as asking
-use Rattle.table_rows.proofs.Collecting.{last_row}
 use Rattle.table_rows.proofs.Electing as elections
-use Rattle.table_rows.proofs.Electing.{ack_row, collects, reigning, wins}
+use Rattle.table_rows.proofs.Electing.{ack_row, collects, counted, elects_now, last_row, late_reply_row, near_reply_row, probes, reigning, wins}
 use Rattle.table_rows.proofs.Hearing.{IsLeader, IsMember, another}
-use Rattle.table_rows.proofs.Starting as starts
-use Rattle.table_rows.proofs.Starting.{counted, elects_now, late_reply_row, near_reply_row, probes}
-use Rattle.table_rows.proofs.Values as values
-use Rattle.table_rows.proofs.Values.{lease_ack_row}
+use Rattle.table_rows.proofs.Serving as values
+use Rattle.table_rows.proofs.Serving.{lease_ack_row}
 use Rattle.calm_quorum.proofs.Sets.{met, chosen, in_met, not_in_met, within_all, within_not, not_alone, is_most, count_after}
 use Rattle.calm_quorum.proofs.States.{me_at, says, tells, reacts, probing, electing, collecting, leasing, following, acked, unacked}
 
@@ -56,7 +52,7 @@ module _ (n : ℕ) (most : n ≤ 15) (shared : List Entry) where
       (react (at i e) shared 0 unborn (booting i) input.Start) ≡ Ok (reacts (Boot 1 ∷ Epoch 1 ∷ [])
       (map (message_to (at i e) 1 body.Probe) (others (at i e))) (probing i (only i)))
   start_row i e two =
-      ap any_reaction (starts.start_row (at i e) shared 0 unborn (booting i) refl (omega arith) ∙ probes (at i e) 0 (counted (at i e) 0 unborn (booting i)) (lt-ltb 1 n two))
+      ap any_reaction (elections.start_row (at i e) shared 0 unborn (booting i) refl (omega arith) ∙ probes (at i e) 0 (counted (at i e) 0 unborn (booting i)) (lt-ltb 1 n two))
 
   -- ---- probes
 
@@ -64,7 +60,7 @@ module _ (n : ℕ) (most : n ≤ 15) (shared : List Entry) where
       (react (at j e) shared 0 (tells (Some 1) None None) (probing j o)
       (input.Deliver (says n i 1 body.Probe)))
       ≡ Ok (reacts [] (message_to (at j e) 1 (body.ProbeReply no_ranks 0 0) i ∷ []) (probing j o))
-  probe_row i j e o ne = ap any_reaction (starts.probe_row (at j e) shared 0 (tells (Some 1) None None) (probing j o) 1 (another ne refl) refl)
+  probe_row i j e o ne = ap any_reaction (elections.probe_row (at j e) shared 0 (tells (Some 1) None None) (probing j o) 1 (another ne refl) refl)
 
   pub reply_more : (i k : ℕ) (e : nat_lt i n ≡ true) (o : List Bool) → (k ≡ i → ⊥)
       → is_majority n (with_rank o k) ≡ false → any_reaction (react (at i e) shared 0
@@ -149,7 +145,7 @@ module _ (n : ℕ) (most : n ≤ 15) (shared : List Entry) where
       (input.Deliver (says n 0 2 (body.Collect 100 0 0)))) ≡ Ok (reacts (Promise 100 ∷ [])
       (message_to (at j e) 2 (body.Last 100 0 0 true 1 [] None) 0 ∷ []) (following n j o None))
   unfolding answer_of run_of pending_of
-  collect_row j e o pos = ap any_reaction (asking.collect_row (at j e) shared 0 (follows j e o None pos) 100 0 0 refl (omega arith))
+  collect_row j e o pos = ap any_reaction (elections.collect_row (at j e) shared 0 (follows j e o None pos) 100 0 0 refl (omega arith))
 
   -- a leader that notes version 0 of a member notes nothing
   zero_told : (k m : ℕ) → slice_set {A = ℕ} (replicate m 0) k 0 ≡ replicate m 0

@@ -1,6 +1,6 @@
 -- What goes round some ranks, one after the other.
 use Rattle.mon_types.specs.Ranks.{has, with_rank}
-use Rattle.quorum_elects.proofs.Can.{Onward, Scope}
+use Rattle.quorum_elects.proofs.Can.{Scope}
 use Rattle.quorum_elects.proofs.Planning.{Plays, passes, plays_all, plays_weaker}
 use Rattle.quorum_elects.proofs.Ranks.{has_self, in_or_out, same_or_not, up_to}
 use Rattle.quorum_elects.proofs.Tests.{itself_is, outside_is}

@@ -17,7 +17,7 @@ use Rattle.quorum_elects.proofs.Majorities.{Majority, epoch_at, scope}
 use Rattle.quorum_elects.proofs.Moving.{Did, Sound}
 use Rattle.quorum_elects.proofs.Planning.{Does, Plays, does_then, does_weaker, passes, plays_all, plays_none, plays_weaker, step}
 use Rattle.quorum_elects.proofs.Ranking.{FullIf}
-use Rattle.quorum_elects.proofs.Ranks.{count_more, from_on, has_self, in_or_out, one_counts, same_or_not, up_to}
+use Rattle.quorum_elects.proofs.Ranks.{count_more, from_on, in_or_out, one_counts, same_or_not, up_to}
 use Rattle.quorum_elects.proofs.Rows.{Answers, Fitting, Hears, Starts, odd_from, probed, replied, starts}
 use Rattle.quorum_elects.proofs.Standing.{Close, CloseAt, Is, IsCandidate, IsProbing, letter}
 use Rattle.quorum_elects.proofs.Steps.{deliver, is_now, is_stays, start}

@@ -5,40 +5,38 @@ use Rattle.election_rules.specs.declared.rule.Rule.{Rule}
 use Rattle.election_rules.specs.declared.scores.Scores.{Scores}
 use Rattle.mon_bytes.specs.declared.entry.Entry.{Entry}
 use Rattle.mon_msg.specs.Protocol.Changes.{Boot, Change, Epoch}
-use Rattle.mon_msg.specs.Protocol.Course.{Course, arm, arm_if, change, change_if, elector_is, forget_clients, in_phase, prober_is, ◌▸◌}
-use Rattle.mon_msg.specs.Protocol.Entering.{bootstrap, elect, in_odd_epoch, is_even, own_table, scores_count}
-use Rattle.mon_msg.specs.Protocol.Hearing.{fits_rule, hear, is_heard}
+use Rattle.mon_msg.specs.Protocol.Course.{Course, arm_if, change, change_if, elector_is, prober_is, ◌▸◌}
+use Rattle.mon_msg.specs.Protocol.Entering.{elect, is_even, own_table, scores_count}
+use Rattle.mon_msg.specs.Protocol.Hearing.{fits_rule}
 use Rattle.mon_msg.specs.Protocol.Phases.{same_phase}
 use Rattle.mon_msg.specs.Protocol.Played.{Fits, play}
-use Rattle.mon_msg.specs.Protocol.Probing.{hear_probe, hear_probe_reply, lag}
+use Rattle.mon_msg.specs.Protocol.Probing.{lag}
 use Rattle.mon_msg.specs.Protocol.Readings.{Readings, epoch_of, epoch_or_first}
-use Rattle.mon_msg.specs.Protocol.Sending.{message_to, send_each}
+use Rattle.mon_msg.specs.Protocol.Sending.{message_to}
 use Rattle.mon_msg.specs.Protocol.Sending as sending
 use Rattle.mon_msg.specs.Protocol.Sets.{only}
 use Rattle.mon_msg.specs.Protocol.State.{State, booting, quorum_of, start_elector}
-use Rattle.mon_msg.specs.Protocol.Table.{at_rest, first_elector, react, start}
+use Rattle.mon_msg.specs.Protocol.Table.{at_rest, first_elector, react}
 use Rattle.mon_msg.specs.Protocol.Timers.{armed, only_ping}
 use Rattle.mon_msg.specs.declared.input.Input.TheVariants as input
 use Rattle.mon_msg.specs.declared.plan.Sent.TheVariants as send
 use Rattle.mon_msg.specs.declared.view.Me.{Me}
 use Rattle.mon_types.specs.Ranks.{count_of, is_majority, no_ranks, with_rank}
-use Rattle.mon_types.specs.declared.names.Which.TheVariants as which
-use Rattle.mon_wire.specs.declared.body.Body.{Body}
 use Rattle.mon_wire.specs.declared.body.Body.TheVariants as body
 use Rattle.mon_wire.specs.declared.phase.Phase.TheVariants as phase
 use Rattle.mon_wire.specs.declared.phase.Timer.TheVariants as timer
 use Rattle.quorum_elects.proofs.Moving.{Sound}
 use Rattle.quorum_elects.proofs.Ranking.{FullIf, IsFull, full_start}
 use Rattle.quorum_elects.proofs.Standing.{Close, CloseAt, HasNumbers, IsCandidate, IsProbing, SaysAll, among_map, among_others, armed_there, letter}
-use Rattle.quorum_elects.proofs.Walking.{Surely, by_test, done, never, so, weaken}
+use Rattle.quorum_elects.proofs.Walking.{Surely, by_test, done, so, weaken}
 use Rattle.quorum_elects.specs.Ready.{HasRoom}
 use Rattle.quorum_model.proofs.Members.{member_of}
 use Rattle.quorum_model.specs.Monitors.{Monitors}
 use Rattle.quorum_walk.proofs.Lists.{Among, all_append, among_right}
 use Rattle.quorum_walk.proofs.Parity.{odd_of_even}
 use Rattle.quorum_walk.proofs.Sparing.{played_more}
+use Rattle.table_rows.proofs.Electing.{elects_next, elects_now, near_reply_row, probe_row, probes, probing, standing, start_row}
 use Rattle.table_rows.proofs.Hearing.{another}
-use Rattle.table_rows.proofs.Starting.{elects_next, elects_now, near_reply_row, probe_row, probes, probing, standing, start_row}
 use Rattle.std.proofs.Common.{Bool, List, None, Ok, Option, Some, [], ap, arith, cond, false, inl, inr, length, ltb, map, not, refl, subst, suc, sym, true, ℕ, ◌&&◌, ◌+◌, ◌<◌, ◌^◌, ◌∙◌, ◌∷◌, ◌≡◌, ◌≤◌, ◌⊎◌}
 use Rattle.std.proofs.lemmas.Bool.{and_parts, cond_both, false≢true, le-ltb, lt-ltb, ltb-true}
 use Rattle.std.proofs.lemmas.List.{length-set}

@@ -2,24 +2,21 @@
 use Rattle.election_rules.specs.declared.scores.Scores.{Scores}
 use Rattle.mon_bytes.specs.declared.entry.Entry.{Entry}
 use Rattle.mon_msg.specs.Protocol.Changes.{Epoch, Numbers}
-use Rattle.mon_msg.specs.Protocol.Collecting.{collect, collect_with, reign}
+use Rattle.mon_msg.specs.Protocol.Collecting.{collect_with}
 use Rattle.mon_msg.specs.Protocol.Course.{Course, change, disarm, elector_is}
-use Rattle.mon_msg.specs.Protocol.Elections.{election_ends, hear_ack, hear_propose, hear_victory, is_allowed, is_whole, may_defer, merge, stands_before, table_or}
-use Rattle.mon_msg.specs.Protocol.Entering.{adopt, elect, in_next_epoch, is_even, win}
-use Rattle.mon_msg.specs.Protocol.Hearing.{is_heard}
+use Rattle.mon_msg.specs.Protocol.Elections.{is_allowed, is_whole, may_defer, merge, stands_before, table_or}
+use Rattle.mon_msg.specs.Protocol.Entering.{adopt, elect, is_even, win}
 use Rattle.mon_msg.specs.Protocol.Leading.{is_alone}
 use Rattle.mon_msg.specs.Protocol.Phases.{same_phase, votes}
-use Rattle.mon_msg.specs.Protocol.Readings.{Readings, epoch_of, or_zero, promise_of}
+use Rattle.mon_msg.specs.Protocol.Readings.{Readings, epoch_of}
 use Rattle.mon_msg.specs.Protocol.Sending.{members, message_to}
 use Rattle.mon_msg.specs.Protocol.State.{State}
 use Rattle.mon_msg.specs.Protocol.Table.{at_rest, react}
-use Rattle.mon_msg.specs.Protocol.Timers.{is_armed, only_ping}
+use Rattle.mon_msg.specs.Protocol.Timers.{only_ping}
 use Rattle.mon_msg.specs.declared.input.Input.TheVariants as input
 use Rattle.mon_msg.specs.declared.plan.Sent.TheVariants as send
 use Rattle.mon_msg.specs.declared.view.Me.{Me}
-use Rattle.mon_types.specs.Proposal.{next_number}
 use Rattle.mon_types.specs.Ranks.{has, is_majority, with_rank}
-use Rattle.mon_types.specs.declared.names.Which.TheVariants as which
 use Rattle.mon_wire.specs.declared.body.Body.TheVariants as body
 use Rattle.mon_wire.specs.declared.phase.Phase.{Phase}
 use Rattle.mon_wire.specs.declared.phase.Phase.TheVariants as phase
@@ -38,7 +35,7 @@ use Rattle.quorum_walk.proofs.Lists.{Among, among_left, among_right}
 use Rattle.quorum_walk.proofs.Parity.{even_of_odd}
 use Rattle.quorum_walk.proofs.Ranks.{has_with_is, whole_major}
 use Rattle.table_rows.proofs.Electing.{ack_row, collects, election_ends_row, later_propose_row, number_above, propose_row, reigning, victory_row, wins}
-use Rattle.std.proofs.Common.{Bool, List, Ok, Option, Some, [], ap, arith, cond, eqb, false, inl, inr, leb, length, ltb, map, max, not, refl, subst, suc, sym, true, ℕ, ◌&&◌, ◌++◌, ◌+◌, ◌<◌, ◌^◌, ◌||◌, ◌∙◌, ◌≡◌, ◌≤◌, ◌⊎◌}
+use Rattle.std.proofs.Common.{Bool, List, Option, Some, [], ap, arith, cond, false, inl, inr, length, ltb, map, refl, subst, suc, sym, true, ℕ, ◌&&◌, ◌++◌, ◌+◌, ◌<◌, ◌^◌, ◌∙◌, ◌≡◌, ◌≤◌, ◌⊎◌}
 use Rattle.std.proofs.lemmas.Bool.{and_parts, cases_order, cond_both, ltb-true}
 use Rattle.std.proofs.lemmas.List.{length-set}
 

@@ -14,7 +14,7 @@ use Rattle.quorum_elects.proofs.Majorities.{Candidacy, Majority, epoch_at, scope
 use Rattle.quorum_elects.proofs.Moving.{Did}
 use Rattle.quorum_elects.proofs.Planning.{Plays, does_weaker, passes, step}
 use Rattle.quorum_elects.proofs.Probing as probing
-use Rattle.quorum_elects.proofs.Ranks.{IsHighest, count_more, has_self, highest_of, in_or_out, same_or_not, up_to}
+use Rattle.quorum_elects.proofs.Ranks.{IsHighest, count_more, highest_of, in_or_out, same_or_not}
 use Rattle.quorum_elects.proofs.Rows.{Elects, odd_from, odd_from_is}
 use Rattle.quorum_elects.proofs.Standing.{Is, IsCandidate, IsCollector, IsPeon, IsVoter, letter}
 use Rattle.quorum_elects.proofs.Steps.{deliver, is_now, is_stays, ring}

@@ -5,13 +5,11 @@ use Rattle.mon_msg.specs.Protocol.Changes.{Last, Learn, Numbers, Promise, Vote}
 use Rattle.mon_msg.specs.Protocol.Collecting.{begin_found, collect, collect_with, commits_to, commits_with, missed, settle}
 use Rattle.mon_msg.specs.Protocol.Course.{Course, change, change_if, ◌>>=◌}
 use Rattle.mon_msg.specs.Protocol.Found.{better, counts}
-use Rattle.mon_msg.specs.Protocol.Hearing.{is_heard}
-use Rattle.mon_msg.specs.Protocol.Leader.{all_answered, hear_last, hear_whole, note, note_answer, note_pending, of_member}
-use Rattle.mon_msg.specs.Protocol.Leading.{be_active, begin, begin_with, extend, is_alone}
+use Rattle.mon_msg.specs.Protocol.Leader.{all_answered, hear_whole, note, note_answer, note_pending}
+use Rattle.mon_msg.specs.Protocol.Leading.{be_active, begin_with, extend, is_alone}
 use Rattle.mon_msg.specs.Protocol.Learning.{learn, news_from}
 use Rattle.mon_msg.specs.Protocol.Length.{fits}
-use Rattle.mon_msg.specs.Protocol.Peon.{cancel, hear_collect, of_leader}
-use Rattle.mon_msg.specs.Protocol.Phases.{same_phase}
+use Rattle.mon_msg.specs.Protocol.Peon.{cancel}
 use Rattle.mon_msg.specs.Protocol.Played.{play}
 use Rattle.mon_msg.specs.Protocol.Readings.{Readings, epoch_of, epoch_or_first, or_zero, promise_of}
 use Rattle.mon_msg.specs.Protocol.Records.{most_value, record_at}
@@ -50,12 +48,11 @@ use Rattle.quorum_walk.proofs.FineCourses.{Val}
 use Rattle.quorum_walk.proofs.Lists.{Among, among_left, among_right}
 use Rattle.quorum_walk.proofs.Ranks.{has_only_is, has_with_is, within_at}
 use Rattle.quorum_walk.proofs.Sparing.{Own, Spares, learned_own, own_of}
-use Rattle.table_rows.proofs.Collecting.{collect_row, greater_last_row, last_row, promised}
 use Rattle.table_rows.proofs.Electing as electing
-use Rattle.table_rows.proofs.Electing.{number_above}
-use Rattle.table_rows.proofs.Values.{begins, learned, learns_one}
-use Rattle.std.proofs.Common.{Bool, List, None, Ok, Option, Result, Some, [], ap, arith, cond, eqb, false, inl, inr, length, ltb, map, max, not, refl, subst, suc, sym, true, zero, ℕ, ◌&&◌, ◌+◌, ◌-◌, ◌<◌, ◌^◌, ◌||◌, ◌∙◌, ◌∷◌, ◌≡◌, ◌≤◌, ◌⊎◌}
-use Rattle.std.proofs.lemmas.Bool.{and_parts, eq-eqb, le-ltb, lt-ltb, ltb-false, ltb-true, ne_eqb}
+use Rattle.table_rows.proofs.Electing.{collect_row, greater_last_row, last_row, number_above, promised}
+use Rattle.table_rows.proofs.Serving.{begins, learned, learns_one}
+use Rattle.std.proofs.Common.{Bool, List, None, Ok, Option, Result, Some, [], ap, arith, cond, eqb, false, inl, inr, length, ltb, map, max, refl, subst, suc, sym, true, zero, ℕ, ◌&&◌, ◌+◌, ◌-◌, ◌<◌, ◌^◌, ◌∙◌, ◌∷◌, ◌≡◌, ◌≤◌, ◌⊎◌}
+use Rattle.std.proofs.lemmas.Bool.{le-ltb, lt-ltb, ltb-false, ltb-true}
 use Rattle.std.proofs.lemmas.List.{length-set}
 use Rattle.std.specs.List.{flat_map}
 use Rattle.std.specs.Prelude.{drop, if◌then◌else◌, replicate, slice_index_or, slice_set}

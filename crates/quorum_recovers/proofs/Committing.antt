@@ -21,7 +21,7 @@ use Rattle.quorum_elects.proofs.InTurn.{InTurn, Peon, Turned, at_first, covers_o
 use Rattle.quorum_elects.proofs.Majorities.{Majority, scope}
 use Rattle.quorum_elects.proofs.Moving.{Did, HasReply}
 use Rattle.quorum_elects.proofs.Planning.{Does, Plays, does_then, does_weaker, passes, plays_all, plays_weaker, step}
-use Rattle.quorum_elects.proofs.Ranks.{has_self, in_or_out, same_or_not, up_to}
+use Rattle.quorum_elects.proofs.Ranks.{in_or_out, same_or_not}
 use Rattle.quorum_elects.proofs.Standing.{Is, letter}
 use Rattle.quorum_elects.proofs.Steps.{deliver, is_now, is_stays}
 use Rattle.quorum_elects.proofs.Tests.{and_false, chosen, in_phase, itself_is, other_is, otherwise, outside_is, quorum_is}

@@ -2,27 +2,23 @@
 use Rattle.election_rules.specs.Ranking.{allows}
 use Rattle.election_rules.specs.declared.rule.Rule.{Rule}
 use Rattle.mon_bytes.specs.declared.command.Command.{Command}
-use Rattle.mon_bytes.specs.declared.command.Command.TheVariants as command
 use Rattle.mon_bytes.specs.declared.command.CommandRefused.{CommandRefused}
 use Rattle.mon_bytes.specs.declared.entry.Entry.{Entry}
-use Rattle.mon_msg.specs.Protocol.Changes.{Boot, Epoch, Last, Learn}
-use Rattle.mon_msg.specs.Protocol.Collecting.{begin_found, catch_up, collect, collect_with, reign, settle}
-use Rattle.mon_msg.specs.Protocol.Commands.{ask, is_too_long, may_propose}
-use Rattle.mon_msg.specs.Protocol.Course.{Course, arm_if, change, change_if, disarm, elector_is, forget_clients, in_phase, leader_is, leads_in, prober_is, ◌▸◌}
+use Rattle.mon_msg.specs.Protocol.Changes.{Boot, Epoch, Learn}
+use Rattle.mon_msg.specs.Protocol.Collecting.{begin_found, catch_up, collect_with, settle}
+use Rattle.mon_msg.specs.Protocol.Commands.{is_too_long, may_propose}
+use Rattle.mon_msg.specs.Protocol.Course.{Course, arm_if, change, change_if, disarm, elector_is, leader_is, ◌▸◌}
 use Rattle.mon_msg.specs.Protocol.Entering.{bootstrap, next_even, scores_count, win_alone}
-use Rattle.mon_msg.specs.Protocol.Hearing.{hear_client}
-use Rattle.mon_msg.specs.Protocol.Leading.{be_active, begin, begin_alone, extend, has_queue, is_alone}
-use Rattle.mon_msg.specs.Protocol.Learning.{learn}
-use Rattle.mon_msg.specs.Protocol.Phases.{is_leading, same_phase}
+use Rattle.mon_msg.specs.Protocol.Leading.{be_active, extend, has_queue, is_alone}
+use Rattle.mon_msg.specs.Protocol.Phases.{same_phase}
 use Rattle.mon_msg.specs.Protocol.Played.{play}
-use Rattle.mon_msg.specs.Protocol.Proposing.{begin_made, propose, refusal}
+use Rattle.mon_msg.specs.Protocol.Proposing.{begin_made, refusal}
 use Rattle.mon_msg.specs.Protocol.Readings.{Readings, epoch_of, or_zero, promise_of}
-use Rattle.mon_msg.specs.Protocol.Records.{found_as, pending_of, record_at}
-use Rattle.mon_msg.specs.Protocol.Sending.{answer_any, members}
+use Rattle.mon_msg.specs.Protocol.Sending.{members}
 use Rattle.mon_msg.specs.Protocol.Services.{service_last}
 use Rattle.mon_msg.specs.Protocol.Sets.{is_empty, only}
 use Rattle.mon_msg.specs.Protocol.State.{State, booting}
-use Rattle.mon_msg.specs.Protocol.Table.{at_rest, first_elector, react, start}
+use Rattle.mon_msg.specs.Protocol.Table.{at_rest, first_elector, react}
 use Rattle.mon_msg.specs.Protocol.Value.{service_of, value}
 use Rattle.mon_msg.specs.declared.input.Input.TheVariants as input
 use Rattle.mon_msg.specs.declared.paxos.Found.{Found}
@@ -30,10 +26,8 @@ use Rattle.mon_msg.specs.declared.paxos.LeaderStage.TheVariants as stage
 use Rattle.mon_msg.specs.declared.plan.Origin.TheVariants as origin
 use Rattle.mon_msg.specs.declared.plan.Sent.TheVariants as send
 use Rattle.mon_msg.specs.declared.view.Me.{Me}
-use Rattle.mon_tx.specs.Decision.{Cell}
 use Rattle.mon_tx.specs.declared.op.Op.{Op}
 use Rattle.mon_types.specs.Proposal.{next_number}
-use Rattle.mon_types.specs.declared.names.Which.TheVariants as which
 use Rattle.mon_wire.specs.declared.phase.Phase.TheVariants as phase
 use Rattle.mon_wire.specs.declared.phase.Timer.TheVariants as timer
 use Rattle.mon_wire.specs.declared.reply.Reply.TheVariants as reply
@@ -48,12 +42,10 @@ use Rattle.quorum_model.specs.Monitors.{Monitors}
 use Rattle.quorum_walk.proofs.FineCourses.{Val}
 use Rattle.quorum_walk.proofs.Lists.{Among}
 use Rattle.quorum_walk.proofs.Sparing.{Own, learned_own}
-use Rattle.table_rows.proofs.Commands as asking
-use Rattle.table_rows.proofs.Electing.{collects_alone, number_above, reigning, wins_alone}
-use Rattle.table_rows.proofs.Starting.{alone, leads_alone, start_row}
-use Rattle.table_rows.proofs.Values.{begins_alone, none_pends}
-use Rattle.std.proofs.Common.{Bool, Err, List, None, Ok, Option, Result, Some, [], ap, arith, cond, false, inl, inr, max, not, refl, subst, suc, sym, true, ℕ, ◌&&◌, ◌+◌, ◌^◌, ◌∙◌, ◌∷◌, ◌≡◌, ◌≤◌, ◌⊎◌}
-use Rattle.std.proofs.lemmas.Bool.{ne_eqb}
+use Rattle.table_rows.proofs.Electing.{alone, collects_alone, leads_alone, number_above, reigning, start_row, wins_alone}
+use Rattle.table_rows.proofs.Serving as rows
+use Rattle.table_rows.proofs.Serving.{begins_alone, none_pends}
+use Rattle.std.proofs.Common.{Bool, Err, List, None, Ok, Option, Result, Some, [], ap, arith, false, inl, inr, max, not, refl, subst, suc, sym, true, ℕ, ◌&&◌, ◌+◌, ◌^◌, ◌∙◌, ◌∷◌, ◌≡◌, ◌≤◌, ◌⊎◌}
 use Rattle.std.specs.Prelude.{is_some}
 
 -- it leads itself, and has l versions
@@ -129,7 +121,7 @@ module _ (most : 1 ≤ 15) (rule : Rule) (sh : List Entry) (now : ℕ) where
   pub answers_alone : (w : Readings) (s : State) (l : ℕ) → IsAlone l w s → suc l ≤ 2 ^ 62 → (session : Session) (c : Command) → is_too_long c ≡ false → suc (service_last w (service_of c)) ≤ 2 ^ 62 → ((x : List Op) → value w c 0 ≡ Ok x → Val x)
       → Surely (λ y. Sound w y × (Commits w l c session y ⊎ Refuses w c session y)) (react me sh now w s (input.Client session (request_of c)))
   answers_alone w s l P room session c short service vals =
-      so (takes_command me sh now w s session c P.phase ∙ asking.proposes me now c (origin.Session session) (at_rest w s) short free service refl) (made (value w c 0) refl)
+      so (takes_command me sh now w s session c P.phase ∙ rows.proposes me now c (origin.Session session) (at_rest w s) short free service refl) (made (value w c 0) refl)
     where
       Goal : Course → Type 0
       Goal y = Sound w y × (Commits w l c session y ⊎ Refuses w c session y)

@@ -12,7 +12,7 @@ use Rattle.quorum_elects.proofs.InTurn.{covers_one, covers_with}
 use Rattle.quorum_elects.proofs.Majorities.{Majority, scope}
 use Rattle.quorum_elects.proofs.Moving.{Did}
 use Rattle.quorum_elects.proofs.Planning.{Does, Plays, does_then, does_weaker, passes, plays_all, plays_none, plays_then, plays_weaker, step}
-use Rattle.quorum_elects.proofs.Ranks.{Greatest, IsHighest, has_self, highest_of, in_or_out, same_or_not, up_to}
+use Rattle.quorum_elects.proofs.Ranks.{Greatest, IsHighest, highest_of, in_or_out, same_or_not}
 use Rattle.quorum_elects.proofs.Standing.{Is, letter}
 use Rattle.quorum_elects.proofs.Steps.{deliver, is_now, is_stays}
 use Rattle.quorum_elects.proofs.Tests.{and_false, chosen, in_phase, itself_is, other_is, otherwise, outside_is, quorum_is}
@@ -30,7 +30,7 @@ use Rattle.quorum_recovers.proofs.States.{IsAsking, IsHearing, IsProposing}
 use Rattle.quorum_recovers.proofs.Terms.{Term, answered_is}
 use Rattle.quorum_recovers.proofs.Terms as terms
 use Rattle.quorum_recovers.specs.Plan as plan
-use Rattle.quorum_walk.proofs.Ranks.{has_only, has_only_is, has_with, within_at}
+use Rattle.quorum_walk.proofs.Ranks.{has_only, has_only_is, within_at}
 use Rattle.std.proofs.Common.{Bool, List, None, [], ap, arith, cond, false, inl, inr, length, ltb, max, refl, subst, suc, sym, true, ℕ, ◌&&◌, ◌*◌, ◌++◌, ◌+◌, ◌<◌, ◌^◌, ◌∙◌, ◌∷◌, ◌≡◌, ◌≤◌, ◌⊎◌}
 use Rattle.std.proofs.lemmas.Bool.{cases_lt, false≢true, le-ltb, lt-ltb}
 use Rattle.std.proofs.lemmas.List.{length-set}

@@ -29,8 +29,8 @@ use Rattle.quorum_elects.proofs.Values.{FoundShort}
 use Rattle.quorum_model.specs.CalmSchedule.{request_of}
 use Rattle.quorum_recovers.proofs.LastAnswers.{fits_commit, run_one}
 use Rattle.quorum_walk.proofs.Lists.{Among, among_left, among_right}
-use Rattle.table_rows.proofs.Commands.{asks_leader}
 use Rattle.table_rows.proofs.Hearing.{IsLeader, IsMember, asked}
+use Rattle.table_rows.proofs.Serving.{asks_leader}
 use Rattle.std.proofs.Common.{Bool, List, Option, Some, [], ap, arith, cond, false, inl, inr, length, min, refl, subst, suc, true, zero, ℕ, ◌+◌, ◌-◌, ◌<◌, ◌^◌, ◌||◌, ◌∙◌, ◌∷◌, ◌≡◌, ◌≤◌}
 use Rattle.std.specs.List.{flat_map}
 use Rattle.std.specs.Prelude.{slice_index_or, slice_set}

@@ -1,23 +1,18 @@
 -- The rows by which a leader commits a value, and proposes one that a client asks.
 use Rattle.mon_bytes.specs.declared.command.Command.{Command}
-use Rattle.mon_bytes.specs.declared.command.Command.TheVariants as command
 use Rattle.mon_bytes.specs.declared.command.CommandRefused.{CommandRefused}
 use Rattle.mon_bytes.specs.declared.entry.Entry.{Entry}
 use Rattle.mon_lease.specs.Lease.{stands}
 use Rattle.mon_msg.specs.Protocol.Changes.{Last, Learn, Vote}
-use Rattle.mon_msg.specs.Protocol.Commands.{ask, is_too_long, may_propose}
-use Rattle.mon_msg.specs.Protocol.Course.{Course, change, disarm, leader_is, ◌▸◌}
-use Rattle.mon_msg.specs.Protocol.Hearing.{hear_client, is_heard}
-use Rattle.mon_msg.specs.Protocol.Leader.{commit_any, hear_accept, is_one_of, of_member}
-use Rattle.mon_msg.specs.Protocol.Leading.{be_active, begin, begin_with, commit, extend, has_queue, is_alone}
-use Rattle.mon_msg.specs.Protocol.Learning.{learn}
-use Rattle.mon_msg.specs.Protocol.Peon.{hear_begin, hear_commit, of_leader}
+use Rattle.mon_msg.specs.Protocol.Commands.{is_too_long, may_propose}
+use Rattle.mon_msg.specs.Protocol.Course.{Course, change}
+use Rattle.mon_msg.specs.Protocol.Leading.{be_active, begin_with, commit, extend, has_queue, is_alone}
 use Rattle.mon_msg.specs.Protocol.Phases.{is_leading, is_peon, same_phase}
-use Rattle.mon_msg.specs.Protocol.Proposing.{begin_made, propose, refusal}
-use Rattle.mon_msg.specs.Protocol.Readings.{Readings, epoch_of, epoch_or_first, or_zero, promise_of}
+use Rattle.mon_msg.specs.Protocol.Proposing.{begin_made, refusal}
+use Rattle.mon_msg.specs.Protocol.Readings.{Readings, epoch_of, epoch_or_first, or_zero}
 use Rattle.mon_msg.specs.Protocol.Reads.{is_standing}
 use Rattle.mon_msg.specs.Protocol.Records.{most_value}
-use Rattle.mon_msg.specs.Protocol.Sending.{answer_any, answers_to, members, message_to, send_each}
+use Rattle.mon_msg.specs.Protocol.Sending.{answers_to, members, message_to}
 use Rattle.mon_msg.specs.Protocol.Services.{service_last}
 use Rattle.mon_msg.specs.Protocol.Sets.{are_within, is_empty, only}
 use Rattle.mon_msg.specs.Protocol.State.{State, lease_of}
@@ -33,11 +28,9 @@ use Rattle.mon_msg.specs.declared.view.Me.{Me}
 use Rattle.mon_tx.specs.Text.{text}
 use Rattle.mon_tx.specs.declared.op.Op.{Op}
 use Rattle.mon_types.specs.Ranks.{has, with_rank}
-use Rattle.mon_types.specs.declared.names.Which.TheVariants as which
 use Rattle.mon_wire.specs.declared.body.Body.TheVariants as body
 use Rattle.mon_wire.specs.declared.phase.Phase.{Phase}
 use Rattle.mon_wire.specs.declared.phase.Phase.TheVariants as phase
-use Rattle.mon_wire.specs.declared.phase.Timer.TheVariants as timer
 use Rattle.mon_wire.specs.declared.reply.Reply.TheVariants as reply
 use Rattle.mon_wire.specs.declared.request.Session.{Session}
 use Rattle.quorum_elects.proofs.Moving.{Sound}
@@ -52,12 +45,11 @@ use Rattle.quorum_recovers.proofs.States.{IsActive, IsHearing, IsProposing, foll
 use Rattle.quorum_walk.proofs.FineCourses.{Val}
 use Rattle.quorum_walk.proofs.Lists.{Among, among_left, among_right}
 use Rattle.quorum_walk.proofs.Sparing.{Own}
-use Rattle.table_rows.proofs.Commands as asking
-use Rattle.table_rows.proofs.Values as values
-use Rattle.table_rows.proofs.Values.{accept_row, accepted, begin_row, commit_row, last_accept_row, learned}
-use Rattle.std.proofs.Common.{Bool, Err, List, None, Ok, Option, Result, Some, [], ap, arith, eqb, false, inl, inr, length, ltb, map, not, refl, subst, suc, sym, true, ℕ, ◌&&◌, ◌+◌, ◌-◌, ◌<◌, ◌^◌, ◌||◌, ◌∙◌, ◌∷◌, ◌≡◌, ◌≤◌, ◌⊎◌}
+use Rattle.table_rows.proofs.Serving as rows
+use Rattle.table_rows.proofs.Serving.{accept_row, accepted, begin_row, commit_row, last_accept_row, learned}
+use Rattle.std.proofs.Common.{Bool, Err, List, None, Ok, Option, Result, Some, [], ap, arith, eqb, false, inl, inr, length, ltb, map, not, refl, subst, suc, sym, true, ℕ, ◌&&◌, ◌-◌, ◌<◌, ◌^◌, ◌∙◌, ◌∷◌, ◌≡◌, ◌≤◌, ◌⊎◌}
 use Rattle.std.proofs.lemmas.Bool.{lt-ltb}
-use Rattle.std.specs.Prelude.{drop, if◌then◌else◌}
+use Rattle.std.specs.Prelude.{if◌then◌else◌}
 
 module _ (ms : Monitors) (several : 1 < ms.count) (i : ℕ) (lt : ltb i ms.count ≡ true) (sh : List Entry) (now : ℕ) where
   abbrev n : ℕ
@@ -124,7 +116,7 @@ module _ (ms : Monitors) (several : 1 < ms.count) (i : ℕ) (lt : ltb i ms.count
       let S1 = sound_more w (accepted w s f) (Learn (suc w.last) value) tt (let z = X.short in omega arith) (ap (λ (o : Own). o.marked) own ∙ P.unmarked) (record { tells = refl; fits = tt; short = tt; unmarked = P.unmarked }) in
       let S2 = sound_more w (change (Learn (suc w.last) value) (accepted w s f)) (Last (suc w.last)) fits tt S1.unmarked S1 in
       let at : epoch_of c0.readings ≡ e = ap (λ (o : Own). epoch_or_first o.epoch) own ∙ P.epoch in
-      so (values.commits me now value (accepted w s f) fits) (done (
+      so (rows.commits me now value (accepted w s f) fits) (done (
         record { tells = S2.tells; fits = S2.fits; short = S2.short; unmarked = S2.unmarked },
         record {
           stands = record {
@@ -201,7 +193,7 @@ module _ (ms : Monitors) (several : 1 < ms.count) (i : ℕ) (lt : ltb i ms.count
       → Surely (Does w (λ y. Proposes w c e a l pn session y ⊎ Refuses w c session y)) (react me sh now w s (input.Client session (request_of c)))
   unfolding begin_with
   proposes w s e a l pn P others soon room session c short service vals =
-      so (takes_command me sh now w s session c P.phase ∙ asking.proposes me now c (origin.Session session) (at_rest w s) short free service refl) (made (mon_value.value w c i) refl)
+      so (takes_command me sh now w s session c P.phase ∙ rows.proposes me now c (origin.Session session) (at_rest w s) short free service refl) (made (mon_value.value w c i) refl)
     where
       Goal : Course → Type 0
       Goal y = Does w (λ y. Proposes w c e a l pn session y ⊎ Refuses w c session y) y
@@ -221,7 +213,7 @@ module _ (ms : Monitors) (several : 1 < ms.count) (i : ℕ) (lt : ltb i ms.count
           let fits : suc w.last ≤ 2 ^ 62 = (let z = P.last in omega arith) in
           let X = vals v is in
           let Z = sound_more w (at_rest w s) (Vote (suc w.last) s.leader.pn v) (fits, (let z = P.number in let q = P.short in omega arith)) (let z = X.short in omega arith) P.unmarked (record { tells = refl; fits = tt; short = tt; unmarked = P.unmarked }) in
-          so (values.begins me now stage.Updating v (Some (origin.Session session)) (at_rest w s) fits (ap (is_alone me) P.quorum ∙ others)) (done (
+          so (rows.begins me now stage.Updating v (Some (origin.Session session)) (at_rest w s) fits (ap (is_alone me) P.quorum ∙ others)) (done (
             record { tells = Z.tells; fits = Z.fits; short = Z.short; unmarked = Z.unmarked },
             inl (record {
               value = v;

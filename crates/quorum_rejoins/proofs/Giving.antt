@@ -3,7 +3,7 @@ use Rattle.mon_bytes.specs.declared.entry.Entry.{Entry}
 use Rattle.mon_msg.specs.Protocol.Course.{Course}
 use Rattle.mon_msg.specs.Protocol.Phases.{same_phase}
 use Rattle.mon_msg.specs.Protocol.Places.{is_after, is_cookie}
-use Rattle.mon_msg.specs.Protocol.Providing.{chunk, grant, hear_get_chunk, hear_get_cookie_full, hear_get_cookie_recent}
+use Rattle.mon_msg.specs.Protocol.Providing.{chunk, grant}
 use Rattle.mon_msg.specs.Protocol.Readings.{Readings, epoch_of}
 use Rattle.mon_msg.specs.Protocol.State.{State}
 use Rattle.mon_msg.specs.Protocol.Table.{at_rest, react}
@@ -22,10 +22,10 @@ use Rattle.quorum_elects.proofs.Walking.{Surely, done, so, where_fits}
 use Rattle.quorum_model.proofs.Members.{member_of}
 use Rattle.quorum_model.specs.Monitors.{Monitors}
 use Rattle.quorum_walk.proofs.Lists.{Among}
-use Rattle.table_rows.proofs.Copying.{get_chunk_row, get_cookie_full_row, get_cookie_recent_row}
 use Rattle.table_rows.proofs.Hearing.{another}
-use Rattle.std.proofs.Common.{Bool, List, None, Option, Some, [], ap, arith, eqb, false, inl, length, ltb, not, refl, suc, true, zero, ℕ, ◌&&◌, ◌<◌, ◌^◌, ◌||◌, ◌∙◌, ◌∷◌, ◌≡◌, ◌≤◌}
-use Rattle.std.proofs.lemmas.Bool.{eq-eqb, le-ltb, ne_eqb}
+use Rattle.table_rows.proofs.Serving.{get_chunk_row, get_cookie_full_row, get_cookie_recent_row}
+use Rattle.std.proofs.Common.{Bool, List, None, Option, Some, [], ap, arith, false, inl, length, ltb, refl, suc, true, zero, ℕ, ◌&&◌, ◌<◌, ◌^◌, ◌∙◌, ◌∷◌, ◌≡◌, ◌≤◌}
+use Rattle.std.proofs.lemmas.Bool.{eq-eqb}
 use Rattle.std.specs.Prelude.{filter, slice_index_or, slice_set}
 
 pub held_set : (xs : List (Option Cookie)) (k : ℕ) (c : Option Cookie) → k < length xs → slice_index_or (slice_set xs k c) k None ≡ c

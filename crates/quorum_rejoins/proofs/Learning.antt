@@ -5,12 +5,11 @@ use Rattle.log_model.proofs.Lists.{all_append}
 use Rattle.mon_bytes.specs.declared.entry.Entry.{Entry}
 use Rattle.mon_bytes.specs.declared.entry.KeyPlace.TheVariants as key_place
 use Rattle.mon_msg.specs.Protocol.Changes.{Last}
-use Rattle.mon_msg.specs.Protocol.Chunks.{hear_chunk, hear_last_chunk, is_ours, next_place, replay_or_end, take, take_and_ask, take_last}
+use Rattle.mon_msg.specs.Protocol.Chunks.{next_place, replay_or_end, take, take_and_ask, take_last}
 use Rattle.mon_msg.specs.Protocol.Copying.{ask_chunk}
 use Rattle.mon_msg.specs.Protocol.Course.{Course, change, change_all, requester_is, ◌>>=◌, ◌▸◌}
 use Rattle.mon_msg.specs.Protocol.Entering.{bootstrap}
 use Rattle.mon_msg.specs.Protocol.Learning.{learn, learn_changes}
-use Rattle.mon_msg.specs.Protocol.Phases.{same_phase}
 use Rattle.mon_msg.specs.Protocol.Played.{Fits, played}
 use Rattle.mon_msg.specs.Protocol.Readings.{Readings, epoch_of}
 use Rattle.mon_msg.specs.Protocol.State.{State}
@@ -35,8 +34,8 @@ use Rattle.quorum_model.specs.Monitors.{Monitors}
 use Rattle.quorum_rejoins.proofs.Taking.{Chunks, Takes, gives_to, is_ours_now}
 use Rattle.quorum_walk.proofs.Lists.{Among}
 use Rattle.quorum_walk.proofs.Sparing.{Own, Spares, learned_own, own_of, played_more}
-use Rattle.table_rows.proofs.Copying.{chunk_row, last_chunk_row}
-use Rattle.table_rows.proofs.Starting.{probes}
+use Rattle.table_rows.proofs.Electing.{probes}
+use Rattle.table_rows.proofs.Serving.{chunk_row, last_chunk_row}
 use Rattle.std.proofs.Common.{Bool, List, Ok, Result, Some, [], ap, arith, false, inl, leb, length, ltb, refl, subst, suc, sym, true, ℕ, ◌++◌, ◌+◌, ◌<◌, ◌^◌, ◌∙◌, ◌∷◌, ◌≡◌, ◌≤◌}
 use Rattle.std.proofs.lemmas.Bool.{le-leb, lt-ltb}
 use Rattle.std.proofs.lemmas.List.{length-set}

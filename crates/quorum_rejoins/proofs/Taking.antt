@@ -4,16 +4,15 @@ use Rattle.mon_bytes.specs.declared.entry.Entry.{Entry}
 use Rattle.mon_bytes.specs.declared.entry.KeyPlace.TheVariants as key_place
 use Rattle.mon_bytes.specs.declared.entry.KeyPlace.{KeyPlace}
 use Rattle.mon_msg.specs.Protocol.Changes.{Boot, Change, Epoch, Last, Mark, Unmark}
-use Rattle.mon_msg.specs.Protocol.Chunks.{copy_changes, hear_chunk, hear_last_chunk, is_ours, next_place, replay_or_end, take, take_and_ask, take_last, takes_chunks}
-use Rattle.mon_msg.specs.Protocol.Copying.{ask_chunk, awaits_cookie, first_place, hear_cookie, of_provider, same_flag}
+use Rattle.mon_msg.specs.Protocol.Chunks.{copy_changes, next_place, replay_or_end, take, take_and_ask, take_last, takes_chunks}
+use Rattle.mon_msg.specs.Protocol.Copying.{ask_chunk, awaits_cookie, first_place, same_flag}
 use Rattle.mon_msg.specs.Protocol.Course.{Course, arm, change_all, disarm, requester_is, ◌>>=◌, ◌▸◌}
-use Rattle.mon_msg.specs.Protocol.Entering.{bootstrap}
 use Rattle.mon_msg.specs.Protocol.Phases.{same_phase}
 use Rattle.mon_msg.specs.Protocol.Places.{after_entries, is_cookie, same_key_place, same_place}
 use Rattle.mon_msg.specs.Protocol.Played.{Fits, play, played}
-use Rattle.mon_msg.specs.Protocol.Probing.{hear_probe_reply, lag}
+use Rattle.mon_msg.specs.Protocol.Probing.{lag}
 use Rattle.mon_msg.specs.Protocol.Readings.{Readings, epoch_of}
-use Rattle.mon_msg.specs.Protocol.Replay.{replay_any, replay_step, step_in, step_of}
+use Rattle.mon_msg.specs.Protocol.Replay.{replay_any, step_of}
 use Rattle.mon_msg.specs.Protocol.State.{State, booting}
 use Rattle.mon_msg.specs.Protocol.Synchronizing.{floor_of, full_sync, recent_sync}
 use Rattle.mon_msg.specs.Protocol.Table.{at_rest, react, start}
@@ -25,7 +24,6 @@ use Rattle.mon_msg.specs.declared.synchronization.SyncStage.{SyncStage}
 use Rattle.mon_msg.specs.declared.view.Me.{Me}
 use Rattle.mon_msg.specs.Protocol.Sending.{message_to}
 use Rattle.mon_msg.specs.Protocol.Sending as sending
-use Rattle.mon_types.specs.declared.names.Which.TheVariants as which
 use Rattle.mon_types.specs.declared.names.Which.{Which}
 use Rattle.mon_wire.specs.declared.body.Body.TheVariants as body
 use Rattle.mon_wire.specs.declared.parts.Cookie.{Cookie}
@@ -40,10 +38,10 @@ use Rattle.quorum_model.proofs.Members.{member_of}
 use Rattle.quorum_model.specs.Monitors.{Monitors}
 use Rattle.quorum_rejoins.proofs.Giving.{same_cookie_is}
 use Rattle.quorum_walk.proofs.Lists.{Among}
-use Rattle.table_rows.proofs.Copying.{chunk_row, cookie_row, last_chunk_row, step_row}
+use Rattle.table_rows.proofs.Electing.{asks_recent_row, copies_again_row, copies_row, probes, probing, start_row}
 use Rattle.table_rows.proofs.Hearing.{IsProvider}
-use Rattle.table_rows.proofs.Starting.{asks_recent_row, copies_again_row, copies_row, probes, probing, start_row}
-use Rattle.std.proofs.Common.{Bool, List, None, Ok, Option, Result, Some, [], ap, arith, eqb, false, inl, inr, leb, length, ltb, not, refl, subst, suc, sym, true, ℕ, ◌&&◌, ◌+◌, ◌-◌, ◌<◌, ◌^◌, ◌||◌, ◌∙◌, ◌∷◌, ◌≡◌, ◌≤◌, ◌⊎◌}
+use Rattle.table_rows.proofs.Serving.{chunk_row, cookie_row, last_chunk_row, step_row}
+use Rattle.std.proofs.Common.{Bool, List, None, Ok, Option, Result, Some, [], ap, arith, false, inl, inr, leb, length, ltb, not, refl, subst, suc, sym, true, ℕ, ◌&&◌, ◌+◌, ◌-◌, ◌<◌, ◌^◌, ◌∙◌, ◌∷◌, ◌≡◌, ◌≤◌, ◌⊎◌}
 use Rattle.std.proofs.lemmas.Bool.{eq-eqb, le-leb, lt-ltb}
 use Rattle.std.proofs.lemmas.List.{length-set}
 use Rattle.std.proofs.lemmas.Slice.Eq.{bytes_eq-Decides}

@@ -26,8 +26,8 @@ use Rattle.quorum_model.proofs.Members.{member_of}
 use Rattle.quorum_model.specs.Monitors.{Monitors}
 use Rattle.quorum_stays.proofs.Timers.{extended_timers, maybe_armed}
 use Rattle.table_rows.proofs.Hearing.{IsLeader, IsMember}
-use Rattle.table_rows.proofs.Values as rows
-use Rattle.std.proofs.Common.{Bool, List, None, Ok, Some, [], false, inr, ltb, map, not, refl, suc, sym, true, ℕ, ◌++◌, ◌^◌, ◌∙◌, ◌∷◌, ◌≡◌, ◌≤◌}
+use Rattle.table_rows.proofs.Serving as rows
+use Rattle.std.proofs.Common.{Bool, List, None, Ok, Some, [], false, inr, ltb, map, not, refl, suc, true, ℕ, ◌++◌, ◌^◌, ◌∙◌, ◌∷◌, ◌≡◌, ◌≤◌}
 use Rattle.std.specs.Prelude.{is_some}
 
 module _ (ms : Monitors) (i : ℕ) (lt : ltb i ms.count ≡ true) (sh : List Entry) (now : ℕ) (w : Readings) (s : State) where

@@ -64,14 +64,7 @@ voter_runs {me} {s} {f} other voting = record { other = other; runs = by s.phase
   where
     by : (p : Phase) → votes p ≡ true → same_phase p phase.Booting ≡ false
     by phase.Booting v = sym v
-    by phase.Probing v = refl
-    by phase.Synchronizing v = refl
-    by phase.Electing v = refl
-    by phase.Collecting v = refl
-    by phase.Previous v = refl
-    by phase.Active v = refl
-    by phase.Updating v = refl
-    by phase.Peon v = refl
+    by other v = refl
 
 pub is_of_leader : {me : Me} {w : Readings} {s : State} {f e : ℕ} → IsLeader me w s f e → of_leader f e (at_rest w s) ≡ true
 is_of_leader {me} {w} {s} {f} {e} L = λ j. same_phase (L.follows j) phase.Peon && eq-eqb e (epoch_of w) (sym L.epoch) j && eq-eqb f s.peon.leader (sym L.leader) j
