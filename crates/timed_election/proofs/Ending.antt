@@ -36,13 +36,13 @@ module _ (ms : Monitors) (q : List Bool) (pace : Pace) (quick : IsQuick pace) (E
     ups : (i : ℕ) → has q i ≡ true → IsSomeAnd (t.world.state i) (λ s. Unit {0})
     ups i qi = let P = opened (TakesPart q pace E i) (t.world.state i) (X.part i qi) in closed (λ (s : State). Unit {0}) (t.world.state i) P.0 P.1 tt
 
-    stepped : (e : Event) → Comes ms q pace (at_time ms q pace u t) next e → Elects ms q pace E next ⊎ IsWon q E next.world
+    stepped : (e : Event) → Comes ms q pace (at_time ms q pace u t) next e → Elects ms q pace E next ⊎ IsWon ms q pace E next
     stepped e comes = by (result ms q pace quick E t X u M H.i H.member (lt-ltb H.i ms.count (C.members H.i H.member)) H.came e H.left H.state H.up H.how (shared_entries (t.world.store H.i)) H.course H.reacts (room H.i H.member))
       where
         H : Handled ms q pace C.members t u next e
         H = handled ms q pace C.members t u between ups next e comes
 
-        by : Result ms q pace quick E t X u M H.i H.member (lt-ltb H.i ms.count (C.members H.i H.member)) H.came e H.left H.state H.up H.how (shared_entries (t.world.store H.i)) H.course H.reacts (room H.i H.member) → Elects ms q pace E next ⊎ IsWon q E next.world
+        by : Result ms q pace quick E t X u M H.i H.member (lt-ltb H.i ms.count (C.members H.i H.member)) H.came e H.left H.state H.up H.how (shared_entries (t.world.store H.i)) H.course H.reacts (room H.i H.member) → Elects ms q pace E next ⊎ IsWon ms q pace E next
         by (turns unchanged T) = inl (turned ms q pace quick E t X u M next e H.left H.went H.i H.member (lt-ltb H.i ms.count (C.members H.i H.member)) H.came H.state H.up H.how H.course H.reacts (room H.i H.member) H.did unchanged T)
         by (won best all W) = inr (is_won ms q pace quick E t X u M next e H.left H.went H.i H.member (lt-ltb H.i ms.count (C.members H.i H.member)) H.came H.state H.up H.how H.course H.reacts (room H.i H.member) H.did best all W)
 
@@ -71,7 +71,7 @@ module _ (ms : Monitors) (q : List Bool) (pace : Pace) (quick : IsQuick pace) (E
       room_now : ClocksGoOn q pace u
       room_now i qi = let k = room i qi in let l = passes in omega arith
 
-      by : Elects ms q pace E next ⊎ IsWon q E next.world → (Elects ms q pace E next → IsWonBy ms q pace E next more (E.by + 5000 + pace.late)) → IsWonBy ms q pace E t ((u, e) ∷ more) (E.by + 5000 + pace.late)
+      by : Elects ms q pace E next ⊎ IsWon ms q pace E next → (Elects ms q pace E next → IsWonBy ms q pace E next more (E.by + 5000 + pace.late)) → IsWonBy ms q pace E t ((u, e) ∷ more) (E.by + 5000 + pace.late)
       by (inl Y) rest = (let W = rest Y in record {
         before = (u, e) ∷ W.before;
         after = W.after;

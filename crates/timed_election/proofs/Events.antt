@@ -305,7 +305,7 @@ module _ (ms : Monitors) (q : List Bool) (pace : Pace) (quick : IsQuick pace) (E
     -- what becomes of the election
     pub data Result : Type 0 where
       turns : y.changes ≡ [] → Turn i came s y.state y.out → Result
-      won : i ≡ b → ((j : ℕ) → has q j ≡ true → has s.elector.acked j ≡ true) → Wins w s.elector.acked y → Result
+      won : i ≡ b → ((j : ℕ) → has q j ≡ true → has s.elector.acked j ≡ true) → Wins ms.count i w s.elector.acked y → Result
 
     pub result : Result
     result = by outcome

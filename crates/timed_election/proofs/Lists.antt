@@ -1,13 +1,19 @@
 -- Options, messages, and what is under way.
+use Rattle.mon_msg.specs.declared.plan.Sent.TheVariants as sent
+use Rattle.mon_msg.specs.declared.plan.Sent.{Sent}
 use Rattle.mon_wire.specs.declared.body.Body.TheVariants as body
 use Rattle.mon_wire.specs.declared.body.Body.{Body}
 use Rattle.mon_wire.specs.declared.message.Message.{Message}
+use Rattle.quorum_model.specs.Clients.{messages_of}
 use Rattle.quorum_model.specs.Meets.{message_at}
 use Rattle.quorum_model.specs.World.{Envelope}
 use Rattle.quorum_timed.specs.Calls.{IsCall}
-use Rattle.quorum_timed.specs.Timed.{Owed}
-use Rattle.std.proofs.Common.{IfSome, List, None, Option, Some, [], ap, arith, inl, inr, length, refl, subst, suc, sym, zero, ℕ, ◌++◌, ◌<◌, ◌∙◌, ◌∷◌, ◌≡◌, ◌≤◌, ◌⊎◌}
-use Rattle.std.specs.List.{AllByRecursion}
+use Rattle.quorum_stays.proofs.UnderWay.{numbers}
+use Rattle.quorum_timed.specs.Timed.{Owed, owed_by}
+use Rattle.quorum_walk.proofs.Lists.{Among}
+use Rattle.std.proofs.Common.{Bool, IfSome, List, None, Option, Some, [], ap, arith, cond, eqb, false, filter, inl, inr, length, map, refl, subst, suc, sym, true, zero, ℕ, ◌&&◌, ◌++◌, ◌+◌, ◌<◌, ◌∙◌, ◌∷◌, ◌≡◌, ◌≤◌, ◌⊎◌}
+use Rattle.std.proofs.lemmas.Bool.{and_from, eq-eqb, false≢true}
+use Rattle.std.specs.List.{AllByRecursion, enumerate_from}
 use Rattle.std.specs.Prelude.{IsSomeAnd, slice_get}
 use Rattle.table_walk.proofs.Lists.{all_get}
 use Rattle.timed_election.specs.Election.{ArrivesBy}
@@ -74,3 +80,47 @@ arrives_last by P (z ∷ os) o all le k = (all.0, inr (arrives_last by P os o al
 
 pub at_place : {A : Type 0} (P : A → Type 0) (xs : List A) (d : ℕ) (x : A) → AllByRecursion P xs → slice_get xs d ≡ Some x → P x
 at_place {A = A} P xs d x all there = subst (λ (o : Option A). IfSome o P) there (all_get P xs d all)
+
+abbrev envelope_in : Envelope → Sent → Envelope
+envelope_in z (sent.Message to m) = record { to = to; message = m }
+envelope_in z (sent.Reply to r) = z
+
+-- a list has a place for each of its elements
+pub place_of : {A : Type 0} (x : A) (xs : List A) → Among x xs → (d : ℕ) × (slice_get xs d ≡ Some x)
+place_of x [] a = absurd a
+place_of x (y ∷ ys) (inl e) = (0, ap Some (sym e))
+place_of x (y ∷ ys) (inr o) = let k = place_of x ys o in (suc k.0, k.1)
+
+-- a message that is sent has an envelope
+pub among_sent : (to : ℕ) (m : Message) (sends : List Sent) → Among (sent.Message to m) sends → Among (record { to = to; message = m }) (messages_of sends)
+among_sent to m [] a = absurd a
+among_sent to m (sent.Reply s r ∷ sends) (inl e) = absurd cc
+among_sent to m (sent.Reply s r ∷ sends) (inr o) = among_sent to m sends o
+among_sent to m (sent.Message k x ∷ sends) (inl e) = inl (ap (envelope_in (record { to = to; message = m })) e)
+among_sent to m (sent.Message k x ∷ sends) (inr o) = inr (among_sent to m sends o)
+
+pub arrives_after : (by : ℕ) (P : Owed → Type 0) (os more : List Owed) → AllByRecursion (λ o. o.by ≤ by) os → ArrivesBy by P more → ArrivesBy by P (os ++ more)
+arrives_after by P [] more all a = a
+arrives_after by P (o ∷ os) more all a = (all.0, inr (arrives_after by P os more all.1 a))
+
+-- a new message arrives by then
+pub arrives_new : (by : ℕ) (P : Owed → Type 0) (f i k : ℕ) (es : List Envelope) (d : ℕ) (m : Envelope) → slice_get es d ≡ Some m → m.message.from ≡ f → m.to ≡ i → P (record { number = k + d; by = by }) → ArrivesBy by P (owed_by by (numbers f i k es))
+arrives_new by P f i k [] d m there from to p = absurd cc
+arrives_new by P f i k (e ∷ es) zero m there from to p =
+    let same : e ≡ m = cc in
+    let number : k + 0 ≡ k = omega arith in
+    here (eqb e.message.from f && eqb e.to i) (and_from (eqb e.message.from f) (eqb e.to i) (eq-eqb e.message.from f (ap (λ (z : Envelope). z.message.from) same ∙ from)) (eq-eqb e.to i (ap (λ (z : Envelope). z.to) same ∙ to)))
+    (subst (λ (z : ℕ). P (record { number = z; by = by })) number p)
+  where
+    here : (b : Bool) → b ≡ true → P (record { number = k; by = by })
+        → ArrivesBy by P (owed_by by (map (λ m. m.0) (cond b ((k, e) ∷ filter (λ m. eqb m.1.message.from f && eqb m.1.to i) (enumerate_from (k + 1) es)) (filter (λ m. eqb m.1.message.from f && eqb m.1.to i) (enumerate_from (k + 1) es)))))
+    here true t p = (omega arith, inl p)
+    here false t p = absurd (false≢true t)
+arrives_new by P f i k (e ∷ es) (suc d) m there from to p =
+    let next : k + suc d ≡ k + 1 + d = omega arith in
+    either (eqb e.message.from f && eqb e.to i) (arrives_new by P f i (k + 1) es d m there from to (subst (λ (z : ℕ). P (record { number = z; by = by })) next p))
+  where
+    either : (b : Bool) → ArrivesBy by P (owed_by by (numbers f i (k + 1) es))
+        → ArrivesBy by P (owed_by by (map (λ m. m.0) (cond b ((k, e) ∷ filter (λ m. eqb m.1.message.from f && eqb m.1.to i) (enumerate_from (k + 1) es)) (filter (λ m. eqb m.1.message.from f && eqb m.1.to i) (enumerate_from (k + 1) es)))))
+    either true a = (omega arith, inr a)
+    either false a = a

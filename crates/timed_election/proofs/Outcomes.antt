@@ -20,7 +20,7 @@ use Rattle.mon_msg.specs.Protocol.Played.{Fits, played}
 use Rattle.mon_msg.specs.Protocol.Probing.{hear_probe, hear_probe_reply}
 use Rattle.mon_msg.specs.Protocol.Providing.{chunk, given_entries, given_values, grant, hear_get_chunk, hear_get_cookie_full, hear_get_cookie_recent, is_finished, reach}
 use Rattle.mon_msg.specs.Protocol.Readings.{Readings, epoch_of, or_zero, promise_of}
-use Rattle.mon_msg.specs.Protocol.Sending.{message_to, others}
+use Rattle.mon_msg.specs.Protocol.Sending.{members, message_to, others}
 use Rattle.mon_msg.specs.Protocol.Sets.{only}
 use Rattle.mon_msg.specs.Protocol.State.{State, no_clients, quorum_of}
 use Rattle.mon_msg.specs.Protocol.Table.{at_rest, react, running, timer_comes}
@@ -46,12 +46,14 @@ use Rattle.mon_wire.specs.declared.phase.Timer.{Timer}
 use Rattle.mon_wire.specs.declared.request.Request.TheVariants as request
 use Rattle.mon_wire.specs.declared.request.Request.{Request}
 use Rattle.mon_wire.specs.declared.request.Session.{Session}
+use Rattle.quorum_elects.proofs.Standing.{among_map, among_members, letter}
 use Rattle.quorum_model.proofs.Members.{member_of}
 use Rattle.quorum_model.specs.Monitors.{Monitors}
 use Rattle.quorum_timed.proofs.Armed.{Timers}
 use Rattle.quorum_timed.specs.Calls.{IsCall}
+use Rattle.quorum_walk.proofs.Lists.{Among, among_left}
 use Rattle.quorum_walk.proofs.Walk.{Then, and_then, and_three, by_test, done, or_three, where_fits}
-use Rattle.std.proofs.Common.{Bool, Err, List, None, Ok, Option, Some, [], ap, arith, eqb, false, filter, inl, inr, leb, ltb, map, max, not, refl, slice_index_or, subst, suc, sym, true, ℕ, ◌&&◌, ◌^◌, ◌||◌, ◌∙◌, ◌∷◌, ◌≡◌, ◌≤◌}
+use Rattle.std.proofs.Common.{Bool, Err, List, None, Ok, Option, Some, [], ap, arith, eqb, false, filter, inl, inr, leb, ltb, map, max, not, refl, slice_index_or, subst, suc, sym, true, ℕ, ◌&&◌, ◌<◌, ◌^◌, ◌||◌, ◌∙◌, ◌∷◌, ◌≡◌, ◌≤◌}
 use Rattle.std.proofs.lemmas.Bool.{and_parts, cond_both, eq-eqb, eqb-true, false≢true, leb-false, ltb-false, ltb-true, ne_eqb, or_cases}
 use Rattle.std.specs.List.{AllByRecursion}
 use Rattle.std.specs.Prelude.{is_some}
@@ -74,12 +76,13 @@ pub record Stays (stands : Bool) (those : List Bool) (whom : Option ℕ) (ts : T
   pub timers : y.state.timers ≡ ts
   pub changes : y.changes ≡ []
 
--- It leads this quorum in the next epoch.
-pub record Wins (w : Readings) (q : List Bool) (y : Course) : Type 0 where
+-- It leads this quorum in the next epoch, and says so to all of it.
+pub record Wins (n i : ℕ) (w : Readings) (q : List Bool) (y : Course) : Type 0 where
   pub phase : y.state.phase ≡ phase.Collecting
   pub quorum : y.state.leader.quorum ≡ q
   pub fits : AllByRecursion Fits y.changes
   pub epoch : epoch_of (played y.changes w) ≡ suc (epoch_of w)
+  pub says : (g : ℕ) → g < n → has q g ≡ true → (g ≡ i → ⊥) → Among (sent.Message g (letter n i (suc (epoch_of w)) (body.Victory q))) y.out
 
 -- what comes is of no later epoch
 abbrev pub IsLow : ℕ → Input → Type 0
@@ -115,7 +118,7 @@ module _ (ms : Monitors) (i : ℕ) (lt : ltb i ms.count ≡ true) (now : ℕ) (s
         → Stays true (only i) None (armed now timer.Election s.timers) y → y.out ≡ map (says (body.Propose None)) (others me) → Outcome came y
     calls_again : came ≡ input.Timer timer.Election → (s.elector.candidate && is_allowed me i && is_majority ms.count s.elector.acked) ≡ false
         → Stays true (only i) None (armed now timer.Election (disarmed timer.Election s.timers)) y → y.out ≡ map (says (body.Propose None)) (others me) → Outcome came y
-    wins : came ≡ input.Timer timer.Election → s.elector.candidate ≡ true → is_majority ms.count s.elector.acked ≡ true → Wins w s.elector.acked y → Outcome came y
+    wins : came ≡ input.Timer timer.Election → s.elector.candidate ≡ true → is_majority ms.count s.elector.acked ≡ true → Wins ms.count i w s.elector.acked y → Outcome came y
 
   module _ (odd : is_even (epoch_of w) ≡ false) (ranks : scores_count ms.rule ≡ false)
       (only_one : (kind : Timer) (end : ℕ) → end_of kind s.timers ≡ Some end → kind ≡ timer.Election)
@@ -167,16 +170,23 @@ module _ (ms : Monitors) (i : ℕ) (lt : ltb i ms.count ≡ true) (now : ℕ) (s
     next_epoch : (y : Course) → Then (λ (z : Course). (suc (epoch_of y.readings) ≤ 2 ^ 62) × (z ≡ change (Epoch (suc (epoch_of y.readings))) y)) (in_next_epoch y)
     next_epoch y = where_fits (λ (z : Course). (suc (epoch_of y.readings) ≤ 2 ^ 62) × (z ≡ change (Epoch (suc (epoch_of y.readings))) y)) which.Epoch (suc (epoch_of y.readings)) _ (λ fits. done (fits, refl))
 
-    reigns : (ts : Timers) → is_majority ms.count s.elector.acked ≡ true → suc (epoch_of w) ≤ 2 ^ 62 → Then (Wins w s.elector.acked) (reign me now s.elector.acked (change (Epoch (suc (epoch_of w))) (with_votes s.elector ts)))
+    reigns : (ts : Timers) → is_majority ms.count s.elector.acked ≡ true → suc (epoch_of w) ≤ 2 ^ 62 → Then (Wins ms.count i w s.elector.acked) (reign me now s.elector.acked (change (Epoch (suc (epoch_of w))) (with_votes s.elector ts)))
     unfolding reign collect collect_with
     reigns ts most fits =
-        where_fits (Wins w s.elector.acked) which.Pn (next_number (or_zero w.last_pn) (max (promise_of w) 0) i) _ (λ short.
-        by_test (is_alone me s.elector.acked) (λ t. absurd (false≢true (sym (second most) ∙ t))) (λ _. done (record { phase = refl; quorum = refl; fits = (fits, (short, tt)); epoch = refl })))
+        where_fits (Wins ms.count i w s.elector.acked) which.Pn (next_number (or_zero w.last_pn) (max (promise_of w) 0) i) _ (λ short.
+        by_test (is_alone me s.elector.acked) (λ t. absurd (false≢true (sym (second most) ∙ t))) (λ _. done (record {
+          phase = refl;
+          quorum = refl;
+          fits = (fits, (short, tt));
+          epoch = refl;
+          says = λ g lt_g h ne. among_left (sent.Message g (letter ms.count i (suc (epoch_of w)) (body.Victory s.elector.acked))) (map (message_to me (suc (epoch_of w)) (body.Victory s.elector.acked)) (members me s.elector.acked)) _
+              (among_map (message_to me (suc (epoch_of w)) (body.Victory s.elector.acked)) g (members me s.elector.acked) (among_members me s.elector.acked g lt_g h ne));
+        })))
 
-    won : (ts : Timers) → is_majority ms.count s.elector.acked ≡ true → Then (Wins w s.elector.acked) (win me now s.elector.acked (with_votes s.elector ts))
+    won : (ts : Timers) → is_majority ms.count s.elector.acked ≡ true → Then (Wins ms.count i w s.elector.acked) (win me now s.elector.acked (with_votes s.elector ts))
     unfolding win
-    won ts most = and_then (λ (z : Course). (suc (epoch_of w) ≤ 2 ^ 62) × (z ≡ change (Epoch (suc (epoch_of w))) (with_votes s.elector ts))) (Wins w s.elector.acked) (in_next_epoch (with_votes s.elector ts)) _ (next_epoch (with_votes s.elector ts))
-        (λ y k. subst (λ (z : Course). Then (Wins w s.elector.acked) (reign me now s.elector.acked z)) (sym k.1) (reigns ts most k.0))
+    won ts most = and_then (λ (z : Course). (suc (epoch_of w) ≤ 2 ^ 62) × (z ≡ change (Epoch (suc (epoch_of w))) (with_votes s.elector ts))) (Wins ms.count i w s.elector.acked) (in_next_epoch (with_votes s.elector ts)) _ (next_epoch (with_votes s.elector ts))
+        (λ y k. subst (λ (z : Course). Then (Wins ms.count i w s.elector.acked) (reign me now s.elector.acked z)) (sym k.1) (reigns ts most k.0))
 
     -- ---- elections
 
@@ -241,7 +251,7 @@ module _ (ms : Monitors) (i : ℕ) (lt : ltb i ms.count ≡ true) (now : ℕ) (s
         wins_so k.0 k.2 (win me now s.elector.acked (disarm timer.Election x)) (won (disarmed timer.Election s.timers) k.2)))
         (λ t. calls_so s.elector (disarmed timer.Election s.timers) (calls_again is t (stays_called s.elector (disarmed timer.Election s.timers)) refl))
       where
-        wins_so : s.elector.candidate ≡ true → is_majority ms.count s.elector.acked ≡ true → (r : _) → Then (Wins w s.elector.acked) r → Then O r
+        wins_so : s.elector.candidate ≡ true → is_majority ms.count s.elector.acked ≡ true → (r : _) → Then (Wins ms.count i w s.elector.acked) r → Then O r
         wins_so a b (Ok y) k = done (wins is a b k.holds)
         wins_so a b (Err e) k = record { holds = tt }
 
@@ -398,19 +408,19 @@ module _ (ms : Monitors) (i : ℕ) (lt : ltb i ms.count ≡ true) (now : ℕ) (s
     -- ---- the two messages that have to be taken
 
     module _ (elects : s.phase ≡ phase.Electing) (f : ℕ) (other : f ≡ i → ⊥) where
-      letter : Body → Message
-      letter b = record { from = f; monitors = ms.count; epoch = epoch_of w; body = b }
+      heard_letter : Body → Message
+      heard_letter b = record { from = f; monitors = ms.count; epoch = epoch_of w; body = b }
 
-      taken : (P : Course → Type 0) (b : Body) → is_heard me (letter b) ≡ true → Then P (hear me sh now f (epoch_of w) b x) → Then P (react me sh now w s (input.Deliver (letter b)))
-      unfolding react letter
-      taken P b t k = subst (λ (p : Phase). Then P (react me sh now w (record s { phase = p }) (input.Deliver (letter b)))) (sym elects) (by_test (is_heard me (letter b)) (λ _. k) (λ isnt. absurd (false≢true (sym isnt ∙ t))))
+      taken : (P : Course → Type 0) (b : Body) → is_heard me (heard_letter b) ≡ true → Then P (hear me sh now f (epoch_of w) b x) → Then P (react me sh now w s (input.Deliver (heard_letter b)))
+      unfolding react heard_letter
+      taken P b t k = subst (λ (p : Phase). Then P (react me sh now w (record s { phase = p }) (input.Deliver (heard_letter b)))) (sym elects) (by_test (is_heard me (heard_letter b)) (λ _. k) (λ isnt. absurd (false≢true (sym isnt ∙ t))))
 
       pub ack_taken : is_whole me (with_rank s.elector.acked f) ≡ false → s.elector.candidate ≡ true
           → Then (Stays true (with_rank s.elector.acked f) s.elector.deferred s.timers) (react me sh now w s (input.Deliver (record { from = f; monitors = ms.count; epoch = epoch_of w; body = body.Ack })))
-      unfolding letter
+      unfolding heard_letter
       ack_taken few stands = taken (Stays true (with_rank s.elector.acked f) s.elector.deferred s.timers) body.Ack (rw (ne_eqb f i other, eq-eqb ms.count ms.count refl) refl) (takes_ack f few stands)
 
       pub call_taken : (is_allowed me f && stands_before me s.elector.scores f i) ≡ true → may_defer me s.elector.scores f s.elector.deferred ≡ true
           → Then (λ y. Stays false no_ranks (Some f) s.timers y × (y.out ≡ says body.Ack f ∷ [])) (react me sh now w s (input.Deliver (record { from = f; monitors = ms.count; epoch = epoch_of w; body = body.Propose None })))
-      unfolding letter
+      unfolding heard_letter
       call_taken better may = taken (λ y. Stays false no_ranks (Some f) s.timers y × (y.out ≡ says body.Ack f ∷ [])) (body.Propose None) (rw (ne_eqb f i other, eq-eqb ms.count ms.count refl, ranks) refl) (takes_call f None better may)

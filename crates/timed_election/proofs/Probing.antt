@@ -190,11 +190,12 @@ module _ (ms : Monitors) (q : List Bool) (pace : Pace) (i at : ℕ) (short : 2 *
               let size = Y.ranks in
               let below = X.members j qj in
               let most = ms.most in
+              let low : j < length H.state.prober.outside = omega arith in
               let two : Some (record { to = k; message = m }) ≡ Some (record { to = i; message = record { from = j; monitors = ms.count; epoch = A.epoch; body = body.ProbeReply A.quorum A.first A.last } }) = sym there ∙ A.there in
               let same : m ≡ record { from = j; monitors = ms.count; epoch = A.epoch; body = body.ProbeReply A.quorum A.first A.last } = ap (message_in m) two in
               let T : Then (Knows ms k lt now (shared_entries (t.world.store k)) (readings_of (t.world.store k)) H.state j) (react (member_of ms k lt) (shared_entries (t.world.store k)) now (readings_of (t.world.store k)) H.state H.came) =
               subst (λ (c : Input). Then (Knows ms k lt now (shared_entries (t.world.store k)) (readings_of (t.world.store k)) H.state j) (react (member_of ms k lt) (shared_entries (t.world.store k)) now (readings_of (t.world.store k)) H.state c)) (sym (is ∙ ap input.Deliver same))
-              (reply_taken ms k lt now (shared_entries (t.world.store k)) (readings_of (t.world.store k)) H.state (ready k H.member).0 Y.probes j A.epoch A.quorum A.first A.last (λ z. nj (z ∙ mine)) (omega arith)) in
+              (reply_taken ms k lt now (shared_entries (t.world.store k)) (readings_of (t.world.store k)) H.state (ready k H.member).0 Y.probes j A.epoch A.quorum A.first A.last (λ z. nj (z ∙ mine)) low) in
               let N : Knows ms k lt now (shared_entries (t.world.store k)) (readings_of (t.world.store k)) H.state j H.course = (subst (Then (Knows ms k lt now (shared_entries (t.world.store k)) (readings_of (t.world.store k)) H.state j)) H.reacts T).holds in
               N.still still_probes
 

@@ -9,10 +9,12 @@ use Rattle.mon_msg.specs.Protocol.Table.{react}
 use Rattle.mon_msg.specs.declared.input.Input.TheVariants as input
 use Rattle.mon_msg.specs.declared.input.Input.{Input}
 use Rattle.mon_tx.specs.Map.{Store}
+use Rattle.mon_msg.specs.declared.plan.Sent.TheVariants as sent
 use Rattle.mon_types.specs.Ranks.{has, no_ranks}
 use Rattle.mon_wire.specs.declared.body.Body.TheVariants as body
 use Rattle.mon_wire.specs.declared.message.Message.{Message}
 use Rattle.mon_wire.specs.declared.phase.Phase.TheVariants as phase
+use Rattle.quorum_elects.proofs.Standing.{letter}
 use Rattle.quorum_model.proofs.Members.{member_of}
 use Rattle.quorum_model.specs.Clients.{messages_of}
 use Rattle.quorum_model.specs.Meets.{message_at}
@@ -21,6 +23,7 @@ use Rattle.quorum_model.specs.World.{Arrives, Deliver, Envelope, Event}
 use Rattle.quorum_stays.proofs.Onward.{here_left, one_state, other_left}
 use Rattle.quorum_stays.proofs.Stepping.{Did}
 use Rattle.quorum_stays.proofs.UnderWay.{numbers}
+use Rattle.quorum_walk.proofs.Lists.{Among}
 use Rattle.quorum_timed.specs.Begins.{IsQuick}
 use Rattle.quorum_timed.specs.Calls.{IsCall, IsCandidate, IsDelivery, IsNewCall}
 use Rattle.quorum_timed.specs.Timed.{MayBe, Owed, Pace, Timed, Went, at_time, owed_by, without_first}
@@ -30,10 +33,10 @@ use Rattle.std.specs.List.{AllByRecursion}
 use Rattle.std.specs.Prelude.{IsSomeAnd, slice_get}
 use Rattle.timed_election.proofs.Coming.{How, again, asks, fires, first, left_all, left_same, new_at, next_all, no_delivery, on_state, same_there, still, time_is, under_now}
 use Rattle.timed_election.proofs.Events.{Turn, ack_counts, call_answered, call_is, part}
-use Rattle.timed_election.proofs.Lists.{arrives_last, arrives_more, at_place, closed, is_call, is_old, letter_is, message_in, old_or_new, one, opened}
+use Rattle.timed_election.proofs.Lists.{among_sent, arrives_after, arrives_last, arrives_new, arrives_more, at_place, closed, is_call, is_old, letter_is, message_in, old_or_new, one, opened, place_of}
 use Rattle.timed_election.proofs.Outcomes.{Heard as Came, Stays, Wins, says}
 use Rattle.timed_election.proofs.Times.{unheard_by}
-use Rattle.timed_election.specs.Election.{ArrivesBy, CanElect, Defers, Election, Elects, Heard, IsAck, IsOfElection, IsWon, Stands, TakesPart, Unheard, in_election}
+use Rattle.timed_election.specs.Election.{ArrivesBy, CanElect, Defers, Election, Elects, Heard, IsAck, IsOfElection, IsVictory, IsWon, Stands, TakesPart, Unheard, in_election}
 
 module _ (ms : Monitors) (q : List Bool) (pace : Pace) (quick : IsQuick pace) (E : Election) (t : Timed) (X : Elects ms q pace E t) (u : ℕ) (M : MayBe ms q pace t u)
     (next : Timed) (e : Event) (left : ℕ → ℕ → List Owed) (went : Went ms q pace (at_time ms q pace u t) e left next)
@@ -365,7 +368,10 @@ module _ (ms : Monitors) (q : List Bool) (pace : Pace) (quick : IsQuick pace) (E
 
   -- ---- it is won
 
-  pub is_won : i ≡ b → ((j : ℕ) → has q j ≡ true → has s.elector.acked j ≡ true) → Wins (readings_of (t.world.store i)) s.elector.acked y → IsWon q E next.world
+  abbrev victory : ℕ → Envelope
+  victory j = record { to = j; message = record { from = i; monitors = ms.count; epoch = suc E.epoch; body = body.Victory s.elector.acked } }
+
+  pub is_won : i ≡ b → ((j : ℕ) → has q j ≡ true → has s.elector.acked j ≡ true) → Wins ms.count i (readings_of (t.world.store i)) s.elector.acked y → IsWon ms q pace E next
   is_won best all W = record {
     leads = closed (λ (z : State). (z.phase ≡ phase.Collecting) × ((j : ℕ) → has z.leader.quorum j ≡ has q j)) (next.world.state b) y.state (subst (λ (z : ℕ). next.world.state z ≡ Some y.state) best D.up)
         (W.phase, λ j. ap (λ (z : List Bool). has z j) W.quorum ∙ same j);
@@ -374,6 +380,7 @@ module _ (ms : Monitors) (q : List Bool) (pace : Pace) (quick : IsQuick pace) (E
       on_state ms q pace t u next e left went i came s y how D (TakesPart q pace E j) (λ z. z.phase ≡ phase.Electing) j (λ is. absurd (ne is)) (λ _ z k. k.elects) (X.part j qj),
       subst (λ (m : Store). epoch_of (readings_of m) ≡ E.epoch) (sym (D.stores j ne)) (X.epoch j qj),
     ));
+    told = told_next;
   }
     where
       same : (j : ℕ) → has s.elector.acked j ≡ has q j
@@ -387,3 +394,16 @@ module _ (ms : Monitors) (q : List Bool) (pace : Pace) (quick : IsQuick pace) (E
           by false h false k = refl
           by true h false k = absurd (false≢true (sym k ∙ P.acks j h))
           by false h true k = absurd (false≢true (sym h ∙ all j k))
+
+      -- the VICTORY that it sent
+      told_next : (j : ℕ) → has q j ≡ true → (j ≡ b → ⊥) → ArrivesBy (next.time + pace.delay) (IsVictory ms q E next.world.messages j) (next.under_way b j)
+      told_next j qj nj =
+          let ne : j ≡ i → ⊥ = (λ is. nj (is ∙ best)) in
+          let k = place_of (victory j) es (among_sent j ((victory j).message) y.out (subst (λ (z : ℕ). Among (sent.Message j (letter ms.count i (suc z) (body.Victory s.elector.acked))) y.out) (X.epoch i qi) (W.says j (C.members j qj) (all j qj) ne))) in
+          subst (λ (z : ℕ). ArrivesBy (z + pace.delay) (IsVictory ms q E next.world.messages j) (next.under_way b j)) (sym (time_is ms q pace t u next e left went i came s y how D))
+          (subst (λ (z : ℕ). ArrivesBy due (IsVictory ms q E next.world.messages j) (next.under_way z j)) best
+          (subst (ArrivesBy due (IsVictory ms q E next.world.messages j)) (sym (under_now ms q pace t u next e left went i came s y how D i j))
+          (arrives_after due (IsVictory ms q E next.world.messages j) (left i j) (owed_by due (numbers i j (suc count) es))
+          (left_all ms q pace t u next e left went i came s y how D (λ o. o.by ≤ due) i j (all_map (IsOfElection E t.world.messages i j (t.time + pace.delay)) (λ o. o.by ≤ due) (λ o O. (let l = O.in_time in let m = M.later in omega arith)) (t.under_way i j) (X.under_way i j qi qj)))
+          (arrives_new due (IsVictory ms q E next.world.messages j) i j (suc count) es k.0 (victory j) k.1 refl refl
+          (record { quorum = s.elector.acked; members = same; there = new_at ms q pace t u next e left went i came s y how D k.0 (victory j) k.1 ∙ ap (λ (z : ℕ). Some (record { to = j; message = record { from = z; monitors = ms.count; epoch = suc E.epoch; body = body.Victory s.elector.acked } })) best })))))

@@ -13,7 +13,7 @@ use Rattle.mon_wire.specs.declared.phase.Timer.TheVariants as timer
 use Rattle.mon_wire.specs.declared.phase.Timer.{Timer}
 use Rattle.quorum_model.specs.Meets.{message_at}
 use Rattle.quorum_model.specs.Monitors.{Monitors}
-use Rattle.quorum_model.specs.World.{Envelope, Event, World}
+use Rattle.quorum_model.specs.World.{Envelope, Event}
 use Rattle.quorum_timed.specs.Calls.{IsCall}
 use Rattle.quorum_timed.specs.Timed.{Leads, Owed, Pace, Timed}
 use Rattle.std.specs.List.{AllByRecursion}
@@ -132,13 +132,27 @@ pub record Elects (ms : Monitors) (q : List Bool) (pace : Pace) (E : Election) (
 
 -- ---- its end
 
--- `best` leads exactly the members of q, in the next epoch. All others still take part in the election.
-pub record IsWon (q : List Bool) (E : Election) (w : World) : Type 0 where
-  pub leads : IsSomeAnd (w.state E.best)
+-- a VICTORY of `best` for monitor i, with exactly the members of q
+pub record IsVictory (ms : Monitors) (q : List Bool) (E : Election) (messages : List Envelope) (i : ℕ) (o : Owed) : Type
+    0 where
+  pub quorum : List Bool
+  pub members : (j : ℕ) → has quorum j ≡ has q j
+  pub there : message_at messages o.number ≡ Some (record {
+    to = i;
+    message = record { from = E.best; monitors = ms.count; epoch = suc E.epoch; body = body.Victory quorum };
+  })
+
+-- `best` leads exactly the members of q, in the next epoch. All others still take part in the election, and get a VICTORY
+-- within a delay.
+pub record IsWon (ms : Monitors) (q : List Bool) (pace : Pace) (E : Election) (t : Timed) : Type 0 where
+  pub leads : IsSomeAnd (t.world.state E.best)
       (λ s. (s.phase ≡ phase.Collecting) × ((i : ℕ) → has s.leader.quorum i ≡ has q i))
-  pub epoch : epoch_of (readings_of (w.store E.best)) ≡ suc E.epoch
+  pub epoch : epoch_of (readings_of (t.world.store E.best)) ≡ suc E.epoch
   pub others : (i : ℕ) → has q i ≡ true → (i ≡ E.best → ⊥)
-      → IsSomeAnd (w.state i) (λ s. s.phase ≡ phase.Electing) × (epoch_of (readings_of (w.store i)) ≡ E.epoch)
+      → IsSomeAnd (t.world.state i) (λ s. s.phase ≡ phase.Electing)
+      × (epoch_of (readings_of (t.world.store i)) ≡ E.epoch)
+  pub told : (i : ℕ) → has q i ≡ true → (i ≡ E.best → ⊥)
+      → ArrivesBy (t.time + pace.delay) (IsVictory ms q E t.world.messages i) (t.under_way E.best i)
 
 -- At some time of the run, and by time u, the election is won.
 pub record IsWonBy (ms : Monitors) (q : List Bool) (pace : Pace) (E : Election) (t : Timed) (more : List (ℕ × Event))
@@ -149,4 +163,4 @@ pub record IsWonBy (ms : Monitors) (q : List Bool) (pace : Pace) (E : Election) 
   pub reached : Timed
   pub run : Leads ms q pace t before reached
   pub by : reached.time ≤ u
-  pub won : IsWon q E reached.world
+  pub won : IsWon ms q pace E reached
