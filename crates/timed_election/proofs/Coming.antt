@@ -1,4 +1,4 @@
--- What comes to a member in a timed run, and what is under way afterwards.
+-- What a member is given in a timed run, and what is under way afterwards.
 use Rattle.log_model.proofs.Lists.{all_append}
 use Rattle.mon_msg.specs.Protocol.Course.{Course}
 use Rattle.mon_msg.specs.Protocol.Readings.{readings_of, shared_entries}
@@ -33,7 +33,7 @@ use Rattle.quorum_timed.specs.Begins.{IsBetween}
 use Rattle.timed_election.proofs.Lists.{closed, opened}
 
 module _ (ms : Monitors) (q : List Bool) (pace : Pace) (t : Timed) (u : ℕ) where
-  -- how it comes to member i
+  -- how it reaches member i
   pub data How (i : ℕ) (came : Input) (e : Event) (left : ℕ → ℕ → List Owed) (s : State) : Type 0 where
     first : (f : ℕ) → has q f ≡ true → (o : Owed) (others : List Owed) (m : Message) → t.under_way f i ≡ o ∷ others → message_at t.world.messages o.number ≡ Some (record { to = i; message = m })
         → m.from ≡ f → came ≡ input.Deliver m → e ≡ Arrives (Deliver o.number (u + pace.clock i)) → left ≡ without_first f i others t.under_way → How i came e left s
