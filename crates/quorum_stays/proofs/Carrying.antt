@@ -4,7 +4,7 @@ use Rattle.quorum_model.specs.Meets.{message_at}
 use Rattle.quorum_model.specs.Monitors.{Monitors}
 use Rattle.quorum_model.specs.World.{Envelope}
 use Rattle.quorum_stays.proofs.UnderWay.{get_more, numbers}
-use Rattle.quorum_stays.specs.Steady.{Carries, ForClients, IsBefore, IsItem, IsOfClients, Item, Reign, in_reign, item}
+use Rattle.quorum_stays.specs.Steady.{Carries, IsAside, IsBefore, IsItem, IsOfClients, Item, Reign, in_reign, item}
 use Rattle.quorum_timed.specs.Timed.{Owed, owed_by}
 use Rattle.std.proofs.Common.{Bool, List, Some, [], ap, arith, eqb, false, inl, inr, map, refl, subst, suc, sym, true, zero, ℕ, ◌&&◌, ◌++◌, ◌+◌, ◌∙◌, ◌∷◌, ◌≡◌, ◌≤◌, ◌⊎◌}
 use Rattle.std.proofs.lemmas.Bool.{and_parts, cases_eq, eq-eqb, eqb-true}
@@ -62,8 +62,8 @@ module _ (ms : Monitors) (reign : Reign) (f i : ℕ) where
   -- ---- what is under way
 
   module _ (messages : List Envelope) where
-    still_client : (es : List Envelope) (o : Owed) → ForClients messages i o → ForClients (messages ++ es) i o
-    still_client es o k = record { envelope = k.envelope; there = more_messages messages es o.number k.envelope k.there; receiver = k.receiver; command = k.command }
+    still_aside : (es : List Envelope) (o : Owed) → IsAside reign.epoch messages f i o → IsAside reign.epoch (messages ++ es) f i o
+    still_aside es o k = record { envelope = k.envelope; there = more_messages messages es o.number k.envelope k.there; receiver = k.receiver; aside = k.aside }
 
     abbrev Carried : ℕ → List Item → List Owed → Type 0
     Carried top = Carries ms reign messages f i top
@@ -72,11 +72,11 @@ module _ (ms : Monitors) (reign : Reign) (f i : ℕ) where
     carries_on es top later le xs [] C = C
     carries_on es top later le xs (o ∷ os) C = (omega arith, by C.1 (λ ys k. carries_on es top later le ys os k))
       where
-        by : (ForClients messages i o × IsBefore o.by xs × Carried top xs os) ⊎ ((x : Item) × (rest : List Item) × (xs ≡ x ∷ rest) × IsItem ms reign messages f i top x o × Carried top rest os)
+        by : (IsAside reign.epoch messages f i o × IsBefore o.by xs × Carried top xs os) ⊎ ((x : Item) × (rest : List Item) × (xs ≡ x ∷ rest) × IsItem ms reign messages f i top x o × Carried top rest os)
             → ((ys : List Item) → Carried top ys os → Carries ms reign (messages ++ es) f i later ys os)
-            → (ForClients (messages ++ es) i o × IsBefore o.by xs × Carries ms reign (messages ++ es) f i later xs os)
+            → (IsAside reign.epoch (messages ++ es) f i o × IsBefore o.by xs × Carries ms reign (messages ++ es) f i later xs os)
             ⊎ ((x : Item) × (rest : List Item) × (xs ≡ x ∷ rest) × IsItem ms reign (messages ++ es) f i later x o × Carries ms reign (messages ++ es) f i later rest os)
-        by (inl k) go = inl (still_client es o k.0, k.1, go xs k.2)
+        by (inl k) go = inl (still_aside es o k.0, k.1, go xs k.2)
         by (inr k) go = inr (k.0, k.1, k.2, record { there = more_messages messages es o.number _ k.3.there; in_time = k.3.in_time }, go k.1 k.4)
 
     -- time alone changes nothing
@@ -84,9 +84,9 @@ module _ (ms : Monitors) (reign : Reign) (f i : ℕ) where
     carries_later top later le xs [] C = C
     carries_later top later le xs (o ∷ os) C = (omega arith, by C.1 (λ ys k. carries_later top later le ys os k))
       where
-        by : (ForClients messages i o × IsBefore o.by xs × Carried top xs os) ⊎ ((x : Item) × (rest : List Item) × (xs ≡ x ∷ rest) × IsItem ms reign messages f i top x o × Carried top rest os)
+        by : (IsAside reign.epoch messages f i o × IsBefore o.by xs × Carried top xs os) ⊎ ((x : Item) × (rest : List Item) × (xs ≡ x ∷ rest) × IsItem ms reign messages f i top x o × Carried top rest os)
             → ((ys : List Item) → Carried top ys os → Carried later ys os)
-            → (ForClients messages i o × IsBefore o.by xs × Carried later xs os)
+            → (IsAside reign.epoch messages f i o × IsBefore o.by xs × Carried later xs os)
             ⊎ ((x : Item) × (rest : List Item) × (xs ≡ x ∷ rest) × IsItem ms reign messages f i later x o × Carried later rest os)
         by (inl k) go = inl (k.0, k.1, go xs k.2)
         by (inr k) go = inr (k.0, k.1, k.2, record { there = k.3.there; in_time = k.3.in_time }, go k.1 k.4)
@@ -103,9 +103,9 @@ module _ (ms : Monitors) (reign : Reign) (f i : ℕ) where
     carries_append top xs ys [] ps late C D = subst (λ (z : List Item). Carried top (z ++ ys) ps) (sym C) D
     carries_append top xs ys (o ∷ os) ps late C D = (C.0, by C.1 (λ zs k. carries_append top zs ys os ps late k D))
       where
-        by : (ForClients messages i o × IsBefore o.by xs × Carried top xs os) ⊎ ((x : Item) × (rest : List Item) × (xs ≡ x ∷ rest) × IsItem ms reign messages f i top x o × Carried top rest os)
+        by : (IsAside reign.epoch messages f i o × IsBefore o.by xs × Carried top xs os) ⊎ ((x : Item) × (rest : List Item) × (xs ≡ x ∷ rest) × IsItem ms reign messages f i top x o × Carried top rest os)
             → ((zs : List Item) → Carried top zs os → Carried top (zs ++ ys) (os ++ ps))
-            → (ForClients messages i o × IsBefore o.by (xs ++ ys) × Carried top (xs ++ ys) (os ++ ps))
+            → (IsAside reign.epoch messages f i o × IsBefore o.by (xs ++ ys) × Carried top (xs ++ ys) (os ++ ps))
             ⊎ ((x : Item) × (rest : List Item) × (xs ++ ys ≡ x ∷ rest) × IsItem ms reign messages f i top x o × Carried top rest (os ++ ps))
         by (inl k) go = inl (k.0, before_more o.by xs ys k.1 (before_later o.by top ys C.0 late), go xs k.2)
         by (inr k) go = inr (k.0, k.1 ++ ys, ap (λ (z : List Item). z ++ ys) k.2, k.3, go k.1 k.4)
@@ -115,7 +115,7 @@ module _ (ms : Monitors) (reign : Reign) (f i : ℕ) where
     first_by top u x rest [] C k = absurd cc
     first_by top u x rest (o ∷ os) C k = by C.1 (k o os refl)
       where
-        by : (ForClients messages i o × IsBefore o.by (x ∷ rest) × Carried top (x ∷ rest) os) ⊎ ((y : Item) × (more : List Item) × (x ∷ rest ≡ y ∷ more) × IsItem ms reign messages f i top y o × Carried top more os) → u ≤ o.by → u ≤ x.by
+        by : (IsAside reign.epoch messages f i o × IsBefore o.by (x ∷ rest) × Carried top (x ∷ rest) os) ⊎ ((y : Item) × (more : List Item) × (x ∷ rest ≡ y ∷ more) × IsItem ms reign messages f i top y o × Carried top more os) → u ≤ o.by → u ≤ x.by
         by (inl h) le = let z = h.1 in omega arith
         by (inr h) le = let same : x ≡ h.0 = cc in let z = h.3.in_time in let w : x.by ≡ h.0.by = ap (λ (y : Item). y.by) same in omega arith
 
@@ -143,7 +143,7 @@ module _ (ms : Monitors) (reign : Reign) (f i : ℕ) where
               → ((cs : List Body) → Gives cs es → Carried top (due_at due cs) (owed_by top (numbers f i (k + 1) es)))
               → Carried top (due_at due bs) (owed_by top (map (λ m. m.0) (cond t ((k, m) ∷ filter (λ m. eqb m.1.message.from f && eqb m.1.to i) (enumerate_from (k + 1) es)) (filter (λ m. eqb m.1.message.from f && eqb m.1.to i) (enumerate_from (k + 1) es)))))
           by true t (inl h) go = let parts = and_parts (eqb m.message.from f) (eqb m.to i) t in absurd (h.0 (eqb-true m.message.from f parts.0) (eqb-true m.to i parts.1))
-          by true t (inr (inl h)) go = (omega arith, inl (record { envelope = m; there = here; receiver = h.1; command = h.2 }, before_due top due le bs, go bs h.3))
+          by true t (inr (inl h)) go = (omega arith, inl (record { envelope = m; there = here; receiver = h.1; aside = inl h.2 }, before_due top due le bs, go bs h.3))
           by true t (inr (inr h)) go = (omega arith, inr (item h.0 due, due_at due h.1, ap (due_at due) h.2, record { there = here ∙ ap Some h.3; in_time = le }, go h.1 h.4))
           by false t (inl h) go = go bs h.1
           by false t (inr (inl h)) go = absurd (unfit t h.0 h.1)

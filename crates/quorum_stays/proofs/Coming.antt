@@ -2,8 +2,8 @@
 use Rattle.mon_msg.specs.Protocol.Course.{Course}
 use Rattle.mon_msg.specs.Protocol.Leading.{is_alone}
 use Rattle.mon_msg.specs.Protocol.Phases.{is_member, same_phase}
-use Rattle.mon_msg.specs.Protocol.Readings.{readings_of, shared_entries}
-use Rattle.mon_msg.specs.Protocol.State.{State}
+use Rattle.mon_msg.specs.Protocol.Readings.{readings_of, shared_entries, epoch_of}
+use Rattle.mon_msg.specs.Protocol.State.{State, quorum_of}
 use Rattle.mon_msg.specs.Protocol.Table.{react}
 use Rattle.mon_msg.specs.Protocol.Timers.{end_of, index_of}
 use Rattle.mon_msg.specs.declared.input.Input.TheVariants as input
@@ -26,7 +26,7 @@ use Rattle.quorum_model.specs.World.{Arrives, Client, Deliver, Envelope, Event, 
 use Rattle.quorum_stays.proofs.Bounds.{by_renewal, inside, leading, waits}
 use Rattle.quorum_stays.proofs.Onward.{here_left, list_left, one_state, other_left, unpack}
 use Rattle.quorum_stays.proofs.Timers.{same_kind_or}
-use Rattle.quorum_stays.proofs.Outcomes.{AsksAs, BringsNone, BringsRoute, NobodyAsks, Begins, Fate, Outcome, client_row, message_row, messages_for_clients, propose_row}
+use Rattle.quorum_stays.proofs.Outcomes.{AsksAs, BringsNone, BringsRoute, NobodyAsks, Begins, Fate, Outcome, client_row, messages_for_clients, propose_row, aside_row}
 use Rattle.quorum_stays.proofs.Peering.{PeonIn, replaced_other, replaced_peon}
 use Rattle.quorum_stays.proofs.Quiets.{stays_quiet}
 use Rattle.quorum_stays.proofs.Sending.{not_alone}
@@ -42,7 +42,7 @@ use Rattle.quorum_stays.specs.Serving.{CarriesAnswer, IsForward, Writes}
 use Rattle.std.specs.List.{AllByRecursion}
 use Rattle.quorum_timed.proofs.Armed.{Timers}
 use Rattle.mon_msg.specs.declared.clients.Clients.{Clients}
-use Rattle.quorum_stays.specs.Steady.{AreApart, Begun, Carries, FollowsSince, ForClients, IsItem, Item, Leads, Reign, Round, Steady, leased, said, to_leader, to_peon}
+use Rattle.quorum_stays.specs.Steady.{AreApart, Begun, Carries, FollowsSince, IsItem, Item, Leads, Reign, Round, Steady, leased, said, to_leader, to_peon, IsAside}
 use Rattle.quorum_timed.specs.Begins.{IsQuick}
 use Rattle.quorum_timed.specs.Calls.{Calls}
 use Rattle.quorum_timed.specs.Timed.{Again, Arriving, Asking, Comes, Firing, MayBe, Owed, Pace, Timed, Went, at_time, without_first}
@@ -56,9 +56,9 @@ not_electing : (p : Phase) → same_phase p phase.Electing ≡ false → p ≡ p
 not_electing p e is = false≢true (sym e ∙ ap (λ (z : Phase). same_phase z phase.Electing) is)
 
 -- what a leader is
-leads_in : (n : ℕ) (q : List Bool) (pace : Pace) (reign : Reign) (r : Round) (o : Option Begun) (s : State) → Leads n q pace reign r o s → ((s.phase ≡ phase.Active) × (s.leader.quorum ≡ q)) ⊎ (s.phase ≡ phase.Updating)
-leads_in n q pace reign r None s F = inl (F.leads, F.quorum)
-leads_in n q pace reign r (Some b) s P = let X = P.proposes in inr X.leads
+leads_in : (n : ℕ) (q : List Bool) (pace : Pace) (reign : Reign) (r : Round) (o : Option Begun) (s : State) → Leads n q pace reign r o s → (s.leader.quorum ≡ q) × ((s.phase ≡ phase.Active) ⊎ (s.phase ≡ phase.Updating))
+leads_in n q pace reign r None s F = (F.quorum, inl F.leads)
+leads_in n q pace reign r (Some b) s P = let X = P.proposes in (X.quorum, inr X.leads)
 
 -- ---- one round after another
 
@@ -97,6 +97,8 @@ module _ (ms : Monitors) (q : List Bool) (pace : Pace) (reign : Reign) (r : Roun
     pub in_quorum : is_member state.phase ≡ true
     pub several : same_phase state.phase phase.Active ≡ true → is_alone (member_of ms i here) state.leader.quorum ≡ false
     pub peon : (i ≡ reign.leader → ⊥) → same_phase state.phase phase.Active ≡ false
+    pub quorum : quorum_of state ≡ q
+    pub epoch : epoch_of (readings_of (t.world.store i)) ≡ reign.epoch
 
   pub member : (i : ℕ) → has q i ≡ true → (here : ltb i ms.count ≡ true) → Member i here
   member i qi here = by (cases_eq i reign.leader)
@@ -107,20 +109,24 @@ module _ (ms : Monitors) (q : List Bool) (pace : Pace) (reign : Reign) (r : Roun
           let l = unpack (FollowsSince reign.leader q (leased r F.heard + pace.clock i)) (t.world.state i) F.follows in
           let p = l.2.follows in
           let idle : same_phase l.0.phase phase.Active ≡ false = rw p refl in
-          record { state = l.0; up = l.1; awake = rw p refl; settled = rw p refl; in_quorum = rw p refl; several = λ e. absurd (false≢true (sym idle ∙ e)); peon = λ _. idle }
+          record { state = l.0; up = l.1; awake = rw p refl; settled = rw p refl; in_quorum = rw p refl; several = λ e. absurd (false≢true (sym idle ∙ e)); peon = λ _. idle; quorum = rw p l.2.quorum; epoch = F.epoch }
       by (inl e) =
           let l = leading ms q pace reign r t S in
           let up : t.world.state i ≡ Some l.0 = subst (λ (z : ℕ). t.world.state z ≡ Some l.0) (sym e) l.1 in
-          elim (leads_in ms.count q pace reign r r.next l.0 l.2) [
-            | inl k ↦ (let p = k.0 in record {
+          let k = leads_in ms.count q pace reign r r.next l.0 l.2 in
+          let epoch : epoch_of (readings_of (t.world.store i)) ≡ reign.epoch = subst (λ (z : ℕ). epoch_of (readings_of (t.world.store z)) ≡ reign.epoch) (sym e) S.epoch in
+          elim k.1 [
+            | inl p ↦ record {
               state = l.0;
               up = up;
               awake = rw p refl;
               settled = rw p refl;
               in_quorum = rw p refl;
-              several = λ _. (let g = k.1 in rw g (not_alone (member_of ms i here) q S.second S.second_in (λ z. S.second_is (z ∙ e)) (S.members S.second S.second_in)));
+              several = λ _. (let g = k.0 in rw g (not_alone (member_of ms i here) q S.second S.second_in (λ z. S.second_is (z ∙ e)) (S.members S.second S.second_in)));
               peon = λ ne. absurd (ne e);
-            })
+              quorum = rw p k.0;
+              epoch = epoch;
+            }
             | inr p ↦ (let idle : same_phase l.0.phase phase.Active ≡ false = rw p refl in record {
               state = l.0;
               up = up;
@@ -129,6 +135,8 @@ module _ (ms : Monitors) (q : List Bool) (pace : Pace) (reign : Reign) (r : Roun
               in_quorum = rw p refl;
               several = λ z. absurd (false≢true (sym idle ∙ z));
               peon = λ ne. absurd (ne e);
+              quorum = rw p k.0;
+              epoch = epoch;
             })
           ]
 
@@ -400,16 +408,16 @@ module _ (ms : Monitors) (q : List Bool) (pace : Pace) (reign : Reign) where
     moved : (left : ℕ → ℕ → List Owed) (e : Event) → Went ms q pace (at_time ms q pace u t) e left next → Went ms q pace (at_time ms q pace u (record t { under_way = left })) e left next
     moved left e went = record { happened = went.happened; time = went.time; sent = went.sent; calls = went.calls }
 
-    -- a message about a client's command
-    for_client : (f i : ℕ) → has q i ≡ true → (o : Owed) (others : List Owed) → (T : Steady ms q pace reign r (record t { under_way = without_first f i others t.under_way })) → ForClients t.world.messages i o
+    -- a message of no round
+    comes_aside : (f i : ℕ) → has q f ≡ true → has q i ≡ true → (o : Owed) (others : List Owed) → (T : Steady ms q pace reign r (record t { under_way = without_first f i others t.under_way })) → IsAside reign.epoch t.world.messages f i o
         → Went ms q pace (at_time ms q pace u t) (Arrives (Deliver o.number (u + pace.clock i))) (without_first f i others t.under_way) next → Stays t.world u (Arrives (Deliver o.number (u + pace.clock i))) r next
-    for_client f i qi o others T c went =
+    comes_aside f i qf qi o others T c went =
         let left = without_first f i others t.under_way in
         let went2 = moved (without_first f i others t.under_way) (Arrives (Deliver o.number (u + pace.clock i))) went in
         resolved (without_first f i others t.under_way) T _ went2
         (turns ms q pace reign r (record t { under_way = without_first f i others t.under_way }) T u M.later soon quick room next (Deliver o.number (u + pace.clock i)) went2 i qi (input.Deliver c.envelope.message) comes (λ s. refl) NobodyAsks (λ s. BringsRoute (member_of ms i at) (readings_of (t.world.store i)) s c.envelope.message c.envelope.message.body)
         (λ s _. message_ties ms reign t.world i (u + pace.clock i) at (readings_of (t.world.store i)) s o.number c.envelope c.there)
-        (λ here m. message_row (member_of ms i here) (shared_entries (t.world.store i)) (u + pace.clock i) (readings_of (t.world.store i)) m.state m.several m.awake c.envelope.message c.command))
+        (λ here m. aside_row (member_of ms i here) (shared_entries (t.world.store i)) (u + pace.clock i) (readings_of (t.world.store i)) m.state m.several m.awake reign.epoch f c.envelope.message m.epoch (subst (λ (z : List Bool). has z f ≡ true) (sym m.quorum) qf) c.aside))
       where
         at : ltb i ms.count ≡ true
         at = inside ms q pace reign r t S i qi
@@ -424,7 +432,7 @@ module _ (ms : Monitors) (q : List Bool) (pace : Pace) (reign : Reign) where
     down i qi ni o others first went = by (S.peons i qi ni) (subst (Carries ms reign t.world.messages reign.leader i (t.time + pace.delay) (drop (S.peons i qi ni).heard (to_peon reign pace r))) first (S.peons i qi ni).to_come)
       where
         by : (F : PeonIn ms q pace reign r t i t.under_way) → Carries ms reign t.world.messages reign.leader i (t.time + pace.delay) (drop F.heard (to_peon reign pace r)) (o ∷ others) → Stays t.world u (Arrives (Deliver o.number (u + pace.clock i))) r next
-        by F (le, inl k) = for_client reign.leader i qi o others (pop_down ms q pace reign r t S i qi ni others F k.2) k.0 went
+        by F (le, inl k) = comes_aside reign.leader i S.leads qi o others (pop_down ms q pace reign r t S i qi ni others F k.2) k.0 went
         by F (le, inr k) = H.down i qi ni F o others k.0 k.1 k.2 k.3 k.4 went
 
     up : (f : ℕ) → has q f ≡ true → (f ≡ reign.leader → ⊥) → (o : Owed) (others : List Owed) → t.under_way f reign.leader ≡ o ∷ others
@@ -432,7 +440,7 @@ module _ (ms : Monitors) (q : List Bool) (pace : Pace) (reign : Reign) where
     up f qf nf o others first went = by (S.peons f qf nf) (subst (Carries ms reign t.world.messages f reign.leader (t.time + pace.delay) (drop (S.peons f qf nf).taken (take (said (S.peons f qf nf).heard) (to_leader reign pace r)))) first (S.peons f qf nf).to_take)
       where
         by : (F : PeonIn ms q pace reign r t f t.under_way) → Carries ms reign t.world.messages f reign.leader (t.time + pace.delay) (drop F.taken (take (said F.heard) (to_leader reign pace r))) (o ∷ others) → Stays t.world u (Arrives (Deliver o.number (u + pace.clock reign.leader))) r next
-        by F (le, inl k) = for_client f reign.leader S.leads o others (pop_up ms q pace reign r t S f qf nf others F k.2) k.0 went
+        by F (le, inl k) = comes_aside f reign.leader qf S.leads o others (pop_up ms q pace reign r t S f qf nf others F k.2) k.0 went
         by F (le, inr k) = H.up f qf nf F o others k.0 k.1 k.2 k.3 k.4 went
 
     apart : (f i : ℕ) → has q f ≡ true → has q i ≡ true → AreApart reign.leader f i → (o : Owed) (others : List Owed) → t.under_way f i ≡ o ∷ others
@@ -440,7 +448,7 @@ module _ (ms : Monitors) (q : List Bool) (pace : Pace) (reign : Reign) where
     apart f i qf qi a o others first went = by (subst (Carries ms reign t.world.messages f i (t.time + pace.delay) []) first (S.others f i qf qi a))
       where
         by : Carries ms reign t.world.messages f i (t.time + pace.delay) [] (o ∷ others) → Stays t.world u (Arrives (Deliver o.number (u + pace.clock i))) r next
-        by (le, inl k) = for_client f i qi o others (pop_other ms q pace reign r t S f i a others k.2) k.0 went
+        by (le, inl k) = comes_aside f i qf qi o others (pop_other ms q pace reign r t S f i a others k.2) k.0 went
         by (le, inr k) = absurd (no_item k.0 k.1 k.2)
           where
             no_item : (x : Item) (rest : List Item) → [] ≡ x ∷ rest → ⊥

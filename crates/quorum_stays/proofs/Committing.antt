@@ -15,6 +15,7 @@ use Rattle.mon_tx.specs.Map.{Store}
 use Rattle.mon_types.specs.Ranks.{has, with_rank}
 use Rattle.mon_wire.specs.declared.body.Body.TheVariants as body
 use Rattle.mon_wire.specs.declared.message.Message.{Message}
+use Rattle.mon_wire.specs.declared.phase.Phase.TheVariants as phase
 use Rattle.mon_wire.specs.declared.phase.Timer.TheVariants as timer
 use Rattle.mon_wire.specs.declared.reply.Reply.TheVariants as reply
 use Rattle.mon_wire.specs.declared.reply.Reply.{Reply}
@@ -53,7 +54,7 @@ use Rattle.std.proofs.lemmas.List.Elements.{filter_map-append}
 use Rattle.std.specs.List.{AllByRecursion}
 use Rattle.std.specs.Prelude.{IsSomeAnd}
 
-maybe_answer : (me : Me) (e : ℕ) (o : Option Origin) (r : Reply) → AllByRecursion ForAClient (answers_to me e o r)
+pub maybe_answer : (me : Me) (e : ℕ) (o : Option Origin) (r : Reply) → AllByRecursion ForAClient (answers_to me e o r)
 maybe_answer me e None r = tt
 maybe_answer me e (Some o) r = an_answer me e o r
 
@@ -106,7 +107,7 @@ module _ (ms : Monitors) (q : List Bool) (pace : Pace) (reign : Reign) (K : IsQu
   up = up_busy ms q pace reign r0 b t S u later next f qf nf F o others x rest it C went
 
   abbrev y : Course
-  y = commits ms reign.leader here (shared_entries (t.world.store reign.leader)) at v s q reign.pn b.value f reign.epoch nf qf S.epoch
+  y = commits ms reign.leader here (shared_entries (t.world.store reign.leader)) at v s phase.Updating (inr refl) q reign.pn b.value f reign.epoch nf qf S.epoch
 
   fits : suc v.last ≤ 2 ^ 62
   fits = let p = P in let a = p.fits in let l = S.last in omega arith
@@ -135,7 +136,7 @@ module _ (ms : Monitors) (q : List Bool) (pace : Pace) (reign : Reign) (K : IsQu
     D = subst (Did t.world next.world reign.leader y.state (Learn (suc v.last) b.value ∷ Last (suc v.last) ∷ [])) sent_is
         (did ms t.world next.world (Deliver o.number at) reign.leader here at (input.Deliver (in_reign ms reign f reign.leader (body.Accept reign.pn (suc v.last))).message) proposing1
         (comes ms q pace reign r t S u later next f qf nf F o others x rest it C went _ (accept_body ms q pace reign r0 b t S u later next f qf nf F o others x rest it C went one all is list)) up went.happened y
-        (last_accept_row ms reign.leader here (shared_entries (t.world.store reign.leader)) at v s q reign.pn b.value f reign.epoch nf qf S.epoch full fits))
+        (last_accept_row ms reign.leader here (shared_entries (t.world.store reign.leader)) at v s phase.Updating (inr refl) q reign.pn b.value f reign.epoch nf qf S.epoch full fits))
 
     kept : readings_of (next.world.store reign.leader) ≡ played (Learn (suc v.last) b.value ∷ Last (suc v.last) ∷ []) v
     kept = D.kept (tt, (fits, tt))
@@ -220,7 +221,7 @@ module _ (ms : Monitors) (q : List Bool) (pace : Pace) (reign : Reign) (K : IsQu
         let p = P in
         let X = p.proposes in
         let size : length (only_ping (disarmed timer.Accept s.timers)) ≡ 11 = refl in
-        let bare = bare_committing ms.count reign q b.value (b.at + pace.clock reign.leader) proposing1 X in
+        let bare = bare_committing phase.Updating ms.count reign q b.value (b.at + pace.clock reign.leader) proposing1 X in
         record {
           leads = S.leads;
           second = S.second;
@@ -254,7 +255,7 @@ module _ (ms : Monitors) (q : List Bool) (pace : Pace) (reign : Reign) (K : IsQu
     R : (event : ℕ) × (m : Store) × (next.world.replied ≡ t.world.replied ++ replies_of event reign.leader m y.out)
     R = replied ms t.world next.world (Deliver o.number at) reign.leader here at (input.Deliver (in_reign ms reign f reign.leader (body.Accept reign.pn (suc v.last))).message) proposing1
         (comes ms q pace reign r t S u later next f qf nf F o others x rest it C went _ (accept_body ms q pace reign r0 b t S u later next f qf nf F o others x rest it C went one all is list)) up went.happened y
-        (last_accept_row ms reign.leader here (shared_entries (t.world.store reign.leader)) at v s q reign.pn b.value f reign.epoch nf qf S.epoch full fits)
+        (last_accept_row ms reign.leader here (shared_entries (t.world.store reign.leader)) at v s phase.Updating (inr refl) q reign.pn b.value f reign.epoch nf qf S.epoch full fits)
 
     abbrev to_members : List Sent
     to_members = map (message_to me (epoch_of (played (Learn (suc v.last) b.value ∷ Last (suc v.last) ∷ []) v)) (body.Commit (suc v.last) (b.value ∷ []))) (members me q)
@@ -295,7 +296,7 @@ module _ (ms : Monitors) (q : List Bool) (pace : Pace) (reign : Reign) (K : IsQu
         let P2 = P in
         let X = P2.proposes in
         let size : length (only_ping (disarmed timer.Accept s.timers)) ≡ 11 = refl in
-        let bare = bare_committing ms.count reign q b.value (b.at + pace.clock reign.leader) proposing1 X in
+        let bare = bare_committing phase.Updating ms.count reign q b.value (b.at + pace.clock reign.leader) proposing1 X in
         let E = all_extended at (room reign.leader S.leads) (only_ping (disarmed timer.Accept s.timers)) size bare false (is_empty (members me q)) in (
           commit_stays,
           record {

@@ -29,7 +29,7 @@ use Rattle.quorum_stays.proofs.Taking.{taken_by, taken_from, taken_here}
 use Rattle.quorum_stays.proofs.Waiting.{Awaits, awaits_on, in_time}
 use Rattle.quorum_stays.specs.Reading.{ClocksGoOn, Reads}
 use Rattle.quorum_stays.specs.Serving.{Attends, CarriesAnswer, Counts, IsBelow, IsKnown, IsNumbered, IsServed, answer_time}
-use Rattle.quorum_stays.specs.Steady.{Begun, Carries, ForClients, IsBefore, IsItem, Item, Leads, Reign, Round, Steady, in_reign}
+use Rattle.quorum_stays.specs.Steady.{Begun, Carries, IsAside, IsBefore, IsItem, Item, Leads, Reign, Round, Steady, in_reign}
 use Rattle.quorum_timed.specs.Begins.{IsQuick}
 use Rattle.quorum_timed.specs.Timed.{Again, Arriving, Asking, Comes, Firing, Leads as LeadsTo, MayBe, Owed, Pace, Timed, at_time, owed_by}
 use Rattle.quorum_walk.proofs.Lists.{Among, among_right}
@@ -62,7 +62,7 @@ carries_top : (ms : Monitors) (reign : Reign) (messages : List Envelope) (f i to
 carries_top ms reign messages f i top xs [] C = tt
 carries_top ms reign messages f i top xs (o ∷ os) C = (C.0, by C.1 (λ ys k. carries_top ms reign messages f i top ys os k))
   where
-    by : (ForClients messages i o × IsBefore o.by xs × Carries ms reign messages f i top xs os) ⊎ ((x : Item) × (rest : List Item) × (xs ≡ x ∷ rest) × IsItem ms reign messages f i top x o × Carries ms reign messages f i top rest os)
+    by : (IsAside reign.epoch messages f i o × IsBefore o.by xs × Carries ms reign messages f i top xs os) ⊎ ((x : Item) × (rest : List Item) × (xs ≡ x ∷ rest) × IsItem ms reign messages f i top x o × Carries ms reign messages f i top rest os)
         → ((ys : List Item) → Carries ms reign messages f i top ys os → AllByRecursion (λ o. o.by ≤ top) os) → AllByRecursion (λ o. o.by ≤ top) os
     by (inl k) go = go xs k.2
     by (inr k) go = go k.1 k.4

@@ -274,7 +274,7 @@ module _ (ms : Monitors) (q : List Bool) (pace : Pace) (reign : Reign) (r0 : Rou
     D2 : are_within ms.count q (with_rank s0.leader.accepted f) ≡ false → Did t.world next.world reign.leader (record busy { leader = record (busy.leader) { accepted = with_rank s0.leader.accepted f } }) [] []
     D2 more = did ms t.world next.world (Deliver o.number (u + pace.clock reign.leader)) reign.leader here1 (u + pace.clock reign.leader) (input.Deliver (in_reign ms reign f reign.leader (body.Accept reign.pn (suc store1.last))).message) busy
         (comes ms q pace reign rb t S u later next f qf nf F o others x rest it C went _ accept_body) up_busy went.happened _
-        (accept_row ms reign.leader here1 (shared_entries (t.world.store reign.leader)) (u + pace.clock reign.leader) store1 s0 q reign.pn b.value f reign.epoch nf qf S.epoch more)
+        (accept_row ms reign.leader here1 (shared_entries (t.world.store reign.leader)) (u + pace.clock reign.leader) store1 s0 phase.Updating (inr refl) q reign.pn b.value f reign.epoch nf qf S.epoch more)
 
     accept_stays : are_within ms.count q (with_rank s0.leader.accepted f) ≡ false → Steady ms q pace reign (record r0 { next = Some b }) next
     accept_stays more =
@@ -284,7 +284,7 @@ module _ (ms : Monitors) (q : List Bool) (pace : Pace) (reign : Reign) (r0 : Rou
         answered ms q pace reign rb t S u later next f qf nf F o others x rest it C went busy _ up_busy (D2 more) 2 (subst (λ (z : ℕ). 2 ≤ said z) (sym all) (omega arith))
         ((λ _. has_self s0.leader.accepted f few), (λ _. refl)) (list ∙ sym (empty F.heard all))
         (λ j taken ne N. ((λ e. has_with s0.leader.accepted f j (N.0 e)), (λ h. elim (has_with_is s0.leader.accepted f j h) [ inl e ↦ absurd (ne e) | inr h2 ↦ N.1 h2 ])))
-        (record { proposes = accepted ms.count reign q b.value (b.at + pace.clock reign.leader) busy X f more; made = P.made; fits = P.fits; after = P.after; before = P.before })
+        (record { proposes = accepted phase.Updating ms.count reign q b.value (b.at + pace.clock reign.leader) busy X f more; made = P.made; fits = P.fits; after = P.after; before = P.before })
       where
         empty : (h : ℕ) → h ≡ 3 → drop (suc (suc zero)) (take (said h) (to_leader reign pace (record r0 { next = Some b }))) ≡ []
         empty zero e = refl

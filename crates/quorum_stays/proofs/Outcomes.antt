@@ -9,14 +9,14 @@ use Rattle.mon_msg.specs.Protocol.Course.{Course}
 use Rattle.mon_msg.specs.Protocol.Hearing.{hear, hear_client, is_heard}
 use Rattle.mon_msg.specs.Protocol.Leading.{begin, begin_with, has_queue, is_alone}
 use Rattle.mon_msg.specs.Protocol.Peon.{of_leader}
-use Rattle.mon_msg.specs.Protocol.Phases.{is_leading, is_member, is_peon, same_phase}
+use Rattle.mon_msg.specs.Protocol.Phases.{is_leading, is_member, is_peon, same_phase, votes}
 use Rattle.mon_msg.specs.Protocol.Proposing.{asked_of, begin_made, propose, propose_first, propose_next, refusal}
 use Rattle.mon_msg.specs.Protocol.Readings.{Readings, epoch_of}
 use Rattle.mon_msg.specs.Protocol.Reads.{is_standing, read, shown, since}
 use Rattle.mon_msg.specs.Protocol.Sending.{answer_to, message_to}
 use Rattle.mon_msg.specs.Protocol.Services.{service_last}
 use Rattle.mon_msg.specs.Protocol.Sets.{is_empty}
-use Rattle.mon_msg.specs.Protocol.State.{State, lease_of}
+use Rattle.mon_msg.specs.Protocol.State.{State, lease_of, quorum_of}
 use Rattle.mon_msg.specs.Protocol.Table.{at_rest, react}
 use Rattle.mon_msg.specs.Protocol.Timers.{disarmed, end_of, is_armed}
 use Rattle.mon_msg.specs.Protocol.Value.{service_of, value}
@@ -50,13 +50,16 @@ use Rattle.quorum_stays.proofs.Taking.{taken_body, taken_from, taken_request, ta
 use Rattle.quorum_stays.proofs.Timers.{Tidy, maybe_armed, maybe_propose, unchanged, without_propose}
 use Rattle.quorum_stays.specs.Reading.{Reads}
 use Rattle.quorum_stays.specs.Serving.{CarriesAnswer, IsAnswer, IsForward, is_busy, is_long, is_refused}
-use Rattle.quorum_stays.specs.Steady.{IsOfClients, IsOfCommand}
+use Rattle.quorum_stays.specs.Steady.{IsOfClients, IsOfCommand, IsOfEarlier, IsOfElections}
 use Rattle.quorum_timed.proofs.Armed.{Timers}
 use Rattle.quorum_walk.proofs.Walk.{Then, by_test, done, where_fits}
-use Rattle.std.proofs.Common.{Bool, Err, List, None, Ok, Option, Result, Some, [], ap, false, inl, inr, length, map, not, refl, slice_set, subst, suc, sym, true, ℕ, ◌&&◌, ◌++◌, ◌<◌, ◌^◌, ◌∙◌, ◌∷◌, ◌≡◌, ◌≤◌, ◌⊎◌}
-use Rattle.std.proofs.lemmas.Bool.{and_parts, false≢true, leb-false, not-false, not-true}
+use Rattle.std.proofs.Common.{Bool, Err, List, None, Ok, Option, Result, Some, [], ap, false, inl, inr, length, map, not, refl, slice_set, subst, suc, sym, true, ℕ, ◌&&◌, ◌++◌, ◌<◌, ◌^◌, ◌∙◌, ◌∷◌, ◌≡◌, ◌≤◌, ◌⊎◌, arith, ◌||◌}
+use Rattle.std.proofs.lemmas.Bool.{and_parts, false≢true, leb-false, not-false, not-true, or_right, lt-ltb}
 use Rattle.std.specs.List.{AllByRecursion}
-use Rattle.std.specs.Prelude.{cond, filter, nat_le, ◌==◌}
+use Rattle.std.specs.Prelude.{cond, filter, nat_le, ◌==◌, nat_lt}
+use Rattle.mon_msg.specs.Protocol.Elections.{hear_ack, hear_propose}
+use Rattle.mon_msg.specs.Protocol.Entering.{is_even}
+use Rattle.mon_types.specs.Ranks.{has}
 
 -- what is sent about a client's command, or to a client
 abbrev pub ForAClient : Sent → Type 0
@@ -333,6 +336,25 @@ module _ (me : Me) (sh : List Entry) (now : ℕ) (w : Readings) (s : State) wher
     hears m t (body.Route seq r) k = route_comes several None NobodyAsks (BringsRoute me w s m (body.Route seq r)) m.from m.epoch seq r refl (λ _ k. absurd k) (λ l. (refl, t, l)) (λ f z x k. false≢true (sym f ∙ k.2))
     hears m t other k = absurd k
 
+    -- a message of an earlier election
+    earlier : (m : Message) → has (quorum_of s) m.from ≡ true → m.epoch < epoch_of w → (b : Body) → IsOfElections b → Then (Outcome (taken_body me w s m b) NobodyAsks (BringsRoute me w s m b)) (hear me sh now m.from m.epoch b (at_rest w s))
+    unfolding hear_propose hear_ack
+    earlier m among before (body.Propose table) k =
+        by_test (not (votes s.phase) || is_even m.epoch) (λ _. drops) (λ _.
+        by_test (nat_lt m.epoch (epoch_of w))
+        (λ _. by_test (is_even (epoch_of w) && not (has (quorum_of s) m.from)) (λ t. absurd (false≢true (sym (not-true (has (quorum_of s) m.from) (and_parts (is_even (epoch_of w)) _ t).1) ∙ among))) (λ _. drops))
+        (λ f. absurd (false≢true (sym f ∙ lt-ltb m.epoch (epoch_of w) before))))
+      where
+        drops : Then (Outcome None NobodyAsks (BringsRoute me w s m (body.Propose table))) (Ok (at_rest w s))
+        drops = idle several None NobodyAsks (BringsRoute me w s m (body.Propose table)) [] tt tt tt refl (λ _ x. absurd x) (λ z r x. (let e = x.0 in absurd cc))
+    earlier m among before body.Ack k =
+        by_test (not (votes s.phase) || is_even m.epoch || nat_lt m.epoch (epoch_of w)) (λ _. drops)
+        (λ f. absurd (false≢true (sym f ∙ or_right (not (votes s.phase) || is_even m.epoch) (nat_lt m.epoch (epoch_of w)) (lt-ltb m.epoch (epoch_of w) before))))
+      where
+        drops : Then (Outcome None NobodyAsks (BringsRoute me w s m body.Ack)) (Ok (at_rest w s))
+        drops = idle several None NobodyAsks (BringsRoute me w s m body.Ack) [] tt tt tt refl (λ _ x. absurd x) (λ z r x. (let e = x.0 in absurd cc))
+    earlier m among before other k = absurd k
+
     -- ---- the rows
 
     module _ (up : same_phase s.phase phase.Booting ≡ false) where
@@ -340,10 +362,18 @@ module _ (me : Me) (sh : List Entry) (now : ℕ) (w : Readings) (s : State) wher
       unfolding react
       client_row session r = rw up (hears_client session r)
 
-      pub message_row : (m : Message) → IsOfClients m.body → Then (Outcome (taken_from me w s (input.Deliver m)) NobodyAsks (BringsRoute me w s m m.body)) (react me sh now w s (input.Deliver m))
+      -- a message is heard as this says, or dropped
+      message_row : (m : Message) → (is_heard me m ≡ true → Then (Outcome (taken_body me w s m m.body) NobodyAsks (BringsRoute me w s m m.body)) (hear me sh now m.from m.epoch m.body (at_rest w s)))
+          → Then (Outcome (taken_from me w s (input.Deliver m)) NobodyAsks (BringsRoute me w s m m.body)) (react me sh now w s (input.Deliver m))
       unfolding react
-      message_row m k = rw up (by_test (is_heard me m) (λ t. subst (λ (z : Bool). Then (Outcome (cond z (taken_body me w s m m.body) None) NobodyAsks (BringsRoute me w s m m.body)) (hear me sh now m.from m.epoch m.body (at_rest w s))) (sym t) (hears m t m.body k))
+      message_row m heard = rw up (by_test (is_heard me m) (λ t. subst (λ (z : Bool). Then (Outcome (cond z (taken_body me w s m m.body) None) NobodyAsks (BringsRoute me w s m m.body)) (hear me sh now m.from m.epoch m.body (at_rest w s))) (sym t) (heard t))
           (λ f. subst (λ (z : Bool). Then (Outcome (cond z (taken_body me w s m m.body) None) NobodyAsks (BringsRoute me w s m m.body)) (Ok (at_rest w s))) (sym f) (idle several None NobodyAsks (BringsRoute me w s m m.body) [] tt tt tt refl (λ _ k. absurd k) (λ z x k. false≢true (sym f ∙ k.1)))))
+
+      -- a message of no round
+      pub aside_row : (e f : ℕ) (m : Message) → epoch_of w ≡ e → has (quorum_of s) f ≡ true → IsOfClients m.body ⊎ IsOfEarlier e f m
+          → Then (Outcome (taken_from me w s (input.Deliver m)) NobodyAsks (BringsRoute me w s m m.body)) (react me sh now w s (input.Deliver m))
+      aside_row e f m epoch among (inl k) = message_row m (λ t. hears m t m.body k)
+      aside_row e f m epoch among (inr k) = message_row m (λ _. earlier m (subst (λ (z : ℕ). has (quorum_of s) z ≡ true) (sym k.sender) among) (let a = k.before in omega arith) m.body k.elects)
 
       pub propose_row : Then (Outcome (taken_from me w s (input.Timer timer.Propose)) NobodyAsks BringsNone) (react me sh now w s (input.Timer timer.Propose))
       unfolding react

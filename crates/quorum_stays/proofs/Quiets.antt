@@ -1,4 +1,5 @@
 -- A quorum stays led while clients' commands are remembered and answered.
+use Rattle.mon_wire.specs.declared.phase.Phase.TheVariants as phase
 use Rattle.mon_msg.specs.Protocol.Readings.{Readings, epoch_of, promise_of, readings_of}
 use Rattle.mon_msg.specs.Protocol.State.{State}
 use Rattle.mon_msg.specs.declared.clients.Clients.{Clients}
@@ -8,18 +9,17 @@ use Rattle.quorum_stays.proofs.Carrying.{gives_none}
 use Rattle.quorum_stays.proofs.States.{quiet_follows, quiet_lease, quiet_leads, quiet_proposes}
 use Rattle.quorum_stays.proofs.Stepping.{Did}
 use Rattle.quorum_stays.proofs.Timers.{Tidy}
-use Rattle.quorum_stays.proofs.Turning.{on_state, other_store, same_carried}
+use Rattle.quorum_stays.proofs.Turning.{on_state, same_carried, every_store}
 use Rattle.quorum_stays.specs.Steady.{Begun, FollowsSince, HasLease, IsOfClients, Keeps, Leads, Noted, Reign, Round, Steady, leased}
 use Rattle.quorum_timed.proofs.Armed.{Timers}
 use Rattle.quorum_timed.specs.Timed.{Pace, Timed, Went, at_time}
-use Rattle.std.proofs.Common.{Bool, List, None, Option, Some, [], arith, inl, inr, subst, sym, ℕ, ◌+◌, ◌≡◌, ◌≤◌, ◌⊎◌}
-use Rattle.std.proofs.lemmas.Bool.{cases_eq}
+use Rattle.std.proofs.Common.{Bool, List, None, Option, Some, [], arith, ℕ, ◌+◌, ◌≡◌, ◌≤◌, refl}
 use Rattle.std.specs.List.{AllByRecursion}
 
 quiet_leading : (n : ℕ) (q : List Bool) (pace : Pace) (reign : Reign) (r : Round) (o : Option Begun) (s : State) (clients : Clients) (ts : Timers) → Tidy s.timers ts → Leads n q pace reign r o s → Leads n q pace reign r o (record s { clients = clients; timers = ts })
 quiet_leading n q pace reign r None s clients ts T F = quiet_leads reign q (r.latest + pace.clock reign.leader) s F clients ts T
 quiet_leading n q pace reign r (Some b) s clients ts T P = record {
-  proposes = quiet_proposes n reign q b.value (b.at + pace.clock reign.leader) s P.proposes clients ts T;
+  proposes = quiet_proposes phase.Updating n reign q b.value (b.at + pace.clock reign.leader) s P.proposes clients ts T;
   made = P.made;
   fits = P.fits;
   after = P.after;
@@ -38,11 +38,7 @@ module _ (ms : Monitors) (q : List Bool) (pace : Pace) (reign : Reign) (r : Roun
   after = record s { clients = clients; timers = ts }
 
   store : (P : Readings → Type 0) (j : ℕ) → P (readings_of (t.world.store j)) → P (readings_of (next.world.store j))
-  store P j k = by (cases_eq j i)
-    where
-      by : (j ≡ i) ⊎ (j ≡ i → ⊥) → P (readings_of (next.world.store j))
-      by (inl is) = subst (λ (z : ℕ). P (readings_of (next.world.store z))) (sym is) (subst P (sym (D.kept tt)) (subst (λ (z : ℕ). P (readings_of (t.world.store z))) is k))
-      by (inr ne) = other_store ms q pace reign t next u later e t.under_way went i s after [] es up D P j ne k
+  store P j k = every_store ms q pace reign t next u later e t.under_way went i s after [] es up D refl P j k
 
   pub stays_quiet : Steady ms q pace reign r next
   stays_quiet = record {

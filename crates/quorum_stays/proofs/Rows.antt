@@ -27,8 +27,9 @@ use Rattle.quorum_model.specs.Monitors.{Monitors}
 use Rattle.quorum_stays.proofs.Timers.{extended_timers, maybe_armed}
 use Rattle.table_rows.proofs.Hearing.{IsLeader, IsMember}
 use Rattle.table_rows.proofs.Serving as rows
-use Rattle.std.proofs.Common.{Bool, List, None, Ok, Some, [], false, inr, ltb, map, not, refl, suc, true, ℕ, ◌++◌, ◌^◌, ◌∙◌, ◌∷◌, ◌≡◌, ◌≤◌}
+use Rattle.std.proofs.Common.{Bool, List, None, Ok, Some, [], false, inr, ltb, map, not, refl, suc, true, ℕ, ◌++◌, ◌^◌, ◌∙◌, ◌∷◌, ◌≡◌, ◌≤◌, ap, inl, subst, sym, ◌⊎◌}
 use Rattle.std.specs.Prelude.{is_some}
+use Rattle.mon_wire.specs.declared.phase.Phase.{Phase}
 
 module _ (ms : Monitors) (i : ℕ) (lt : ltb i ms.count ≡ true) (sh : List Entry) (now : ℕ) (w : Readings) (s : State) where
   abbrev me : Me
@@ -89,18 +90,18 @@ module _ (ms : Monitors) (i : ℕ) (lt : ltb i ms.count ≡ true) (sh : List Ent
 
   -- ---- a value in progress
 
-  module _ (q : List Bool) (pn : ℕ) (x : List Op) where
+  module _ (p : Phase) (begun : (p ≡ phase.Previous) ⊎ (p ≡ phase.Updating)) (q : List Bool) (pn : ℕ) (x : List Op) where
     abbrev pub proposing : State
-    proposing = record s { phase = phase.Updating; leader = record s.leader { quorum = q; pn = pn; value = Some x } }
+    proposing = record s { phase = p; leader = record s.leader { quorum = q; pn = pn; value = Some x } }
 
     module _ (f e : ℕ) (nf : f ≡ i → ⊥) (member : has q f ≡ true) (epoch : epoch_of w ≡ e) where
-      proposes_to : IsMember me w proposing phase.Updating f e
+      proposes_to : IsMember me w proposing p f e
       proposes_to = record { other = nf; leads = refl; epoch = epoch; member = member }
 
       pub accept_row : are_within ms.count q (with_rank s.leader.accepted f) ≡ false
           → react me sh now w proposing (input.Deliver (record { from = f; monitors = ms.count; epoch = e; body = body.Accept pn (suc w.last) }))
           ≡ Ok (at_rest w proposing ▸ leader_is (record (proposing.leader) { accepted = with_rank s.leader.accepted f }))
-      accept_row more = rows.accept_row me sh now (inr refl) proposes_to pn (suc w.last) refl refl more
+      accept_row more = rows.accept_row me sh now begun proposes_to pn (suc w.last) refl refl more
 
       -- what the store's readers return after the commit
       abbrev pub after_commit : Readings
@@ -129,8 +130,12 @@ module _ (ms : Monitors) (i : ℕ) (lt : ltb i ms.count ≡ true) (sh : List Ent
             ++ answers_to me (epoch_of after_commit) s.leader.origin (reply.Done (suc w.last));
       }
 
+      committed : (p ≡ phase.Previous) ⊎ (p ≡ phase.Updating) → rows.told_all me now (suc w.last) x (rows.learned (suc w.last) x (rows.accepted w proposing f)) ≡ commits
+      unfolding be_active extend
+      committed (inl is) = subst (λ (z : Phase). rows.told_all me now (suc w.last) x (rows.learned (suc w.last) x (rows.accepted w (record s { phase = z; leader = record s.leader { quorum = q; pn = pn; value = Some x } }) f)) ≡ commits) (sym is) refl
+      committed (inr is) = subst (λ (z : Phase). rows.told_all me now (suc w.last) x (rows.learned (suc w.last) x (rows.accepted w (record s { phase = z; leader = record s.leader { quorum = q; pn = pn; value = Some x } }) f)) ≡ commits) (sym is) refl
+
       pub last_accept_row : are_within ms.count q (with_rank s.leader.accepted f) ≡ true → suc w.last ≤ 2 ^ 62
           → react me sh now w proposing (input.Deliver (record { from = f; monitors = ms.count; epoch = e; body = body.Accept pn (suc w.last) })) ≡ Ok commits
-      unfolding be_active extend
       last_accept_row all fits =
-          rows.last_accept_row me sh now (inr refl) proposes_to pn (suc w.last) refl refl all x refl ∙ rows.commits me now x (rows.accepted w proposing f) fits
+          rows.last_accept_row me sh now begun proposes_to pn (suc w.last) refl refl all x refl ∙ rows.commits me now x (rows.accepted w proposing f) fits ∙ ap Ok (committed begun)

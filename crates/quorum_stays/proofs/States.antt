@@ -19,6 +19,7 @@ use Rattle.std.proofs.Common.{Bool, List, None, Some, [], ap, arith, cond, false
 use Rattle.std.proofs.lemmas.Bool.{false≢true}
 use Rattle.std.proofs.lemmas.List.{length-set}
 use Rattle.std.specs.List.{list_all, range_with_len}
+use Rattle.mon_wire.specs.declared.phase.Phase.{Phase}
 
 -- kinds are told apart by their numbers
 unlike : (a b : Timer) → (index_of a ≡ index_of b → ⊥) → a ≡ b → ⊥
@@ -181,7 +182,7 @@ module _ (reign : Reign) (q : List Bool) (at : ℕ) (s : State) (F : LeadsSince 
   -- it begins a value
   pub begun : (n second now : ℕ) (x : List Op) (o : Origin) (st : LeaderStage) (clients : Clients) (ts : Timers) → n ≤ 15 → reign.leader < 15 → second < n → has q second ≡ true → (second ≡ reign.leader → ⊥)
       → now + 10000 ≤ 2 ^ 62 → Tidy s.timers ts
-      → ProposesSince n reign q x now (record s {
+      → ProposesSince phase.Updating n reign q x now (record s {
         phase = phase.Updating;
         leader = record s.leader { stage = st; accepted = only reign.leader; value = Some x; origin = Some o };
         clients = clients;
@@ -249,8 +250,8 @@ extends reign q second now s few inside other leads quorum number gives acks le 
 
 -- ---- a leader that has a value in progress
 
-module _ (n : ℕ) (reign : Reign) (q : List Bool) (x : List Op) (at : ℕ) (s : State) (F : ProposesSince n reign q x at s) where
-  pub quiet_proposes : (clients : Clients) (ts : Timers) → Tidy s.timers ts → ProposesSince n reign q x at (record s { clients = clients; timers = ts })
+module _ (p : Phase) (n : ℕ) (reign : Reign) (q : List Bool) (x : List Op) (at : ℕ) (s : State) (F : ProposesSince p n reign q x at s) where
+  pub quiet_proposes : (clients : Clients) (ts : Timers) → Tidy s.timers ts → ProposesSince p n reign q x at (record s { clients = clients; timers = ts })
   quiet_proposes clients ts T = record {
     leads = F.leads;
     quorum = F.quorum;
@@ -266,7 +267,7 @@ module _ (n : ℕ) (reign : Reign) (q : List Bool) (x : List Op) (at : ℕ) (s :
   }
 
   -- another member accepted it, and others are missing
-  pub accepted : (f : ℕ) → are_within n q (with_rank s.leader.accepted f) ≡ false → ProposesSince n reign q x at (record s { leader = record s.leader { accepted = with_rank s.leader.accepted f } })
+  pub accepted : (f : ℕ) → are_within n q (with_rank s.leader.accepted f) ≡ false → ProposesSince p n reign q x at (record s { leader = record s.leader { accepted = with_rank s.leader.accepted f } })
   accepted f more = record {
     leads = F.leads;
     quorum = F.quorum;

@@ -10,9 +10,11 @@ use Rattle.quorum_stays.proofs.Onward.{lands_same, one_state, pack, unpack}
 use Rattle.quorum_stays.proofs.Stepping.{Did}
 use Rattle.quorum_stays.specs.Steady.{Carries, Follower, Item, Keeps, Noted, Reign, Round}
 use Rattle.quorum_timed.specs.Timed.{Owed, Pace, Timed, Went, at_time}
-use Rattle.std.proofs.Common.{Bool, List, Option, Some, [], arith, inl, inr, subst, sym, ℕ, ◌+◌, ◌∙◌, ◌≡◌, ◌≤◌, ◌⊎◌}
+use Rattle.std.proofs.Common.{Bool, List, Option, Some, [], arith, inl, inr, subst, sym, ℕ, ◌+◌, ◌∙◌, ◌≡◌, ◌≤◌, ◌⊎◌, ap}
 use Rattle.std.proofs.lemmas.Bool.{cases_eq}
 use Rattle.std.specs.Prelude.{IsSomeAnd}
+use Rattle.mon_msg.specs.Protocol.Played.{Fits, played}
+use Rattle.std.specs.List.{AllByRecursion}
 
 module _ (ms : Monitors) (q : List Bool) (pace : Pace) (reign : Reign) (t next : Timed) (u : ℕ) (later : t.time ≤ u) (e : Event) (left : ℕ → ℕ → List Owed)
     (went : Went ms q pace (at_time ms q pace u t) e left next) (i : ℕ) (s after : State) (cs : List Change) (es : List Envelope)
@@ -36,6 +38,17 @@ module _ (ms : Monitors) (q : List Bool) (pace : Pace) (reign : Reign) (t next :
 
   pub other_store : (P : Readings → Type 0) (j : ℕ) → (j ≡ i → ⊥) → P (readings_of (t.world.store j)) → P (readings_of (next.world.store j))
   other_store P j ne k = subst (λ (m : Store). P (readings_of m)) (sym (D.stores j ne)) k
+
+  -- nothing was written
+  pub every_store : cs ≡ [] → (P : Readings → Type 0) (j : ℕ) → P (readings_of (t.world.store j)) → P (readings_of (next.world.store j))
+  every_store none P j k = by (cases_eq j i)
+    where
+      kept : readings_of (next.world.store i) ≡ readings_of (t.world.store i)
+      kept = D.kept (subst (AllByRecursion Fits) (sym none) tt) ∙ ap (λ (z : List Change). played z (readings_of (t.world.store i))) none
+
+      by : (j ≡ i) ⊎ (j ≡ i → ⊥) → P (readings_of (next.world.store j))
+      by (inl is) = subst (λ (z : ℕ). P (readings_of (next.world.store z))) (sym is) (subst P (sym kept) (subst (λ (z : ℕ). P (readings_of (t.world.store z))) is k))
+      by (inr ne) = other_store P j ne k
 
   pub same_carried : (f j : ℕ) (xs : List Item) → Carries ms reign t.world.messages f j (t.time + pace.delay) xs (left f j) → Gives ms reign f j [] es
       → Carries ms reign next.world.messages f j (next.time + pace.delay) xs (next.under_way f j)

@@ -11,7 +11,9 @@ use Rattle.mon_tx.specs.declared.op.Op.{Op}
 use Rattle.mon_types.specs.Ranks.{has}
 use Rattle.mon_wire.specs.declared.body.Body.TheVariants as body
 use Rattle.mon_wire.specs.declared.body.Body.{Body}
+use Rattle.mon_wire.specs.declared.message.Message.{Message}
 use Rattle.mon_wire.specs.declared.phase.Phase.TheVariants as phase
+use Rattle.mon_wire.specs.declared.phase.Phase.{Phase}
 use Rattle.mon_wire.specs.declared.phase.TheConstants.Timer.{COUNT}
 use Rattle.mon_wire.specs.declared.phase.Timer.TheVariants as timer
 use Rattle.mon_wire.specs.declared.phase.Timer.{Timer}
@@ -82,12 +84,24 @@ IsOfClients (body.Forward seq c) = Unit {0}
 IsOfClients (body.Route seq r) = Unit {0}
 IsOfClients other = ⊥
 
--- a message under way to monitor i, about a client's command
-pub record ForClients (messages : List Envelope) (i : ℕ) (o : Owed) : Type 0 where
+abbrev pub IsOfElections : Body → Type 0
+IsOfElections (body.Propose table) = Unit {0}
+IsOfElections body.Ack = Unit {0}
+IsOfElections other = ⊥
+
+-- monitor f sent the message in an election before this epoch
+pub record IsOfEarlier (epoch f : ℕ) (m : Message) : Type 0 where
+  pub sender : m.from ≡ f
+  pub before : m.epoch < epoch
+  pub elects : IsOfElections m.body
+
+-- A message under way from f to i that is of no round: it is about a client's command, or of an election before this
+-- epoch.
+pub record IsAside (epoch : ℕ) (messages : List Envelope) (f i : ℕ) (o : Owed) : Type 0 where
   pub envelope : Envelope
   pub there : message_at messages o.number ≡ Some envelope
   pub receiver : envelope.to ≡ i
-  pub command : IsOfClients envelope.message.body
+  pub aside : IsOfClients envelope.message.body ⊎ IsOfEarlier epoch f envelope.message
 
 -- it arrives no later than the first of these
 abbrev pub IsBefore : ℕ → List Item → Type 0
@@ -100,11 +114,10 @@ module _ (ms : Monitors) (reign : Reign) (messages : List Envelope) (f i : ℕ) 
     pub there : message_at messages o.number ≡ Some (in_reign ms reign f i x.body)
     pub in_time : o.by ≤ x.by
 
-  -- These items are under way from f to i, in this order. Messages about clients' commands may be between them. All
-  -- arrive by `top`.
+  -- These items are under way from f to i, in this order. Messages of no round may be between them. All arrive by `top`.
   abbrev pub Carries : List Item → List Owed → Type 0
   Carries xs [] = xs ≡ []
-  Carries xs (o ∷ os) = (o.by ≤ top) × ((ForClients messages i o × IsBefore o.by xs × Carries xs os)
+  Carries xs (o ∷ os) = (o.by ≤ top) × ((IsAside reign.epoch messages f i o × IsBefore o.by xs × Carries xs os)
       ⊎ ((x : Item) × (rest : List Item) × (xs ≡ x ∷ rest) × IsItem x o × Carries rest os))
 
 -- ---- the leader
@@ -129,10 +142,10 @@ pub record LeadsSince (reign : Reign) (q : List Bool) (at : ℕ) (s : State) : T
   pub only : (kind : Timer) (end : ℕ) → end_of kind s.timers ≡ Some end
       → (kind ≡ timer.Renew) ⊎ (kind ≡ timer.LeaseAck) ⊎ (kind ≡ timer.Propose)
 
--- The monitor leads this quorum. It began this value at this time on its clock, and not all members accepted it yet.
--- Its timers are that of the acceptances, and that of commands that wait, which does nothing meanwhile.
-pub record ProposesSince (n : ℕ) (reign : Reign) (q : List Bool) (x : List Op) (at : ℕ) (s : State) : Type 0 where
-  pub leads : s.phase ≡ phase.Updating
+-- The monitor leads this quorum, in this phase. It began this value at this time on its clock, and not all members
+-- accepted it yet. Its timers are that of the acceptances, and that of commands that wait, which does nothing meanwhile.
+pub record ProposesSince (p : Phase) (n : ℕ) (reign : Reign) (q : List Bool) (x : List Op) (at : ℕ) (s : State) : Type 0 where
+  pub leads : s.phase ≡ p
   pub quorum : s.leader.quorum ≡ q
   pub number : s.leader.pn ≡ reign.pn
   pub proposed : s.leader.value ≡ Some x
@@ -152,7 +165,7 @@ pub record IsOfCommand (x : List Op) : Type 0 where
 -- The leader proposes the value in progress. It began it before the leases were to be renewed.
 pub record Proposes (n : ℕ) (q : List Bool) (pace : Pace) (reign : Reign) (r : Round) (b : Begun) (s : State) : Type
     0 where
-  pub proposes : ProposesSince n reign q b.value (b.at + pace.clock reign.leader) s
+  pub proposes : ProposesSince phase.Updating n reign q b.value (b.at + pace.clock reign.leader) s
   pub made : IsOfCommand b.value
   pub fits : suc r.version ≤ 2 ^ 62
   pub after : r.latest ≤ b.at
@@ -230,7 +243,7 @@ pub record Follower (ms : Monitors) (q : List Bool) (pace : Pace) (reign : Reign
 
 -- ---- the quorum
 
--- Messages between these two are about clients' commands alone.
+-- No message between these two is of a round.
 abbrev pub AreApart : (leader f i : ℕ) → Type 0
 AreApart leader f i = (f ≡ leader → i ≡ leader) × (i ≡ leader → f ≡ leader)
 
