@@ -44,7 +44,7 @@ module _ (ms : Monitors) (q : List Bool) (pace : Pace) (quick : IsQuick pace) (E
 
         by : Result ms q pace quick E t X u M H.i H.member (lt-ltb H.i ms.count (C.members H.i H.member)) H.came e H.left H.state H.up H.how (shared_entries (t.world.store H.i)) H.course H.reacts (room H.i H.member) → Elects ms q pace E next ⊎ IsWon ms q pace E next
         by (turns unchanged T) = inl (turned ms q pace quick E t X u M next e H.left H.went H.i H.member (lt-ltb H.i ms.count (C.members H.i H.member)) H.came H.state H.up H.how H.course H.reacts (room H.i H.member) H.did unchanged T)
-        by (won best all W) = inr (is_won ms q pace quick E t X u M next e H.left H.went H.i H.member (lt-ltb H.i ms.count (C.members H.i H.member)) H.came H.state H.up H.how H.course H.reacts (room H.i H.member) H.did best all W)
+        by (won best over all W) = inr (is_won ms q pace quick E t X u M next e H.left H.went H.i H.member (lt-ltb H.i ms.count (C.members H.i H.member)) H.came H.state H.up H.how H.course H.reacts (room H.i H.member) H.did best over all W)
 
   -- ---- the run
 

@@ -305,7 +305,7 @@ module _ (ms : Monitors) (q : List Bool) (pace : Pace) (quick : IsQuick pace) (E
     -- what becomes of the election
     pub data Result : Type 0 where
       turns : y.changes ≡ [] → Turn i came s y.state y.out → Result
-      won : i ≡ b → ((j : ℕ) → has q j ≡ true → has s.elector.acked j ≡ true) → Wins ms.count i w s.elector.acked y → Result
+      won : i ≡ b → E.from + 5000 ≤ u → ((j : ℕ) → has q j ≡ true → has s.elector.acked j ≡ true) → Wins ms i lt now sh w s s.elector.acked y → Result
 
     pub result : Result
     result = by outcome
@@ -401,7 +401,7 @@ module _ (ms : Monitors) (q : List Bool) (pace : Pace) (quick : IsQuick pace) (E
                 let allowed : is_allowed me i ≡ true = subst (λ (z : ℕ). is_allowed me z ≡ true) (sym best) C.may_lead in
                 absurd (false≢true (sym no_win ∙ and_from (s.elector.candidate && is_allowed me i) (is_majority ms.count s.elector.acked) (and_from s.elector.candidate (is_allowed me i) S.candidate allowed) (most_in best (late is))))
         by (wins is candidate most K) = elim (cases_eq i b) [
-          | inl best ↦ won best (all_in best (late is)) K
+          | inl best ↦ won best (late is) (all_in best (late is)) K
           | inr ne ↦ absurd (too_early ne)
         ]
           where

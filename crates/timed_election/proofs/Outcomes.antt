@@ -1,7 +1,7 @@
 -- What a monitor that takes part in an election does at each input, if nothing is of a later epoch.
 use Rattle.election_rules.specs.declared.scores.Scores.{Scores}
 use Rattle.mon_bytes.specs.declared.entry.Entry.{Entry}
-use Rattle.mon_msg.specs.Protocol.Changes.{Epoch}
+use Rattle.mon_msg.specs.Protocol.Changes.{Epoch, Numbers}
 use Rattle.mon_msg.specs.Protocol.Chunks.{hear_chunk, hear_last_chunk}
 use Rattle.mon_msg.specs.Protocol.Collecting.{collect, collect_with, reign}
 use Rattle.mon_msg.specs.Protocol.Commands.{ask, hear_forward, hear_route}
@@ -16,15 +16,15 @@ use Rattle.mon_msg.specs.Protocol.Peon.{hear_begin, hear_collect, hear_commit, h
 use Rattle.mon_msg.specs.Protocol.Phases.{votes}
 use Rattle.mon_msg.specs.Protocol.Pings.{hear_ping, hear_ping_reply}
 use Rattle.mon_msg.specs.Protocol.Places.{is_after, is_cookie}
-use Rattle.mon_msg.specs.Protocol.Played.{Fits, played}
 use Rattle.mon_msg.specs.Protocol.Probing.{hear_probe, hear_probe_reply}
 use Rattle.mon_msg.specs.Protocol.Providing.{chunk, given_entries, given_values, grant, hear_get_chunk, hear_get_cookie_full, hear_get_cookie_recent, is_finished, reach}
 use Rattle.mon_msg.specs.Protocol.Readings.{Readings, epoch_of, or_zero, promise_of}
+use Rattle.mon_msg.specs.Protocol.Records.{pending}
 use Rattle.mon_msg.specs.Protocol.Sending.{members, message_to, others}
 use Rattle.mon_msg.specs.Protocol.Sets.{only}
-use Rattle.mon_msg.specs.Protocol.State.{State, no_clients, quorum_of}
+use Rattle.mon_msg.specs.Protocol.State.{State, no_clients, quorum_of, start_leader}
 use Rattle.mon_msg.specs.Protocol.Table.{at_rest, react, running, timer_comes}
-use Rattle.mon_msg.specs.Protocol.Timers.{armed, disarmed, end_of, is_armed}
+use Rattle.mon_msg.specs.Protocol.Timers.{armed, disarmed, end_of, is_armed, only_ping}
 use Rattle.mon_msg.specs.declared.election.Elector.{Elector}
 use Rattle.mon_msg.specs.declared.input.Input.TheVariants as input
 use Rattle.mon_msg.specs.declared.input.Input.{Input}
@@ -46,14 +46,13 @@ use Rattle.mon_wire.specs.declared.phase.Timer.{Timer}
 use Rattle.mon_wire.specs.declared.request.Request.TheVariants as request
 use Rattle.mon_wire.specs.declared.request.Request.{Request}
 use Rattle.mon_wire.specs.declared.request.Session.{Session}
-use Rattle.quorum_elects.proofs.Standing.{among_map, among_members, letter}
 use Rattle.quorum_model.proofs.Members.{member_of}
 use Rattle.quorum_model.specs.Monitors.{Monitors}
 use Rattle.quorum_timed.proofs.Armed.{Timers}
 use Rattle.quorum_timed.specs.Calls.{IsCall}
-use Rattle.quorum_walk.proofs.Lists.{Among, among_left}
+use Rattle.quorum_walk.proofs.Parity.{next_is}
 use Rattle.quorum_walk.proofs.Walk.{Then, and_then, and_three, by_test, done, or_three, where_fits}
-use Rattle.std.proofs.Common.{Bool, Err, List, None, Ok, Option, Some, [], ap, arith, eqb, false, filter, inl, inr, leb, ltb, map, max, not, refl, slice_index_or, subst, suc, sym, true, ℕ, ◌&&◌, ◌<◌, ◌^◌, ◌||◌, ◌∙◌, ◌∷◌, ◌≡◌, ◌≤◌}
+use Rattle.std.proofs.Common.{Bool, Err, List, None, Ok, Option, Some, [], ap, arith, eqb, false, filter, inl, inr, leb, ltb, map, max, not, refl, slice_index_or, subst, suc, sym, true, ℕ, ◌&&◌, ◌++◌, ◌<◌, ◌^◌, ◌||◌, ◌∙◌, ◌∷◌, ◌≡◌, ◌≤◌}
 use Rattle.std.proofs.lemmas.Bool.{and_parts, cond_both, eq-eqb, eqb-true, false≢true, leb-false, ltb-false, ltb-true, ne_eqb, or_cases}
 use Rattle.std.specs.List.{AllByRecursion}
 use Rattle.std.specs.Prelude.{is_some}
@@ -75,14 +74,6 @@ pub record Stays (stands : Bool) (those : List Bool) (whom : Option ℕ) (ts : T
   pub deferred : y.state.elector.deferred ≡ whom
   pub timers : y.state.timers ≡ ts
   pub changes : y.changes ≡ []
-
--- It leads this quorum in the next epoch, and says so to all of it.
-pub record Wins (n i : ℕ) (w : Readings) (q : List Bool) (y : Course) : Type 0 where
-  pub phase : y.state.phase ≡ phase.Collecting
-  pub quorum : y.state.leader.quorum ≡ q
-  pub fits : AllByRecursion Fits y.changes
-  pub epoch : epoch_of (played y.changes w) ≡ suc (epoch_of w)
-  pub says : (g : ℕ) → g < n → has q g ≡ true → (g ≡ i → ⊥) → Among (sent.Message g (letter n i (suc (epoch_of w)) (body.Victory q))) y.out
 
 -- what comes is of no later epoch
 abbrev pub IsLow : ℕ → Input → Type 0
@@ -107,6 +98,18 @@ module _ (ms : Monitors) (i : ℕ) (lt : ltb i ms.count ≡ true) (now : ℕ) (s
   abbrev pub says : Body → (to : ℕ) → Sent
   says b to = message_to me (epoch_of w) b to
 
+  -- It leads this quorum in the next epoch, says so to all of it, and asks it what was accepted.
+  pub record Wins (q : List Bool) (y : Course) : Type 0 where
+    pub pn : ℕ
+    pub above : promise_of w < pn
+    pub next : suc (epoch_of w) ≤ 2 ^ 62
+    pub short : pn ≤ 2 ^ 62
+    pub phase : y.state.phase ≡ phase.Collecting
+    pub leader : y.state.leader ≡ record start_leader { quorum = q; pn = pn; answered = only i; found = pending w }
+    pub timers : y.state.timers ≡ armed now timer.Collect (only_ping (disarmed timer.Election s.timers))
+    pub changes : y.changes ≡ Epoch (suc (epoch_of w)) ∷ Numbers pn ∷ []
+    pub out : y.out ≡ map (message_to me (suc (epoch_of w)) (body.Victory q)) (members me q) ++ map (message_to me (suc (epoch_of w)) (body.Collect pn w.first w.last)) (members me q)
+
   -- what it does
   pub data Outcome (came : Input) (y : Course) : Type 0 where
     rests : Stays s.elector.candidate s.elector.acked s.elector.deferred s.timers y → AllByRecursion IsQuiet y.out → Outcome came y
@@ -118,7 +121,7 @@ module _ (ms : Monitors) (i : ℕ) (lt : ltb i ms.count ≡ true) (now : ℕ) (s
         → Stays true (only i) None (armed now timer.Election s.timers) y → y.out ≡ map (says (body.Propose None)) (others me) → Outcome came y
     calls_again : came ≡ input.Timer timer.Election → (s.elector.candidate && is_allowed me i && is_majority ms.count s.elector.acked) ≡ false
         → Stays true (only i) None (armed now timer.Election (disarmed timer.Election s.timers)) y → y.out ≡ map (says (body.Propose None)) (others me) → Outcome came y
-    wins : came ≡ input.Timer timer.Election → s.elector.candidate ≡ true → is_majority ms.count s.elector.acked ≡ true → Wins ms.count i w s.elector.acked y → Outcome came y
+    wins : came ≡ input.Timer timer.Election → s.elector.candidate ≡ true → is_majority ms.count s.elector.acked ≡ true → Wins s.elector.acked y → Outcome came y
 
   module _ (odd : is_even (epoch_of w) ≡ false) (ranks : scores_count ms.rule ≡ false)
       (only_one : (kind : Timer) (end : ℕ) → end_of kind s.timers ≡ Some end → kind ≡ timer.Election)
@@ -170,23 +173,26 @@ module _ (ms : Monitors) (i : ℕ) (lt : ltb i ms.count ≡ true) (now : ℕ) (s
     next_epoch : (y : Course) → Then (λ (z : Course). (suc (epoch_of y.readings) ≤ 2 ^ 62) × (z ≡ change (Epoch (suc (epoch_of y.readings))) y)) (in_next_epoch y)
     next_epoch y = where_fits (λ (z : Course). (suc (epoch_of y.readings) ≤ 2 ^ 62) × (z ≡ change (Epoch (suc (epoch_of y.readings))) y)) which.Epoch (suc (epoch_of y.readings)) _ (λ fits. done (fits, refl))
 
-    reigns : (ts : Timers) → is_majority ms.count s.elector.acked ≡ true → suc (epoch_of w) ≤ 2 ^ 62 → Then (Wins ms.count i w s.elector.acked) (reign me now s.elector.acked (change (Epoch (suc (epoch_of w))) (with_votes s.elector ts)))
+    reigns : is_majority ms.count s.elector.acked ≡ true → suc (epoch_of w) ≤ 2 ^ 62 → Then (Wins s.elector.acked) (reign me now s.elector.acked (change (Epoch (suc (epoch_of w))) (with_votes s.elector (disarmed timer.Election s.timers))))
     unfolding reign collect collect_with
-    reigns ts most fits =
-        where_fits (Wins ms.count i w s.elector.acked) which.Pn (next_number (or_zero w.last_pn) (max (promise_of w) 0) i) _ (λ short.
+    reigns most fits =
+        where_fits (Wins s.elector.acked) which.Pn (next_number (or_zero w.last_pn) (max (promise_of w) 0) i) _ (λ short.
         by_test (is_alone me s.elector.acked) (λ t. absurd (false≢true (sym (second most) ∙ t))) (λ _. done (record {
+          pn = next_number (or_zero w.last_pn) (max (promise_of w) 0) i;
+          above = (next_is (or_zero w.last_pn) (promise_of w) 0 i (let z = ltb-true i ms.count lt in let m = ms.most in omega arith)).1;
+          next = fits;
+          short = short;
           phase = refl;
-          quorum = refl;
-          fits = (fits, (short, tt));
-          epoch = refl;
-          says = λ g lt_g h ne. among_left (sent.Message g (letter ms.count i (suc (epoch_of w)) (body.Victory s.elector.acked))) (map (message_to me (suc (epoch_of w)) (body.Victory s.elector.acked)) (members me s.elector.acked)) _
-              (among_map (message_to me (suc (epoch_of w)) (body.Victory s.elector.acked)) g (members me s.elector.acked) (among_members me s.elector.acked g lt_g h ne));
+          leader = refl;
+          timers = refl;
+          changes = refl;
+          out = refl;
         })))
 
-    won : (ts : Timers) → is_majority ms.count s.elector.acked ≡ true → Then (Wins ms.count i w s.elector.acked) (win me now s.elector.acked (with_votes s.elector ts))
+    won : is_majority ms.count s.elector.acked ≡ true → Then (Wins s.elector.acked) (win me now s.elector.acked (with_votes s.elector (disarmed timer.Election s.timers)))
     unfolding win
-    won ts most = and_then (λ (z : Course). (suc (epoch_of w) ≤ 2 ^ 62) × (z ≡ change (Epoch (suc (epoch_of w))) (with_votes s.elector ts))) (Wins ms.count i w s.elector.acked) (in_next_epoch (with_votes s.elector ts)) _ (next_epoch (with_votes s.elector ts))
-        (λ y k. subst (λ (z : Course). Then (Wins ms.count i w s.elector.acked) (reign me now s.elector.acked z)) (sym k.1) (reigns ts most k.0))
+    won most = and_then (λ (z : Course). (suc (epoch_of w) ≤ 2 ^ 62) × (z ≡ change (Epoch (suc (epoch_of w))) (with_votes s.elector (disarmed timer.Election s.timers)))) (Wins s.elector.acked) (in_next_epoch (with_votes s.elector (disarmed timer.Election s.timers))) _
+        (next_epoch (with_votes s.elector (disarmed timer.Election s.timers))) (λ y k. subst (λ (z : Course). Then (Wins s.elector.acked) (reign me now s.elector.acked z)) (sym k.1) (reigns most k.0))
 
     -- ---- elections
 
@@ -248,10 +254,10 @@ module _ (ms : Monitors) (i : ℕ) (lt : ltb i ms.count ≡ true) (now : ℕ) (s
     over is =
         by_test (s.elector.candidate && is_allowed me i && is_majority ms.count s.elector.acked)
         (λ t. (let k = and_three s.elector.candidate (is_allowed me i) (is_majority ms.count s.elector.acked) t in
-        wins_so k.0 k.2 (win me now s.elector.acked (disarm timer.Election x)) (won (disarmed timer.Election s.timers) k.2)))
+        wins_so k.0 k.2 (win me now s.elector.acked (disarm timer.Election x)) (won k.2)))
         (λ t. calls_so s.elector (disarmed timer.Election s.timers) (calls_again is t (stays_called s.elector (disarmed timer.Election s.timers)) refl))
       where
-        wins_so : s.elector.candidate ≡ true → is_majority ms.count s.elector.acked ≡ true → (r : _) → Then (Wins ms.count i w s.elector.acked) r → Then O r
+        wins_so : s.elector.candidate ≡ true → is_majority ms.count s.elector.acked ≡ true → (r : _) → Then (Wins s.elector.acked) r → Then O r
         wins_so a b (Ok y) k = done (wins is a b k.holds)
         wins_so a b (Err e) k = record { holds = tt }
 

@@ -1,8 +1,12 @@
 -- An election in which all members of a set take part, and how one of them wins it.
 use Rattle.election_rules.specs.Ranking.{allows}
 use Rattle.mon_msg.specs.Protocol.Entering.{is_even, scores_count}
-use Rattle.mon_msg.specs.Protocol.Readings.{epoch_of, readings_of}
-use Rattle.mon_msg.specs.Protocol.State.{State}
+use Rattle.mon_msg.specs.Protocol.Changes.{Epoch, Numbers}
+use Rattle.mon_msg.specs.Protocol.Played.{played}
+use Rattle.mon_msg.specs.Protocol.Readings.{Readings, epoch_of, or_zero, promise_of, readings_of}
+use Rattle.mon_msg.specs.Protocol.Records.{pending}
+use Rattle.mon_msg.specs.Protocol.Sets.{only}
+use Rattle.mon_msg.specs.Protocol.State.{State, start_leader}
 use Rattle.mon_msg.specs.Protocol.Timers.{end_of, length_of}
 use Rattle.mon_types.specs.Ranks.{has, is_majority}
 use Rattle.mon_wire.specs.declared.body.Body.TheVariants as body
@@ -14,10 +18,11 @@ use Rattle.mon_wire.specs.declared.phase.Timer.{Timer}
 use Rattle.quorum_model.specs.Meets.{message_at}
 use Rattle.quorum_model.specs.Monitors.{Monitors}
 use Rattle.quorum_model.specs.World.{Envelope, Event}
+use Rattle.quorum_stays.specs.Steady.{Carries, Reign, item}
 use Rattle.quorum_timed.specs.Calls.{IsCall}
 use Rattle.quorum_timed.specs.Timed.{Leads, Owed, Pace, Timed}
 use Rattle.std.specs.List.{AllByRecursion}
-use Rattle.std.specs.Prelude.{Bool, IsSomeAnd, List, None, Some, [], false, length, suc, true, ℕ, ◌*◌, ◌+◌, ◌++◌, ◌<◌, ◌∷◌, ◌≡◌, ◌≤◌, ◌⊎◌}
+use Rattle.std.specs.Prelude.{Bool, IsSomeAnd, List, None, Some, [], false, length, suc, true, ℕ, ◌*◌, ◌+◌, ◌++◌, ◌<◌, ◌^◌, ◌∷◌, ◌≡◌, ◌≤◌, ◌⊎◌}
 
 -- The epoch of an election, and the member that is to win it. No member's timer of the election was armed before `from`,
 -- and that of this member was armed by `by`.
@@ -132,27 +137,58 @@ pub record Elects (ms : Monitors) (q : List Bool) (pace : Pace) (E : Election) (
 
 -- ---- its end
 
--- a VICTORY of `best` for monitor i, with exactly the members of q
-pub record IsVictory (ms : Monitors) (q : List Bool) (E : Election) (messages : List Envelope) (i : ℕ) (o : Owed) : Type
-    0 where
-  pub quorum : List Bool
-  pub members : (j : ℕ) → has quorum j ≡ has q j
-  pub there : message_at messages o.number ≡ Some (record {
-    to = i;
-    message = record { from = E.best; monitors = ms.count; epoch = suc E.epoch; body = body.Victory quorum };
-  })
+-- the winner leads in the next epoch, under this number
+abbrev pub reign_of : Election → (pn : ℕ) → Reign
+reign_of E pn = record { leader = E.best; epoch = suc E.epoch; pn = pn }
 
--- `best` leads exactly the members of q, in the next epoch. All others still take part in the election, and get a VICTORY
--- within a delay.
+-- The winner leads this quorum under this number, and collects since this time on its clock. It has its own answer
+-- alone, and no other timer is armed.
+pub record BeginsToCollect (best : ℕ) (quorum : List Bool) (pn at : ℕ) (w : Readings) (s : State) : Type 0 where
+  pub collects : s.phase ≡ phase.Collecting
+  pub leader_is : s.leader ≡ record start_leader { quorum = quorum; pn = pn; answered = only best; found = pending w }
+  pub kinds : length s.timers ≡ COUNT
+  pub timers : (kind : Timer) (end : ℕ) → end_of kind s.timers ≡ Some end
+      → (kind ≡ timer.Collect) × (end ≡ at + length_of timer.Collect)
+
+-- What is under way to monitor i: messages of the election, and then VICTORY and COLLECT. All arrive by this time.
+pub record IsTold (ms : Monitors) (E : Election) (quorum : List Bool) (pn : ℕ) (w : Readings) (messages : List Envelope)
+    (i by : ℕ) (os : List Owed) : Type 0 where
+  pub earlier : List Owed
+  pub later : List Owed
+  pub parts : os ≡ earlier ++ later
+  pub of_election : AllByRecursion (IsOfElection E messages E.best i by) earlier
+  pub tells : Carries ms (reign_of E pn) messages E.best i by
+      (item (body.Victory quorum) by ∷ item (body.Collect pn w.first w.last) by ∷ []) later
+
+-- `best` leads exactly the members of q, in the next epoch, and asks them under this number what they accepted. All
+-- others still take part in the election, and get a VICTORY and a COLLECT within a delay. All else that is under way
+-- is of the election.
 pub record IsWon (ms : Monitors) (q : List Bool) (pace : Pace) (E : Election) (t : Timed) : Type 0 where
-  pub leads : IsSomeAnd (t.world.state E.best)
-      (λ s. (s.phase ≡ phase.Collecting) × ((i : ℕ) → has s.leader.quorum i ≡ has q i))
+  pub quorum : List Bool
+  pub ranks : length quorum ≡ 15
+  pub members : (i : ℕ) → has quorum i ≡ has q i
+  pub pn : ℕ
+  pub short : pn ≤ 2 ^ 62
+  pub fits : suc E.epoch ≤ 2 ^ 62
+  pub begun : E.from + length_of timer.Election ≤ t.time
   pub epoch : epoch_of (readings_of (t.world.store E.best)) ≡ suc E.epoch
+  pub promise : promise_of (readings_of (t.world.store E.best)) ≡ pn
+  pub number : or_zero (readings_of (t.world.store E.best)).last_pn ≡ pn
+  pub leads : IsSomeAnd (t.world.state E.best)
+      (BeginsToCollect E.best quorum pn (t.time + pace.clock E.best) (readings_of (t.world.store E.best)))
   pub others : (i : ℕ) → has q i ≡ true → (i ≡ E.best → ⊥)
-      → IsSomeAnd (t.world.state i) (λ s. s.phase ≡ phase.Electing)
+      → IsSomeAnd (t.world.state i) (λ s. TakesPart q pace E i s × Defers q pace E t.time i s)
       × (epoch_of (readings_of (t.world.store i)) ≡ E.epoch)
   pub told : (i : ℕ) → has q i ≡ true → (i ≡ E.best → ⊥)
-      → ArrivesBy (t.time + pace.delay) (IsVictory ms q E t.world.messages i) (t.under_way E.best i)
+      → IsTold ms E quorum pn (readings_of (t.world.store E.best)) t.world.messages i (t.time + pace.delay)
+      (t.under_way E.best i)
+  pub apart : (f i : ℕ) → has q f ≡ true → has q i ≡ true → (f ≡ E.best → i ≡ E.best)
+      → AllByRecursion (IsOfElection E t.world.messages f i (t.time + pace.delay)) (t.under_way f i)
+
+-- The winner's store before and after: it keeps the next epoch and its number, which is above what it had promised.
+pub record IsRaised (E : Election) (pn : ℕ) (before after : Readings) : Type 0 where
+  pub above : promise_of before < pn
+  pub after_is : after ≡ played (Epoch (suc E.epoch) ∷ Numbers pn ∷ []) before
 
 -- At some time of the run, and by time u, the election is won.
 pub record IsWonBy (ms : Monitors) (q : List Bool) (pace : Pace) (E : Election) (t : Timed) (more : List (ℕ × Event))

@@ -20,7 +20,7 @@ pub fn law_probing_ends()
 
 /// An election ends in time if all members of a majority joined it within three delays. The member that outranks the
 /// others wins it within 5 seconds and `late` after its timer was armed, leads all members, and sends each of them a
-/// VICTORY.
+/// VICTORY and a COLLECT.
 pub fn law_election_ends()
     ensures { (ms : Monitors) (q : List Bool) (pace : Pace) (E : Election) (t last : Timed) (more : List (ℕ × Event))
         → IsQuick pace → Elects ms q pace E t → Leads ms q pace t more last → ClocksGoOn q pace last.time
