@@ -19,7 +19,7 @@ use Rattle.quorum_stays.proofs.Stepping.{Did, did, reacts}
 use Rattle.quorum_stays.proofs.UnderWay.{all_numbers, all_owed, new_are, new_there, numbers}
 use Rattle.quorum_timed.specs.Calls.{IsCall, IsDelivery, IsCandidate}
 use Rattle.quorum_timed.specs.Timed.{Owed, Pace, Timed, Went, at_time, new_between, owed_by, without_first, Again, Arriving, Asking, Comes, Firing}
-use Rattle.std.proofs.Common.{Bool, List, Ok, Some, ap, arith, inl, inr, length, refl, subst, suc, sym, true, ℕ, ◌++◌, ◌+◌, ◌<◌, ◌∙◌, ◌∷◌, ◌≡◌, ◌≤◌}
+use Rattle.std.proofs.Common.{Bool, List, Ok, Some, ap, arith, inl, inr, length, refl, subst, suc, sym, true, ℕ, ◌++◌, ◌+◌, ◌<◌, ◌∙◌, ◌∷◌, ◌≡◌, ◌≤◌, ◌⊎◌}
 use Rattle.std.proofs.lemmas.Bool.{cases_eq, lt-ltb}
 use Rattle.std.specs.List.{AllByRecursion}
 use Rattle.std.specs.Prelude.{IsSomeAnd, slice_get, option_map}
@@ -31,6 +31,7 @@ use Rattle.mon_wire.specs.declared.request.Request.{Request}
 use Rattle.mon_wire.specs.declared.request.Session.{Session}
 use Rattle.quorum_timed.specs.Begins.{IsBetween}
 use Rattle.timed_election.proofs.Lists.{closed, opened}
+use Rattle.timed_election.specs.Election.{ArrivesBy}
 
 module _ (ms : Monitors) (q : List Bool) (pace : Pace) (t : Timed) (u : ℕ) where
   -- how it reaches member i
@@ -116,6 +117,27 @@ module _ (ms : Monitors) (q : List Bool) (pace : Pace) (t : Timed) (u : ℕ) (ne
       (all_append P (left f j) (owed_by due (numbers f j (suc count) es)) old
       (all_owed due (numbers f j (suc count) es) (λ k. P (record { number = k; by = due })) P (λ k h. h)
       (all_numbers f j (suc count) es (λ k. P (record { number = k; by = due })) (λ d m there from to. new d m there from to (new_at d m there)))))
+
+  -- either the first message of this list came, which has the property, or the others are still under way
+  pub came_or_left : (until : ℕ) (P : Owed → Type 0) (f j : ℕ) → j ≡ i → ArrivesBy until P (t.under_way f j)
+      → ((o : Owed) × (m : Message) × P o × (o.by ≤ until) × (message_at t.world.messages o.number ≡ Some (record { to = i; message = m })) × (came ≡ input.Deliver m)) ⊎ ArrivesBy until P (left f j)
+  came_or_left until P f j is a = of how
+    where
+      of : How ms q pace t u i came e left s
+          → ((o : Owed) × (m : Message) × P o × (o.by ≤ until) × (message_at t.world.messages o.number ≡ Some (record { to = i; message = m })) × (came ≡ input.Deliver m)) ⊎ ArrivesBy until P (left f j)
+      of (again n m there from call cand h at_time rest) = inr (subst (λ (z : ℕ → ℕ → List Owed). ArrivesBy until P (z f j)) (sym rest) a)
+      of (fires kind end set over h at_time rest) = inr (subst (λ (z : ℕ → ℕ → List Owed). ArrivesBy until P (z f j)) (sym rest) a)
+      of (asks session r h at_time rest) = inr (subst (λ (z : ℕ → ℕ → List Owed). ArrivesBy until P (z f j)) (sym rest) a)
+      of (first g qg o others m list there from h at_time rest) = elim (cases_eq f g) [
+        | inr ne ↦ inr (subst (λ (z : ℕ → ℕ → List Owed). ArrivesBy until P (z f j)) (sym rest) (subst (ArrivesBy until P) (sym (other_left g i others t.under_way f j (λ same _. ne same))) a))
+        | inl same ↦ (let here_list : t.under_way f j ≡ o ∷ others = subst (λ (p : ℕ). t.under_way f p ≡ o ∷ others) (sym is) (subst (λ (p : ℕ). t.under_way p i ≡ o ∷ others) (sym same) list) in
+            let parts = subst (ArrivesBy until P) here_list a in
+            elim parts.1 [
+              | inl p ↦ inl (o, m, p, parts.0, there, h)
+              | inr rest_of ↦ inr (subst (ArrivesBy until P)
+                  (sym (ap (λ (z : ℕ → ℕ → List Owed). z f j) rest ∙ ap (λ (p : ℕ). without_first g i others t.under_way p j) same ∙ ap (λ (p : ℕ). without_first g i others t.under_way g p) is ∙ here_left g i others t.under_way)) rest_of)
+            ])
+      ]
 
   -- no event comes without a delivery or a timer
   pub no_delivery : (k : ℕ) → ((m : Message) → came ≡ input.Deliver m → ⊥) → IsDelivery k e → ⊥

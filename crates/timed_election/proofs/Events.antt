@@ -41,9 +41,10 @@ use Rattle.std.proofs.lemmas.List.{get_or-set_same, length-set}
 use Rattle.std.specs.List.{AllByRecursion}
 use Rattle.std.specs.Prelude.{IsSomeAnd}
 use Rattle.timed_election.proofs.Coming.{How, again, asks, fires, first}
-use Rattle.timed_election.proofs.Counting.{count_lacking}
-use Rattle.timed_election.proofs.Lists.{closed, opened}
-use Rattle.timed_election.proofs.Outcomes.{Heard as Came, IsLow, IsQuiet, Outcome, Stays, Wins, ack_taken, call_taken, calls, calls_again, counts, defers, reacted, rests, says, wins}
+use Rattle.timed_election.proofs.Counting.{not_whole, several}
+use Rattle.timed_election.proofs.Lists.{all_sent, closed, opened}
+use Rattle.timed_election.proofs.Outcomes.{Heard as Came, IsLow, Outcome, Stays, Wins, ack_taken, call_taken, calls, calls_again, counts, defers, reacted, rests, says, wins}
+use Rattle.timed_election.proofs.Quiet.{IsQuiet, no_ack, no_call}
 use Rattle.timed_election.proofs.Ranking.{best_first, nobody_better, not_itself}
 use Rattle.timed_election.proofs.Times.{all_acked, best_now, over_by, unheard_by}
 use Rattle.timed_election.specs.Election.{CanElect, Defers, Election, Elects, EndsAfter, IsOfElection, Stands, TakesPart, in_election}
@@ -69,11 +70,6 @@ module _ (ms : Monitors) (q : List Bool) (pace : Pace) (quick : IsQuick pace) (E
     pub silent : (i ≡ b → ⊥) → (came ≡ input.Deliver (record { from = b; monitors = ms.count; epoch = E.epoch; body = body.Propose None }) → ⊥)
         → AllByRecursion (λ (m : Envelope). m.to ≡ b → m.message.body ≡ body.Ack → ⊥) (messages_of out)
 
-  all_sent : (P : Sent → Type 0) (Q : Envelope → Type 0) → ((to : ℕ) (m : Message) → P (sent.Message to m) → Q (record { to = to; message = m })) → (out : List Sent) → AllByRecursion P out → AllByRecursion Q (messages_of out)
-  all_sent P Q f [] k = tt
-  all_sent P Q f (sent.Message to m ∷ out) k = (f to m k.0, all_sent P Q f out k.1)
-  all_sent P Q f (sent.Reply to r ∷ out) k = all_sent P Q f out k.1
-
   module _ (i : ℕ) (qi : has q i ≡ true) (lt : ltb i ms.count ≡ true) (came : Input) (e : Event) (left : ℕ → ℕ → List Owed) (s : State) (up : t.world.state i ≡ Some s) (how : How ms q pace t u i came e left s)
       (sh : List Entry) (y : Course) (reacts : react (member_of ms i lt) sh (u + pace.clock i) (readings_of (t.world.store i)) s came ≡ Ok y) (room : u + pace.clock i + 10000 ≤ 2 ^ 62) where
     abbrev now : ℕ
@@ -96,9 +92,6 @@ module _ (ms : Monitors) (q : List Bool) (pace : Pace) (quick : IsQuick pace) (E
 
     odd : is_even (epoch_of w) ≡ false
     odd = subst (λ (z : ℕ). is_even z ≡ false) (sym epoch_is) X.odd
-
-    several : 1 < ms.count
-    several = let a = C.members b C.member in let c = C.in_map in let ne : C.lost ≡ b → ⊥ = (λ k. false≢true (sym C.outside ∙ subst (λ (z : ℕ). has q z ≡ true) (sym k) C.member)) in omega arith
 
     -- ---- what comes
 
@@ -152,41 +145,27 @@ module _ (ms : Monitors) (q : List Bool) (pace : Pace) (quick : IsQuick pace) (E
         omega arith
 
     few : (f : ℕ) (m : Message) → came ≡ input.Deliver m → m.from ≡ f → is_whole me (with_rank s.elector.acked f) ≡ false
-    few f m is from = by (is_whole me (with_rank s.elector.acked f)) refl
-      where
-        members : (k : ℕ) → has (with_rank s.elector.acked f) k ≡ true → has q k ≡ true
-        members k h = elim (has_with_is s.elector.acked f k h) [
-          | inl is_f ↦ subst (λ (z : ℕ). has q z ≡ true) (from ∙ sym is_f) (of_member m is).0
-          | inr old ↦ part.acks k old
-        ]
-
-        lacks : (z : Bool) → has (with_rank s.elector.acked f) C.lost ≡ z → z ≡ false
-        lacks false h = refl
-        lacks true h = absurd (false≢true (sym C.outside ∙ members C.lost h))
-
-        by : (z : Bool) → is_whole me (with_rank s.elector.acked f) ≡ z → z ≡ false
-        by false h = refl
-        by true h =
-            let less = count_lacking (with_rank s.elector.acked f) ms.count C.lost (λ k h. C.members k (members k h)) C.in_map (lacks (has (with_rank s.elector.acked f) C.lost) refl) in
-            let same = eqb-true (count_of (with_rank s.elector.acked f)) ms.count h in
-            absurd (omega arith)
+    few f m is from = not_whole ms q b C (with_rank s.elector.acked f) (λ k h. elim (has_with_is s.elector.acked f k h) [
+      | inl is_f ↦ subst (λ (z : ℕ). has q z ≡ true) (from ∙ sym is_f) (of_member m is).0
+      | inr old ↦ part.acks k old
+    ])
 
     second : is_majority ms.count s.elector.acked ≡ true → is_alone me s.elector.acked ≡ false
-    second most = has_others me s.elector.acked several most (λ k h. C.members k (part.acks k h))
+    second most = has_others me s.elector.acked (several ms q b C) most (λ k h. C.members k (part.acks k h))
 
     pub outcome : Outcome ms i lt now sh w s came y
     outcome = (subst (Then (Outcome ms i lt now sh w s came)) reacts (reacted ms i lt now sh w s odd C.ranks_decide part.only second came few part.elects low)).holds
 
     -- ---- what is sent
 
-    all_own : (out : List Sent) → AllByRecursion (IsQuiet ms i lt now sh w s) out → AllByRecursion (λ (m : Envelope). (m.message.from ≡ i) × (m.message.epoch ≡ E.epoch)) (messages_of out)
-    all_own out k = all_sent (IsQuiet ms i lt now sh w s) (λ (m : Envelope). (m.message.from ≡ i) × (m.message.epoch ≡ E.epoch)) (λ to m h. (h.0, h.1 ∙ epoch_is)) out k
+    all_own : (out : List Sent) → AllByRecursion (IsQuiet w i) out → AllByRecursion (λ (m : Envelope). (m.message.from ≡ i) × (m.message.epoch ≡ E.epoch)) (messages_of out)
+    all_own out k = all_sent (IsQuiet w i) (λ (m : Envelope). (m.message.from ≡ i) × (m.message.epoch ≡ E.epoch)) (λ to m h. (h.0, h.1 ∙ epoch_is)) out k
 
-    all_quiet : (out : List Sent) → AllByRecursion (IsQuiet ms i lt now sh w s) out → AllByRecursion (λ (m : Envelope). IsCall m.message.body → ⊥) (messages_of out)
-    all_quiet out k = all_sent (IsQuiet ms i lt now sh w s) (λ (m : Envelope). IsCall m.message.body → ⊥) (λ to m h. h.2) out k
+    all_quiet : (out : List Sent) → AllByRecursion (IsQuiet w i) out → AllByRecursion (λ (m : Envelope). IsCall m.message.body → ⊥) (messages_of out)
+    all_quiet out k = all_sent (IsQuiet w i) (λ (m : Envelope). IsCall m.message.body → ⊥) (λ to m h. no_call w m.body h.2) out k
 
-    all_silent : (out : List Sent) → AllByRecursion (IsQuiet ms i lt now sh w s) out → AllByRecursion (λ (m : Envelope). m.to ≡ b → m.message.body ≡ body.Ack → ⊥) (messages_of out)
-    all_silent out k = all_sent (IsQuiet ms i lt now sh w s) (λ (m : Envelope). m.to ≡ b → m.message.body ≡ body.Ack → ⊥) (λ to m h _. h.3) out k
+    all_silent : (out : List Sent) → AllByRecursion (IsQuiet w i) out → AllByRecursion (λ (m : Envelope). m.to ≡ b → m.message.body ≡ body.Ack → ⊥) (messages_of out)
+    all_silent out k = all_sent (IsQuiet w i) (λ (m : Envelope). m.to ≡ b → m.message.body ≡ body.Ack → ⊥) (λ to m h _. no_ack w m.body h.2) out k
 
     -- ---- what it remembers
 

@@ -1,11 +1,14 @@
 pub mod Coming
 pub mod Counting
 pub mod Ending
+pub mod Entering
 pub mod Events
+pub mod FollowingRows
 pub mod Lists
 pub mod Outcomes
 pub mod Probing
 pub mod ProbingRows
+pub mod Quiet
 pub mod Ranking
 pub mod Times
 pub mod Turning

@@ -99,6 +99,11 @@ among_sent to m (sent.Reply s r ∷ sends) (inr o) = among_sent to m sends o
 among_sent to m (sent.Message k x ∷ sends) (inl e) = inl (ap (envelope_in (record { to = to; message = m })) e)
 among_sent to m (sent.Message k x ∷ sends) (inr o) = inr (among_sent to m sends o)
 
+pub all_sent : (P : Sent → Type 0) (Q : Envelope → Type 0) → ((to : ℕ) (m : Message) → P (sent.Message to m) → Q (record { to = to; message = m })) → (out : List Sent) → AllByRecursion P out → AllByRecursion Q (messages_of out)
+all_sent P Q f [] k = tt
+all_sent P Q f (sent.Message to m ∷ out) k = (f to m k.0, all_sent P Q f out k.1)
+all_sent P Q f (sent.Reply to r ∷ out) k = all_sent P Q f out k.1
+
 pub arrives_after : (by : ℕ) (P : Owed → Type 0) (os more : List Owed) → AllByRecursion (λ o. o.by ≤ by) os → ArrivesBy by P more → ArrivesBy by P (os ++ more)
 arrives_after by P [] more all a = a
 arrives_after by P (o ∷ os) more all a = (all.0, inr (arrives_after by P os more all.1 a))

@@ -17,7 +17,7 @@ use Rattle.mon_msg.specs.Protocol.Phases.{votes}
 use Rattle.mon_msg.specs.Protocol.Pings.{hear_ping, hear_ping_reply}
 use Rattle.mon_msg.specs.Protocol.Places.{is_after, is_cookie}
 use Rattle.mon_msg.specs.Protocol.Probing.{hear_probe, hear_probe_reply}
-use Rattle.mon_msg.specs.Protocol.Providing.{chunk, given_entries, given_values, grant, hear_get_chunk, hear_get_cookie_full, hear_get_cookie_recent, is_finished, reach}
+use Rattle.mon_msg.specs.Protocol.Providing.{chunk, grant, hear_get_chunk, hear_get_cookie_full, hear_get_cookie_recent}
 use Rattle.mon_msg.specs.Protocol.Readings.{Readings, epoch_of, or_zero, promise_of}
 use Rattle.mon_msg.specs.Protocol.Records.{pending}
 use Rattle.mon_msg.specs.Protocol.Sending.{members, message_to, others}
@@ -49,13 +49,13 @@ use Rattle.mon_wire.specs.declared.request.Session.{Session}
 use Rattle.quorum_model.proofs.Members.{member_of}
 use Rattle.quorum_model.specs.Monitors.{Monitors}
 use Rattle.quorum_timed.proofs.Armed.{Timers}
-use Rattle.quorum_timed.specs.Calls.{IsCall}
 use Rattle.quorum_walk.proofs.Parity.{next_is}
 use Rattle.quorum_walk.proofs.Walk.{Then, and_then, and_three, by_test, done, or_three, where_fits}
 use Rattle.std.proofs.Common.{Bool, Err, List, None, Ok, Option, Some, [], ap, arith, eqb, false, filter, inl, inr, leb, ltb, map, max, not, refl, slice_index_or, subst, suc, sym, true, ℕ, ◌&&◌, ◌++◌, ◌<◌, ◌^◌, ◌||◌, ◌∙◌, ◌∷◌, ◌≡◌, ◌≤◌}
 use Rattle.std.proofs.lemmas.Bool.{and_parts, cond_both, eq-eqb, eqb-true, false≢true, leb-false, ltb-false, ltb-true, ne_eqb, or_cases}
 use Rattle.std.specs.List.{AllByRecursion}
 use Rattle.std.specs.Prelude.{is_some}
+use Rattle.timed_election.proofs.Quiet.{IsPlain, IsQuiet, plain_chunk}
 
 -- a message of another monitor comes
 pub record Heard (n : ℕ) (came : Input) (f e : ℕ) (b : Body) : Type 0 where
@@ -90,11 +90,6 @@ module _ (ms : Monitors) (i : ℕ) (lt : ltb i ms.count ≡ true) (now : ℕ) (s
   abbrev x : Course
   x = at_rest w at_election
 
-  -- a reply, or a message of the monitor's epoch that neither calls nor acknowledges
-  abbrev pub IsQuiet : Sent → Type 0
-  IsQuiet (sent.Message to m) = (m.from ≡ i) × (m.epoch ≡ epoch_of w) × (IsCall m.body → ⊥) × (m.body ≡ body.Ack → ⊥)
-  IsQuiet (sent.Reply to r) = Unit {0}
-
   abbrev pub says : Body → (to : ℕ) → Sent
   says b to = message_to me (epoch_of w) b to
 
@@ -112,7 +107,7 @@ module _ (ms : Monitors) (i : ℕ) (lt : ltb i ms.count ≡ true) (now : ℕ) (s
 
   -- what it does
   pub data Outcome (came : Input) (y : Course) : Type 0 where
-    rests : Stays s.elector.candidate s.elector.acked s.elector.deferred s.timers y → AllByRecursion IsQuiet y.out → Outcome came y
+    rests : Stays s.elector.candidate s.elector.acked s.elector.deferred s.timers y → AllByRecursion (IsQuiet w i) y.out → Outcome came y
     counts : (f : ℕ) → Heard ms.count came f (epoch_of w) body.Ack → s.elector.candidate ≡ true
         → Stays true (with_rank s.elector.acked f) s.elector.deferred s.timers y → y.out ≡ [] → Outcome came y
     defers : (f : ℕ) (t : Option Scores) (table : Scores) → Heard ms.count came f (epoch_of w) (body.Propose t) → (is_allowed me f && stands_before me table f i) ≡ true
@@ -131,7 +126,7 @@ module _ (ms : Monitors) (i : ℕ) (lt : ltb i ms.count ≡ true) (now : ℕ) (s
 
     -- ---- nothing happens
 
-    rest : (e : Elector) (y : Course) → e.candidate ≡ s.elector.candidate → e.acked ≡ s.elector.acked → e.deferred ≡ s.elector.deferred → y.state.elector ≡ e → y.state.phase ≡ phase.Electing → y.state.timers ≡ s.timers → y.changes ≡ [] → AllByRecursion IsQuiet y.out → O y
+    rest : (e : Elector) (y : Course) → e.candidate ≡ s.elector.candidate → e.acked ≡ s.elector.acked → e.deferred ≡ s.elector.deferred → y.state.elector ≡ e → y.state.phase ≡ phase.Electing → y.state.timers ≡ s.timers → y.changes ≡ [] → AllByRecursion (IsQuiet w i) y.out → O y
     rest e y a b c is p t k quiet = rests (record {
       phase = p;
       candidate = ap (λ (z : Elector). z.candidate) is ∙ a;
@@ -263,18 +258,18 @@ module _ (ms : Monitors) (i : ℕ) (lt : ltb i ms.count ≡ true) (now : ℕ) (s
 
     -- ---- copies
 
-    quiet : (f : ℕ) (b : Body) → (IsCall b → ⊥) → (b ≡ body.Ack → ⊥) → AllByRecursion IsQuiet (says b f ∷ [])
-    quiet f b a c = ((refl, refl, a, c), tt)
+    quiet : (f : ℕ) (b : Body) → IsPlain w b → AllByRecursion (IsQuiet w i) (says b f ∷ [])
+    quiet f b p = ((refl, refl, p), tt)
 
-    sends : (f : ℕ) (b : Body) (y : Course) → y.state.elector ≡ s.elector → y.state.phase ≡ phase.Electing → y.state.timers ≡ s.timers → y.changes ≡ [] → y.out ≡ says b f ∷ [] → (IsCall b → ⊥) → (b ≡ body.Ack → ⊥) → Then O (Ok y)
-    sends f b y is p t k out a c = done (rest s.elector y refl refl refl is p t k (subst (AllByRecursion IsQuiet) (sym out) (quiet f b a c)))
+    sends : (f : ℕ) (b : Body) (y : Course) → y.state.elector ≡ s.elector → y.state.phase ≡ phase.Electing → y.state.timers ≡ s.timers → y.changes ≡ [] → y.out ≡ says b f ∷ [] → IsPlain w b → Then O (Ok y)
+    sends f b y is p t k out a = done (rest s.elector y refl refl refl is p t k (subst (AllByRecursion (IsQuiet w i)) (sym out) (quiet f b a)))
 
     probe_comes : (f : ℕ) → Then O (hear_probe me f x)
     unfolding hear_probe
-    probe_comes f = by_test w.marked (λ _. nothing) (λ _. sends f (body.ProbeReply no_ranks w.first w.last) _ refl refl refl refl refl (λ k. k) (λ k. cc))
+    probe_comes f = by_test w.marked (λ _. nothing) (λ _. sends f (body.ProbeReply no_ranks w.first w.last) _ refl refl refl refl refl (refl, refl))
 
     grants : (full : Bool) (f : ℕ) → Then O (grant me full f x)
-    grants full f = where_fits O which.Cookie s.provider.next_cookie _ (λ _. sends f _ _ refl refl refl refl refl (λ k. k) (λ k. cc))
+    grants full f = where_fits O which.Cookie s.provider.next_cookie _ (λ _. sends f _ _ refl refl refl refl refl tt)
 
     full_comes : (f : ℕ) → Then O (hear_get_cookie_full me f x)
     unfolding hear_get_cookie_full
@@ -282,33 +277,22 @@ module _ (ms : Monitors) (i : ℕ) (lt : ltb i ms.count ≡ true) (now : ℕ) (s
 
     recent_comes : (f last : ℕ) → Then O (hear_get_cookie_recent me f last x)
     unfolding hear_get_cookie_recent
-    recent_comes f last = by_test w.marked (λ _. nothing) (λ _. by_test (ltb (suc last) w.first) (λ _. sends f _ _ refl refl refl refl refl (λ k. k) (λ k. cc)) (λ _. grants false f))
-
-    -- a chunk calls nobody
-    abbrev IsPlain : Body → Type 0
-    IsPlain b = (IsCall b → ⊥) × (b ≡ body.Ack → ⊥)
-
-    plain_chunk : (c : Cookie) (p : Place) (left : List Entry) → IsPlain (chunk w.last c p left ms.count w.record_of)
-    unfolding chunk
-    plain_chunk c p left =
-        let values = given_values w.last c p left ms.count w.record_of in
-        let entries = given_entries w.last c p left ms.count values in
-        cond_both (reach w.last p values && is_finished p left entries) (body.LastChunk c p values entries w.last) (body.Chunk c p values entries (is_finished p left entries)) IsPlain (λ _. ((λ k. k), (λ k. cc))) (λ _. ((λ k. k), (λ k. cc)))
+    recent_comes f last = by_test w.marked (λ _. nothing) (λ _. by_test (ltb (suc last) w.first) (λ _. sends f _ _ refl refl refl refl refl tt) (λ _. grants false f))
 
     chunk_comes : (f : ℕ) (c : Cookie) (p : Place) → Then O (hear_get_chunk me sh f c p x)
     unfolding hear_get_chunk
     chunk_comes f c p =
         let left = filter (is_after p.key) sh in
         by_test w.marked (λ _. nothing) (λ _.
-        by_test (not (is_cookie c (slice_index_or s.provider.cookies f None)) || ltb (suc p.version) w.first) (λ _. sends f _ _ refl refl refl refl refl (λ k. k) (λ k. cc))
-        (λ _. (let k = plain_chunk c p left in sends f (chunk w.last c p left ms.count w.record_of) _ refl refl refl refl refl k.0 k.1)))
+        by_test (not (is_cookie c (slice_index_or s.provider.cookies f None)) || ltb (suc p.version) w.first) (λ _. sends f _ _ refl refl refl refl refl tt)
+        (λ _. sends f (chunk w.last c p left ms.count w.record_of) _ refl refl refl refl refl (plain_chunk w ms.count c p left)))
 
     -- ---- scores
 
     ping_comes : (f : ℕ) (table : Option Scores) → Then O (hear_ping me f table x)
     unfolding hear_ping
     ping_comes f None = nothing
-    ping_comes f (Some table) = done (rest _ _ refl refl refl refl refl refl refl (quiet f _ (λ k. k) (λ k. cc)))
+    ping_comes f (Some table) = done (rest _ _ refl refl refl refl refl refl refl ((refl, refl, tt), tt))
 
     reply_comes : (f : ℕ) (table : Option Scores) → Then O (hear_ping_reply f table x)
     unfolding hear_ping_reply

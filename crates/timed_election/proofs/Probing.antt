@@ -31,9 +31,9 @@ use Rattle.std.proofs.Common.{Bool, List, Ok, Some, [], ap, arith, false, inl, i
 use Rattle.std.proofs.lemmas.Bool.{cases_eq, cases_lt, eq-eqb, false≢true, lt-ltb, ltb-true}
 use Rattle.std.specs.List.{AllByRecursion}
 use Rattle.std.specs.Prelude.{IsSomeAnd, slice_get}
-use Rattle.timed_election.proofs.Coming.{Handled, How, again, asks, fires, first, handled, left_all, left_same, new_at, next_all, on_state, still, time_is, under_now}
+use Rattle.timed_election.proofs.Coming.{Handled, How, again, asks, came_or_left, fires, first, handled, left_all, left_same, new_at, next_all, on_state, still, time_is, under_now}
 use Rattle.timed_election.proofs.Lists.{arrives_last, arrives_more, closed, message_in, opened}
-use Rattle.timed_election.proofs.ProbingRows.{Keeps, Knows, Probed, probe_answered, probed, reply_taken}
+use Rattle.timed_election.proofs.ProbingRows.{Keeps, Knows, Probed, keeps_on, probe_answered, probed, reply_taken}
 use Rattle.timed_election.specs.Election.{ArrivesBy}
 use Rattle.timed_election.specs.Probing.{CanAnswer, GoesOnBy, IsAnswer, IsProbe, IsProbing, Probes}
 
@@ -50,7 +50,7 @@ module _ (ms : Monitors) (q : List Bool) (pace : Pace) (i at : ℕ) (short : 2 *
     now_probing = opened (IsProbing ms pace i at) (t.world.state i) X.probing
 
     -- it hears all in time
-    still_by : u ≤ at + 2 * pace.delay
+    pub still_by : u ≤ at + 2 * pace.delay
     still_by = elim (cases_lt (at + 2 * pace.delay) u) [ inr le ↦ le | inl late ↦ absurd (too_late late) ]
       where
         too_late : at + 2 * pace.delay < u → ⊥
@@ -121,27 +121,6 @@ module _ (ms : Monitors) (q : List Bool) (pace : Pace) (i at : ℕ) (short : 2 *
       answers_on : (j : ℕ) → ArrivesBy (at + 2 * pace.delay) (IsAnswer ms pace i at t.world.messages j) (H.left j i) → ArrivesBy (at + 2 * pace.delay) (IsAnswer ms pace i at next.world.messages j) (next.under_way j i)
       answers_on j a = on (at + 2 * pace.delay) (IsAnswer ms pace i at t.world.messages j) (IsAnswer ms pace i at next.world.messages j) (answer_still j) j i a
 
-      -- either the first message of this list came, which has the property, or the others are still under way
-      came_or_left : (by : ℕ) (P : Owed → Type 0) (f j : ℕ) → j ≡ k → ArrivesBy by P (t.under_way f j)
-          → ((o : Owed) × (m : Message) × P o × (o.by ≤ by) × (message_at t.world.messages o.number ≡ Some (record { to = k; message = m })) × (H.came ≡ input.Deliver m)) ⊎ ArrivesBy by P (H.left f j)
-      came_or_left by P f j is a = of H.how
-        where
-          of : How ms q pace t u k H.came e H.left H.state
-              → ((o : Owed) × (m : Message) × P o × (o.by ≤ by) × (message_at t.world.messages o.number ≡ Some (record { to = k; message = m })) × (H.came ≡ input.Deliver m)) ⊎ ArrivesBy by P (H.left f j)
-          of (again n m there from call cand h at_time rest) = inr (subst (λ (z : ℕ → ℕ → List Owed). ArrivesBy by P (z f j)) (sym rest) a)
-          of (fires kind end set due h at_time rest) = inr (subst (λ (z : ℕ → ℕ → List Owed). ArrivesBy by P (z f j)) (sym rest) a)
-          of (asks session r h at_time rest) = inr (subst (λ (z : ℕ → ℕ → List Owed). ArrivesBy by P (z f j)) (sym rest) a)
-          of (first g qg o others m list there from h at_time rest) = elim (cases_eq f g) [
-            | inr ne ↦ inr (subst (λ (z : ℕ → ℕ → List Owed). ArrivesBy by P (z f j)) (sym rest) (subst (ArrivesBy by P) (sym (other_left g k others t.under_way f j (λ same _. ne same))) a))
-            | inl same ↦ (let here_list : t.under_way f j ≡ o ∷ others = subst (λ (p : ℕ). t.under_way f p ≡ o ∷ others) (sym is) (subst (λ (p : ℕ). t.under_way p k ≡ o ∷ others) (sym same) list) in
-                let parts = subst (ArrivesBy by P) here_list a in
-                elim parts.1 [
-                  | inl p ↦ inl (o, m, p, parts.0, there, h)
-                  | inr rest_of ↦ inr (subst (ArrivesBy by P)
-                      (sym (ap (λ (z : ℕ → ℕ → List Owed). z f j) rest ∙ ap (λ (p : ℕ). without_first g k others t.under_way p j) same ∙ ap (λ (p : ℕ). without_first g k others t.under_way g p) is ∙ here_left g k others t.under_way)) rest_of)
-                ])
-          ]
-
       -- ---- at member i
 
       module _ (mine : k ≡ i) where
@@ -162,13 +141,13 @@ module _ (ms : Monitors) (q : List Bool) (pace : Pace) (i at : ℕ) (short : 2 *
                 omega arith
             of (asks session r h at_time rest) = absurd cc
 
-        P : Probed ms k lt now (shared_entries (t.world.store k)) (readings_of (t.world.store k)) H.state H.course
-        P = (subst (Then (Probed ms k lt now (shared_entries (t.world.store k)) (readings_of (t.world.store k)) H.state)) H.reacts
-            (probed ms k lt now (shared_entries (t.world.store k)) (readings_of (t.world.store k)) H.state (ready k H.member).0 (let Z = S in Z.probes) H.came not_due)).holds
+        pub probed_so : Probed ms k lt now (shared_entries (t.world.store k)) (readings_of (t.world.store k)) H.state H.came H.course
+        probed_so = (subst (Then (Probed ms k lt now (shared_entries (t.world.store k)) (readings_of (t.world.store k)) H.state H.came)) H.reacts
+            (probed ms k lt now (shared_entries (t.world.store k)) (readings_of (t.world.store k)) H.state (ready k H.member).0 H.came (let Z = S in Z.probes) not_due)).holds
 
         module _ (still_probes : same_phase H.course.state.phase phase.Probing ≡ true) where
           K : Keeps ms k lt now (shared_entries (t.world.store k)) (readings_of (t.world.store k)) H.state H.course
-          K = let Z = P in Z.still still_probes
+          K = keeps_on ms k lt now (shared_entries (t.world.store k)) (readings_of (t.world.store k)) H.state H.came H.course probed_so still_probes
 
           probing_next : IsSomeAnd (next.world.state i) (IsProbing ms pace i at)
           probing_next = closed (IsProbing ms pace i at) (next.world.state i) H.course.state (subst (λ (z : ℕ). next.world.state z ≡ Some H.course.state) mine H.did.up) (let Z = K in let Y = S in record {
@@ -206,7 +185,7 @@ module _ (ms : Monitors) (q : List Bool) (pace : Pace) (i at : ℕ) (short : 2 *
           awaits_mine j qj nj = elim (X.awaits j qj nj) [
             | inl a ↦ inl (probes_on j (subst (ArrivesBy (at + pace.delay) (IsProbe ms pace i at t.world.messages j)) (sym (same_left i j (λ z. nj (z ∙ mine)))) a))
             | inr o ↦ elim o [
-              | inl a ↦ elim (came_or_left (at + 2 * pace.delay) (IsAnswer ms pace i at t.world.messages j) j i (sym mine) a) [
+              | inl a ↦ elim (came_or_left ms q pace t u next e H.left H.went k H.came H.state H.course H.how H.did (at + 2 * pace.delay) (IsAnswer ms pace i at t.world.messages j) j i (sym mine) a) [
                 | inl c ↦ inr (inr (outside_next j (taken j qj nj c.0 c.1 c.2 c.4 c.5)))
                 | inr rest ↦ inr (inl (answers_on j rest))
               ]
@@ -272,7 +251,7 @@ module _ (ms : Monitors) (q : List Bool) (pace : Pace) (i at : ℕ) (short : 2 *
           ]
           | inl a ↦ elim (cases_eq j k) [
             | inr ne ↦ inl (probes_on j (subst (ArrivesBy (at + pace.delay) (IsProbe ms pace i at t.world.messages j)) (sym (same_left i j ne)) a))
-            | inl same ↦ elim (came_or_left (at + pace.delay) (IsProbe ms pace i at t.world.messages j) i j same a) [
+            | inl same ↦ elim (came_or_left ms q pace t u next e H.left H.went k H.came H.state H.course H.how H.did (at + pace.delay) (IsProbe ms pace i at t.world.messages j) i j same a) [
               | inr rest ↦ inl (probes_on j rest)
               | inl c ↦ (let le = first_by (at + pace.delay) (IsProbe ms pace i at t.world.messages j) i j X.member qj a in
                   inr (inl (subst (λ (z : ℕ). ArrivesBy (at + 2 * pace.delay) (IsAnswer ms pace i at next.world.messages z) (next.under_way z i)) (sym same)

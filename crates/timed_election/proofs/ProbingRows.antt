@@ -1,4 +1,4 @@
--- What a monitor that probes does at each input: it leaves probing, or goes on with no fewer answers.
+-- What a monitor that probes does at each input: it goes on with no fewer answers, calls an election, or begins a copy.
 use Rattle.election_rules.specs.declared.scores.Scores.{Scores}
 use Rattle.mon_bytes.specs.declared.entry.Entry.{Entry}
 use Rattle.mon_msg.specs.Protocol.Chunks.{hear_chunk, hear_last_chunk}
@@ -12,11 +12,11 @@ use Rattle.mon_msg.specs.Protocol.Leader.{hear_accept, hear_last, hear_lease_ack
 use Rattle.mon_msg.specs.Protocol.Peon.{hear_begin, hear_collect, hear_commit, hear_lease}
 use Rattle.mon_msg.specs.Protocol.Phases.{same_phase}
 use Rattle.mon_msg.specs.Protocol.Pings.{hear_ping, hear_ping_reply}
-use Rattle.mon_msg.specs.Protocol.Places.{is_cookie}
+use Rattle.mon_msg.specs.Protocol.Places.{is_after, is_cookie}
 use Rattle.mon_msg.specs.Protocol.Probing.{hear_probe, hear_probe_reply, lag}
-use Rattle.mon_msg.specs.Protocol.Providing.{grant, hear_get_chunk, hear_get_cookie_full, hear_get_cookie_recent}
-use Rattle.mon_msg.specs.Protocol.Readings.{Readings}
-use Rattle.mon_msg.specs.Protocol.Sending.{send}
+use Rattle.mon_msg.specs.Protocol.Providing.{chunk, grant, hear_get_chunk, hear_get_cookie_full, hear_get_cookie_recent}
+use Rattle.mon_msg.specs.Protocol.Readings.{Readings, epoch_of}
+use Rattle.mon_msg.specs.Protocol.Sending.{message_to, send}
 use Rattle.mon_msg.specs.Protocol.State.{State, quorum_of}
 use Rattle.mon_msg.specs.Protocol.Synchronizing.{full_sync, recent_sync}
 use Rattle.mon_msg.specs.Protocol.Table.{at_rest, react, running}
@@ -24,7 +24,7 @@ use Rattle.mon_msg.specs.Protocol.Timers.{is_armed}
 use Rattle.mon_msg.specs.declared.input.Input.TheVariants as input
 use Rattle.mon_msg.specs.declared.input.Input.{Input}
 use Rattle.mon_msg.specs.declared.view.Me.{Me}
-use Rattle.mon_types.specs.Ranks.{count_of, has, is_majority, with_rank}
+use Rattle.mon_types.specs.Ranks.{count_of, has, is_majority, no_ranks, with_rank}
 use Rattle.mon_types.specs.declared.names.Which.TheVariants as which
 use Rattle.mon_types.specs.declared.names.Which.{Which}
 use Rattle.mon_wire.specs.declared.body.Body.TheVariants as body
@@ -35,13 +35,18 @@ use Rattle.mon_wire.specs.declared.phase.Timer.{Timer}
 use Rattle.mon_wire.specs.declared.request.Request.TheVariants as request
 use Rattle.mon_wire.specs.declared.request.Request.{Request}
 use Rattle.mon_wire.specs.declared.request.Session.{Session}
+use Rattle.mon_wire.specs.declared.parts.Cookie.{Cookie}
+use Rattle.mon_wire.specs.declared.parts.Place.{Place}
 use Rattle.quorum_model.proofs.Members.{member_of}
 use Rattle.quorum_model.specs.Monitors.{Monitors}
 use Rattle.quorum_walk.proofs.Ranks.{has_with}
 use Rattle.quorum_walk.proofs.Walk.{Then, and_then, by_test, done, where_fits}
-use Rattle.std.proofs.Common.{Bool, Err, List, None, Ok, Option, Result, Some, false, length, ltb, not, refl, slice_index_or, subst, suc, sym, true, ℕ, ◌&&◌, ◌+◌, ◌<◌, ◌∙◌, ◌≡◌, ◌||◌}
-use Rattle.std.proofs.lemmas.Bool.{eq-eqb, false≢true, ne_eqb}
+use Rattle.std.proofs.Common.{Bool, Err, List, None, Ok, Option, Result, Some, [], arith, false, filter, length, ltb, not, refl, slice_index_or, subst, suc, sym, true, ℕ, ◌&&◌, ◌+◌, ◌<◌, ◌∙◌, ◌∷◌, ◌≡◌, ◌||◌}
+use Rattle.std.proofs.lemmas.Bool.{and_parts, eq-eqb, false≢true, ltb-true, ne_eqb}
 use Rattle.std.proofs.lemmas.List.{get_or-set_same, length-set}
+use Rattle.std.specs.List.{AllByRecursion}
+use Rattle.timed_election.proofs.Quiet.{IsPlain, IsQuiet, plain_chunk}
+use Rattle.timed_election.specs.Joining.{IsNear, IsNearIn}
 
 anything : (r : Result Course Which) → Then (λ (y : Course). Unit {0}) r
 anything (Ok y) = done tt
@@ -55,12 +60,26 @@ module _ (ms : Monitors) (i : ℕ) (lt : ltb i ms.count ≡ true) (now : ℕ) (s
   pub record Keeps (y : Course) : Type 0 where
     pub probes : y.state.phase ≡ phase.Probing
     pub timers : y.state.timers ≡ s.timers
+    pub changes : y.changes ≡ []
+    pub quiet : AllByRecursion (IsQuiet w i) y.out
     pub ranks : length s.prober.outside ≡ 15 → length y.state.prober.outside ≡ 15
     pub outside : (j : ℕ) → has s.prober.outside j ≡ true → has y.state.prober.outside j ≡ true
     pub few : is_majority ms.count s.prober.outside ≡ false → is_majority ms.count y.state.prober.outside ≡ false
 
-  pub record Probed (y : Course) : Type 0 where
-    pub still : same_phase y.state.phase phase.Probing ≡ true → Keeps y
+  -- a reply of a monitor whose versions aren't near comes
+  abbrev pub IsFar : Input → Type 0
+  IsFar (input.Deliver m) = IsNearIn w.last m.body → ⊥
+  IsFar other = ⊥
+
+  pub data Probed (came : Input) (y : Course) : Type 0 where
+    keeps : Keeps y → Probed came y
+    elects : (z : State) → same_phase z.phase phase.Electing ≡ false → z.timers ≡ s.timers → elect me now (at_rest w z) ≡ Ok y → same_phase y.state.phase phase.Probing ≡ false → Probed came y
+    copies : IsFar came → same_phase y.state.phase phase.Probing ≡ false → Probed came y
+
+  pub keeps_on : (came : Input) (y : Course) → Probed came y → same_phase y.state.phase phase.Probing ≡ true → Keeps y
+  keeps_on came y (keeps K) t = K
+  keeps_on came y (elects z away ts is left) t = absurd (false≢true (sym left ∙ t))
+  keeps_on came y (copies far left) t = absurd (false≢true (sym left ∙ t))
 
   -- of a reply of monitor f it knows that f is outside, if it goes on
   pub record Knows (f : ℕ) (y : Course) : Type 0 where
@@ -69,49 +88,60 @@ module _ (ms : Monitors) (i : ℕ) (lt : ltb i ms.count ≡ true) (now : ℕ) (s
   abbrev x : Course
   x = at_rest w (record s { phase = phase.Probing })
 
-  left : (y : Course) → same_phase y.state.phase phase.Probing ≡ false → Probed y
-  left y e = record { still = λ t. absurd (false≢true (sym e ∙ t)) }
+  electing : (P : Course → Type 0) → ((y : Course) → same_phase y.state.phase phase.Probing ≡ false → P y) → (y : Course) → Then P (elect me now y)
+  unfolding elect
+  electing P k y = and_then (λ (z : Course). Unit {0}) P (in_odd_epoch y) _ (anything (in_odd_epoch y)) (λ z _. done (k _ refl))
 
-  keeps : (y : Course) → y.state.phase ≡ phase.Probing → y.state.timers ≡ s.timers → y.state.prober ≡ s.prober → Probed y
-  keeps y a b c = record {
-    still = λ _. record {
+  module _ (came : Input) where
+    abbrev P : Course → Type 0
+    P = Probed came
+
+    keep : (y : Course) → y.state.phase ≡ phase.Probing → y.state.timers ≡ s.timers → y.state.prober ≡ s.prober → y.changes ≡ [] → AllByRecursion (IsQuiet w i) y.out → P y
+    keep y a b c d quiet = keeps (record {
       probes = a;
       timers = b;
+      changes = d;
+      quiet = quiet;
       ranks = λ e. subst (λ z. length (z.outside) ≡ 15) (sym c) e;
       outside = λ j e. subst (λ z. has (z.outside) j ≡ true) (sym c) e;
       few = λ e. subst (λ z. is_majority ms.count (z.outside) ≡ false) (sym c) e;
-    };
-  }
+    })
 
-  nothing : Then Probed (Ok x)
-  nothing = done (keeps x refl refl refl)
+    nothing : Then P (Ok x)
+    nothing = done (keep x refl refl refl refl tt)
 
-  elects : (P : Course → Type 0) → ((y : Course) → same_phase y.state.phase phase.Probing ≡ false → P y) → (y : Course) → Then P (elect me now y)
-  unfolding elect
-  elects P k y = and_then (λ (z : Course). Unit {0}) P (in_odd_epoch y) _ (anything (in_odd_epoch y)) (λ z _. done (k _ refl))
+    sends : (f : ℕ) (b : Body) (y : Course) → y.state.phase ≡ phase.Probing → y.state.timers ≡ s.timers → y.state.prober ≡ s.prober → y.changes ≡ [] → y.out ≡ message_to me (epoch_of w) b f ∷ [] → IsPlain w b → Then P (Ok y)
+    sends f b y a c d e out plain = done (keep y a c d e (subst (AllByRecursion (IsQuiet w i)) (sym out) ((refl, refl, plain), tt)))
 
-  probe_comes : (f : ℕ) → Then Probed (hear_probe me f x)
-  unfolding hear_probe
-  probe_comes f = by_test w.marked (λ _. nothing) (λ _. done (keeps _ refl refl refl))
+    elects_so : (z : State) → same_phase z.phase phase.Electing ≡ false → z.timers ≡ s.timers → Then P (elect me now (at_rest w z))
+    elects_so z away ts = by (elect me now (at_rest w z)) refl (electing (λ y. same_phase y.state.phase phase.Probing ≡ false) (λ y e. e) (at_rest w z))
+      where
+        by : (r : Result Course Which) → elect me now (at_rest w z) ≡ r → Then (λ y. same_phase y.state.phase phase.Probing ≡ false) r → Then P r
+        by (Ok y) is k = done (elects z away ts is k.holds)
+        by (Err e) is k = record { holds = tt }
+
+    probe_comes : (f : ℕ) → Then P (hear_probe me f x)
+    unfolding hear_probe
+    probe_comes f = by_test w.marked (λ _. nothing) (λ _. sends f (body.ProbeReply no_ranks w.first w.last) _ refl refl refl refl refl (refl, refl))
 
   module _ (unmarked : w.marked ≡ false) where
-    reply_comes : (f : ℕ) (q : List Bool) (first last : ℕ) → Then Probed (hear_probe_reply me now f q first last x)
+    reply_comes : (came : Input) (f : ℕ) (q : List Bool) (first last : ℕ) → ((IsNear w.last first last → ⊥) → IsFar came) → Then (Probed came) (hear_probe_reply me now f q first last x)
     unfolding hear_probe_reply full_sync recent_sync
-    reply_comes f q first last =
+    reply_comes came f q first last far =
         by_test w.marked (λ t. absurd (false≢true (sym unmarked ∙ t))) (λ _.
-        by_test (ltb w.last first && ltb 1 first) (λ _. done (left _ refl)) (λ _.
-        by_test (ltb (w.last + lag) last) (λ _. done (left _ refl)) (λ _.
-        by_test (ltb 0 (count_of q)) (λ _. elects Probed left x) (λ _.
-        by_test (is_majority ms.count (with_rank s.prober.outside f)) (λ _. elects Probed left _)
-        (λ few. done (record {
-          still = λ _. record {
-            probes = refl;
-            timers = refl;
-            ranks = λ e. length-set s.prober.outside f true ∙ e;
-            outside = λ j e. has_with s.prober.outside f j e;
-            few = λ _. few;
-          };
-        }))))))
+        by_test (ltb w.last first && ltb 1 first) (λ t. done (copies (far (λ k. (let c = and_parts (ltb w.last first) (ltb 1 first) t in let a = ltb-true w.last first c.0 in let b = ltb-true 1 first c.1 in let z = k.0 in omega arith))) refl)) (λ _.
+        by_test (ltb (w.last + lag) last) (λ t. done (copies (far (λ k. (let a = ltb-true (w.last + lag) last t in let z = k.1 in omega arith))) refl)) (λ _.
+        by_test (ltb 0 (count_of q)) (λ _. elects_so came x.state refl refl) (λ _.
+        by_test (is_majority ms.count (with_rank s.prober.outside f)) (λ _. elects_so came _ refl refl)
+        (λ few. done (keeps (record {
+          probes = refl;
+          timers = refl;
+          changes = refl;
+          quiet = tt;
+          ranks = λ e. length-set s.prober.outside f true ∙ e;
+          outside = λ j e. has_with s.prober.outside f j e;
+          few = λ _. few;
+        })))))))
 
     reply_counts : (f : ℕ) (q : List Bool) (first last : ℕ) → has (with_rank s.prober.outside f) f ≡ true → Then (Knows f) (hear_probe_reply me now f q first last x)
     unfolding hear_probe_reply full_sync recent_sync
@@ -119,84 +149,89 @@ module _ (ms : Monitors) (i : ℕ) (lt : ltb i ms.count ≡ true) (now : ℕ) (s
         by_test w.marked (λ t. absurd (false≢true (sym unmarked ∙ t))) (λ _.
         by_test (ltb w.last first && ltb 1 first) (λ _. done (gone _ refl)) (λ _.
         by_test (ltb (w.last + lag) last) (λ _. done (gone _ refl)) (λ _.
-        by_test (ltb 0 (count_of q)) (λ _. elects (Knows f) gone x) (λ _.
-        by_test (is_majority ms.count (with_rank s.prober.outside f)) (λ _. elects (Knows f) gone _) (λ _. done (record { still = λ _. has_f }))))))
+        by_test (ltb 0 (count_of q)) (λ _. electing (Knows f) gone x) (λ _.
+        by_test (is_majority ms.count (with_rank s.prober.outside f)) (λ _. electing (Knows f) gone _) (λ _. done (record { still = λ _. has_f }))))))
       where
         gone : (y : Course) → same_phase y.state.phase phase.Probing ≡ false → Knows f y
         gone y e = record { still = λ t. absurd (false≢true (sym e ∙ t)) }
 
-    grants : (full : Bool) (f : ℕ) → Then Probed (grant me full f x)
-    grants full f = where_fits Probed which.Cookie s.provider.next_cookie _ (λ _. done (keeps _ refl refl refl))
+    module _ (came : Input) where
+      abbrev R : Course → Type 0
+      R = Probed came
 
-    full_comes : (f : ℕ) → Then Probed (hear_get_cookie_full me f x)
-    unfolding hear_get_cookie_full
-    full_comes f = by_test w.marked (λ _. nothing) (λ _. grants true f)
+      grants : (full : Bool) (f : ℕ) → Then R (grant me full f x)
+      grants full f = where_fits R which.Cookie s.provider.next_cookie _ (λ _. sends came f _ _ refl refl refl refl refl tt)
 
-    recent_comes : (f last : ℕ) → Then Probed (hear_get_cookie_recent me f last x)
-    unfolding hear_get_cookie_recent
-    recent_comes f last = by_test w.marked (λ _. nothing) (λ _. by_test (ltb (suc last) w.first) (λ _. done (keeps _ refl refl refl)) (λ _. grants false f))
+      full_comes : (f : ℕ) → Then R (hear_get_cookie_full me f x)
+      unfolding hear_get_cookie_full
+      full_comes f = by_test w.marked (λ _. nothing came) (λ _. grants true f)
 
-    chunk_comes : (f : ℕ) (c : _) (p : _) → Then Probed (hear_get_chunk me sh f c p x)
-    unfolding hear_get_chunk
-    chunk_comes f c p =
-        by_test w.marked (λ _. nothing) (λ _.
-        by_test (not (is_cookie c (slice_index_or s.provider.cookies f None)) || ltb (suc p.version) w.first) (λ _. done (keeps _ refl refl refl)) (λ _. done (keeps _ refl refl refl)))
+      recent_comes : (f last : ℕ) → Then R (hear_get_cookie_recent me f last x)
+      unfolding hear_get_cookie_recent
+      recent_comes f last = by_test w.marked (λ _. nothing came) (λ _. by_test (ltb (suc last) w.first) (λ _. sends came f _ _ refl refl refl refl refl tt) (λ _. grants false f))
 
-    ping_comes : (f : ℕ) (table : Option Scores) → Then Probed (hear_ping me f table x)
-    unfolding hear_ping
-    ping_comes f None = nothing
-    ping_comes f (Some table) = done (keeps _ refl refl refl)
+      chunk_comes : (f : ℕ) (c : Cookie) (p : Place) → Then R (hear_get_chunk me sh f c p x)
+      unfolding hear_get_chunk
+      chunk_comes f c p =
+          by_test w.marked (λ _. nothing came) (λ _.
+          by_test (not (is_cookie c (slice_index_or s.provider.cookies f None)) || ltb (suc p.version) w.first) (λ _. sends came f _ _ refl refl refl refl refl tt)
+          (λ _. sends came f (chunk w.last c p (filter (is_after p.key) sh) ms.count w.record_of) _ refl refl refl refl refl (plain_chunk w ms.count c p (filter (is_after p.key) sh))))
 
-    pong_comes : (f : ℕ) (table : Option Scores) → Then Probed (hear_ping_reply f table x)
-    unfolding hear_ping_reply
-    pong_comes f None = nothing
-    pong_comes f (Some table) = done (keeps _ refl refl refl)
+      ping_comes : (f : ℕ) (table : Option Scores) → Then R (hear_ping me f table x)
+      unfolding hear_ping
+      ping_comes f None = nothing came
+      ping_comes f (Some table) = done (keep came _ refl refl refl refl ((refl, refl, tt), tt))
 
-    heard : (f e : ℕ) (b : Body) → Then Probed (hear me sh now f e b x)
-    unfolding hear_propose hear_ack hear_victory hear_collect hear_last hear_begin hear_accept hear_commit hear_lease hear_lease_ack hear_forward hear_route hear_cookie hear_chunk hear_last_chunk hear_no_cookie
-    heard f e body.Probe = probe_comes f
-    heard f e (body.ProbeReply q first last) = reply_comes f q first last
-    heard f e (body.Propose t) = nothing
-    heard f e body.Ack = nothing
-    heard f e (body.Victory q) = nothing
-    heard f e (body.Collect pn first last) = nothing
-    heard f e (body.Last pn first last whole from values pending) = nothing
-    heard f e (body.Begin pn v value) = nothing
-    heard f e (body.Accept pn v) = nothing
-    heard f e (body.Commit from values) = nothing
-    heard f e (body.Lease last) = nothing
-    heard f e (body.LeaseAck last) = nothing
-    heard f e (body.Forward seq c) = nothing
-    heard f e (body.Route seq r) = nothing
-    heard f e body.GetCookieFull = full_comes f
-    heard f e (body.GetCookieRecent last) = recent_comes f last
-    heard f e (body.Cookie full c last) = nothing
-    heard f e (body.GetChunk c p) = chunk_comes f c p
-    heard f e (body.Chunk c p values entries end) = nothing
-    heard f e (body.LastChunk c p values entries last) = nothing
-    heard f e (body.NoCookie c) = nothing
-    heard f e (body.Ping table) = ping_comes f table
-    heard f e (body.PingReply table) = pong_comes f table
-    heard f e (body.Request id r) = nothing
-    heard f e (body.Reply id r) = nothing
+      pong_comes : (f : ℕ) (table : Option Scores) → Then R (hear_ping_reply f table x)
+      unfolding hear_ping_reply
+      pong_comes f None = nothing came
+      pong_comes f (Some table) = done (keep came _ refl refl refl refl tt)
 
-    asked : (u : Session) (r : Request) → Then Probed (hear_client me now u r x)
-    unfolding hear_client ask
-    asked u (request.Set key value) = done (keeps _ refl refl refl)
-    asked u (request.Remove key) = done (keeps _ refl refl refl)
-    asked u (request.Log text) = done (keeps _ refl refl refl)
-    asked u (request.Show v) = done (keeps _ refl refl refl)
-    asked u (request.Since v n) = done (keeps _ refl refl refl)
+      heard : (f e : ℕ) (b : Body) → ((IsNearIn w.last b → ⊥) → IsFar came) → Then R (hear me sh now f e b x)
+      unfolding hear_propose hear_ack hear_victory hear_collect hear_last hear_begin hear_accept hear_commit hear_lease hear_lease_ack hear_forward hear_route hear_cookie hear_chunk hear_last_chunk hear_no_cookie
+      heard f e body.Probe far = probe_comes came f
+      heard f e (body.ProbeReply q first last) far = reply_comes came f q first last far
+      heard f e (body.Propose t) far = nothing came
+      heard f e body.Ack far = nothing came
+      heard f e (body.Victory q) far = nothing came
+      heard f e (body.Collect pn first last) far = nothing came
+      heard f e (body.Last pn first last whole from values pending) far = nothing came
+      heard f e (body.Begin pn v value) far = nothing came
+      heard f e (body.Accept pn v) far = nothing came
+      heard f e (body.Commit from values) far = nothing came
+      heard f e (body.Lease last) far = nothing came
+      heard f e (body.LeaseAck last) far = nothing came
+      heard f e (body.Forward seq c) far = nothing came
+      heard f e (body.Route seq r) far = nothing came
+      heard f e body.GetCookieFull far = full_comes f
+      heard f e (body.GetCookieRecent last) far = recent_comes f last
+      heard f e (body.Cookie full c last) far = nothing came
+      heard f e (body.GetChunk c p) far = chunk_comes f c p
+      heard f e (body.Chunk c p values entries end) far = nothing came
+      heard f e (body.LastChunk c p values entries last) far = nothing came
+      heard f e (body.NoCookie c) far = nothing came
+      heard f e (body.Ping table) far = ping_comes f table
+      heard f e (body.PingReply table) far = pong_comes f table
+      heard f e (body.Request id r) far = nothing came
+      heard f e (body.Reply id r) far = nothing came
 
-    comes : (c : Input) → ((t : Timer) → c ≡ input.Timer t → is_armed t s.timers ≡ true → ⊥) → Then Probed (running me sh now c x)
-    comes input.Start k = nothing
-    comes (input.Deliver m) k = by_test (is_heard me m) (λ _. heard m.from m.epoch m.body) (λ _. nothing)
-    comes (input.Timer t) k = by_test (is_armed t s.timers) (λ on. absurd (k t refl on)) (λ _. nothing)
-    comes (input.Client u r) k = asked u r
+      asked : (u : Session) (r : Request) → Then R (hear_client me now u r x)
+      unfolding hear_client ask
+      asked u (request.Set key value) = done (keep came _ refl refl refl refl (tt, tt))
+      asked u (request.Remove key) = done (keep came _ refl refl refl refl (tt, tt))
+      asked u (request.Log text) = done (keep came _ refl refl refl refl (tt, tt))
+      asked u (request.Show v) = done (keep came _ refl refl refl refl (tt, tt))
+      asked u (request.Since v n) = done (keep came _ refl refl refl refl (tt, tt))
 
-    pub probed : s.phase ≡ phase.Probing → (came : Input) → ((t : Timer) → came ≡ input.Timer t → is_armed t s.timers ≡ true → ⊥) → Then Probed (react me sh now w s came)
-    unfolding react
-    probed is came k = subst (λ (p : Phase). Then Probed (react me sh now w (record s { phase = p }) came)) (sym is) (comes came k)
+      comes : (c : Input) → came ≡ c → ((t : Timer) → came ≡ input.Timer t → is_armed t s.timers ≡ true → ⊥) → Then R (running me sh now c x)
+      comes input.Start is k = nothing came
+      comes (input.Deliver m) is k = by_test (is_heard me m) (λ _. heard m.from m.epoch m.body (λ far. subst IsFar (sym is) far)) (λ _. nothing came)
+      comes (input.Timer t) is k = by_test (is_armed t s.timers) (λ on. absurd (k t is on)) (λ _. nothing came)
+      comes (input.Client u r) is k = asked u r
+
+      pub probed : s.phase ≡ phase.Probing → ((t : Timer) → came ≡ input.Timer t → is_armed t s.timers ≡ true → ⊥) → Then R (react me sh now w s came)
+      unfolding react
+      probed is k = subst (λ (p : Phase). Then R (react me sh now w (record s { phase = p }) came)) (sym is) (comes came refl k)
 
     -- a reply that it hears counts
     pub reply_taken : s.phase ≡ phase.Probing → (f e : ℕ) (q : List Bool) (first last : ℕ) → (f ≡ i → ⊥) → f < length s.prober.outside

@@ -1,0 +1,352 @@
+-- What a peon whose leader is lost does at each input, if nothing is of an epoch after the next: it follows on, begins to
+-- probe, or takes part in the election of the next epoch.
+use Rattle.election_rules.specs.declared.scores.Scores.{Scores}
+use Rattle.mon_bytes.specs.declared.command.Command.TheVariants as command
+use Rattle.mon_bytes.specs.declared.command.Command.{Command}
+use Rattle.mon_bytes.specs.declared.entry.Entry.{Entry}
+use Rattle.mon_lease.specs.Lease.{readable}
+use Rattle.mon_msg.specs.Protocol.Chunks.{hear_chunk, hear_last_chunk}
+use Rattle.mon_msg.specs.Protocol.Commands.{ask, at_peon, hear_forward, hear_route, is_too_long, propose_due}
+use Rattle.mon_msg.specs.Protocol.Copying.{hear_cookie, hear_no_cookie}
+use Rattle.mon_msg.specs.Protocol.Course.{Course, disarm}
+use Rattle.mon_msg.specs.Protocol.Elections.{hear_ack, hear_propose, hear_victory, merge, table_or, weigh}
+use Rattle.mon_msg.specs.Protocol.Entering.{adopt, elect, is_even, scores_count}
+use Rattle.mon_msg.specs.Protocol.Hearing.{hear, hear_client, is_heard}
+use Rattle.mon_msg.specs.Protocol.Leader.{hear_accept, hear_last, hear_lease_ack}
+use Rattle.mon_msg.specs.Protocol.Peon.{hear_begin, hear_collect, hear_commit, hear_lease, of_leader}
+use Rattle.mon_msg.specs.Protocol.Phases.{is_peon, same_phase, votes}
+use Rattle.mon_msg.specs.Protocol.Pings.{hear_ping, hear_ping_reply}
+use Rattle.mon_msg.specs.Protocol.Places.{is_after, is_cookie}
+use Rattle.mon_msg.specs.Protocol.Probing.{hear_probe, hear_probe_reply}
+use Rattle.mon_msg.specs.Protocol.Providing.{chunk, grant, hear_get_chunk, hear_get_cookie_full, hear_get_cookie_recent}
+use Rattle.mon_msg.specs.Protocol.Readings.{Readings, epoch_of, promise_of}
+use Rattle.mon_msg.specs.Protocol.Reads.{read, shown, since}
+use Rattle.mon_msg.specs.Protocol.Records.{pending}
+use Rattle.mon_msg.specs.Protocol.Sending.{message_to, others}
+use Rattle.mon_msg.specs.Protocol.Sets.{only}
+use Rattle.mon_msg.specs.Protocol.State.{State, lease_of, quorum_of}
+use Rattle.mon_msg.specs.Protocol.Table.{at_rest, react, running, timer_comes}
+use Rattle.mon_msg.specs.Protocol.Timers.{armed, disarmed, end_of, index_of, is_armed, only_ping, unarmed}
+use Rattle.mon_msg.specs.declared.input.Input.TheVariants as input
+use Rattle.mon_msg.specs.declared.input.Input.{Input}
+use Rattle.mon_msg.specs.declared.limits.TheConstants.{MOST_WAITING}
+use Rattle.mon_msg.specs.declared.plan.Sent.TheVariants as sent
+use Rattle.mon_msg.specs.declared.plan.Sent.{Sent}
+use Rattle.mon_msg.specs.declared.view.Me.{Me}
+use Rattle.mon_types.specs.Ranks.{has}
+use Rattle.mon_types.specs.declared.names.Which.TheVariants as which
+use Rattle.mon_wire.specs.declared.body.Body.TheVariants as body
+use Rattle.mon_wire.specs.declared.body.Body.{Body}
+use Rattle.mon_wire.specs.declared.message.Message.{Message}
+use Rattle.mon_wire.specs.declared.parts.Cookie.{Cookie}
+use Rattle.mon_wire.specs.declared.parts.Place.{Place}
+use Rattle.mon_wire.specs.declared.phase.Phase.TheVariants as phase
+use Rattle.mon_wire.specs.declared.phase.Phase.{Phase}
+use Rattle.mon_wire.specs.declared.phase.Timer.TheVariants as timer
+use Rattle.mon_wire.specs.declared.phase.Timer.{Timer}
+use Rattle.mon_wire.specs.declared.reply.Reply.{Reply}
+use Rattle.mon_wire.specs.declared.request.Request.TheVariants as request
+use Rattle.mon_wire.specs.declared.request.Request.{Request}
+use Rattle.mon_wire.specs.declared.request.Session.{Session}
+use Rattle.quorum_model.proofs.Members.{member_of}
+use Rattle.quorum_model.specs.Monitors.{Monitors}
+use Rattle.quorum_stays.proofs.Timers.{disarmed_size, ends, off, only_ping_is, same_kind_or, still_ends, still_on}
+use Rattle.quorum_timed.proofs.Armed.{Timers}
+use Rattle.quorum_walk.proofs.Parity.{odd_of_even}
+use Rattle.quorum_walk.proofs.Walk.{Then, and_three, by_test, done, or_three, where_fits}
+use Rattle.std.proofs.Common.{Bool, Err, List, None, Ok, Option, Some, [], ap, arith, eqb, false, filter, inl, inr, leb, length, ltb, map, not, refl, slice_index_or, subst, suc, sym, true, ℕ, ◌&&◌, ◌+◌, ◌<◌, ◌^◌, ◌||◌, ◌∙◌, ◌∷◌, ◌≡◌, ◌≤◌, ◌⊎◌}
+use Rattle.std.proofs.lemmas.Bool.{cond_both, eqb-true, false≢true, leb-false, ltb-false, ltb-true, not-false, or_parts}
+use Rattle.std.proofs.lemmas.List.{length-set}
+use Rattle.std.proofs.lemmas.Option.{none-some}
+use Rattle.std.specs.List.{AllByRecursion}
+use Rattle.std.specs.Prelude.{IsSomeAnd, is_some}
+use Rattle.table_rows.proofs.Electing.{probes as probes_row}
+use Rattle.timed_election.proofs.Entering.{Calls, Joined, acked, called, calls, proposed}
+use Rattle.timed_election.proofs.Lists.{closed, opened}
+use Rattle.timed_election.proofs.Outcomes.{Heard}
+use Rattle.timed_election.proofs.Quiet.{IsPlain, IsQuiet, plain_chunk}
+use Rattle.timed_election.specs.Joining.{FollowsLost}
+
+module _ (ms : Monitors) (i : ℕ) (lt : ltb i ms.count ≡ true) (now : ℕ) (sh : List Entry) (w : Readings) (s : State) (q : List Bool) (by_time : ℕ) where
+  abbrev me : Me
+  me = member_of ms i lt
+
+  abbrev x : Course
+  x = at_rest w (record s { phase = phase.Peon })
+
+  abbrev Js : Input → Course → Type 0
+  Js = Joined ms i lt now w
+
+  -- it probes since now
+  pub record Begins (y : Course) : Type 0 where
+    pub probes : y.state.phase ≡ phase.Probing
+    pub outside : y.state.prober.outside ≡ only i
+    pub timers : (kind : Timer) (end : ℕ) → end_of kind y.state.timers ≡ Some end → (kind ≡ timer.Probe) × (end ≡ now + 2000)
+    pub changes : y.changes ≡ []
+    pub out : y.out ≡ map (message_to me (epoch_of w) body.Probe) (others me)
+
+  pub data Follows (came : Input) (y : Course) : Type 0 where
+    stays : FollowsLost q by_time y.state → y.changes ≡ [] → AllByRecursion (IsQuiet w i) y.out → Follows came y
+    probes : came ≡ input.Timer timer.Lease → Begins y → Follows came y
+    joins : Js came y → Follows came y
+
+  -- what comes is of a member, and of the next epoch or an earlier one
+  abbrev pub IsOfMember : Input → Type 0
+  IsOfMember (input.Deliver m) = (has q m.from ≡ true) × (m.epoch ≤ suc (epoch_of w))
+  IsOfMember other = Unit {0}
+
+  module _ (ranks : scores_count ms.rule ≡ false) (even : is_even (epoch_of w) ≡ true) (fits : suc (epoch_of w) ≤ 2 ^ 62) (room : now + 10000 ≤ 2 ^ 62)
+      (several : ltb 1 ms.count ≡ true) (F : FollowsLost q by_time s) (came : Input) where
+    abbrev P : Course → Type 0
+    P = Follows came
+
+    calm : end_of timer.Ping s.timers ≡ None
+    calm = by (end_of timer.Ping s.timers) refl
+      where
+        by : (o : Option ℕ) → end_of timer.Ping s.timers ≡ o → o ≡ None
+        by None is = refl
+        by (Some end) is = elim (F.only timer.Ping end is) [ inl k ↦ absurd cc | inr k ↦ absurd cc ]
+
+    -- ---- nothing happens
+
+    follows_so : (ts : Timers) → length ts ≡ 11 → IsSomeAnd (end_of timer.Lease ts) (λ end. end ≤ by_time)
+        → ((kind : Timer) (end : ℕ) → end_of kind ts ≡ Some end → (kind ≡ timer.Lease) ⊎ (kind ≡ timer.Propose))
+        → (y : Course) → y.state.phase ≡ phase.Peon → y.state.peon.leader ≡ s.peon.leader → y.state.timers ≡ ts → y.changes ≡ [] → AllByRecursion (IsQuiet w i) y.out → P y
+    follows_so ts size wait one y p l t c quiet = stays (record {
+      follows = p;
+      lost = ap (has q) l ∙ F.lost;
+      kinds = ap length t ∙ size;
+      waits = subst (λ (z : Timers). IsSomeAnd (end_of timer.Lease z) (λ end. end ≤ by_time)) (sym t) wait;
+      only = λ kind end on. one kind end (sym (ap (end_of kind) t) ∙ on);
+    }) c quiet
+
+    keeps : (y : Course) → y.state.phase ≡ phase.Peon → y.state.peon.leader ≡ s.peon.leader → y.state.timers ≡ s.timers → y.changes ≡ [] → AllByRecursion (IsQuiet w i) y.out → P y
+    keeps y p l t c quiet = follows_so s.timers F.kinds F.waits F.only y p l t c quiet
+
+    nothing : Then P (Ok x)
+    nothing = done (keeps x refl refl refl refl tt)
+
+    sends : (f : ℕ) (b : Body) (y : Course) → y.state.phase ≡ phase.Peon → y.state.peon.leader ≡ s.peon.leader → y.state.timers ≡ s.timers → y.changes ≡ [] → y.out ≡ message_to me (epoch_of w) b f ∷ [] → IsPlain w b → Then P (Ok y)
+    sends f b y p l t c out plain = done (keeps y p l t c (subst (AllByRecursion (IsQuiet w i)) (sym out) ((refl, refl, plain), tt)))
+
+    -- ---- elections
+
+    calls_so : (r : _) → Then (Calls ms i lt now w) r → Then P r
+    calls_so (Ok y) k = done (joins (calls k.holds))
+    calls_so (Err e) k = record { holds = tt }
+
+    joins_so : (r : _) → Then (Js came) r → Then P r
+    joins_so (Ok y) k = done (joins k.holds)
+    joins_so (Err e) k = record { holds = tt }
+
+    module _ (f e : ℕ) (low : e ≤ suc (epoch_of w)) where
+      next_is : ltb (epoch_of w) e ≡ true → e ≡ suc (epoch_of w)
+      next_is t = let l = ltb-true (epoch_of w) e t in omega arith
+
+      same_is : {A : Type 0} → ltb e (epoch_of w) ≡ false → ltb (epoch_of w) e ≡ false → is_even e ≡ false → A
+      same_is a b odd =
+          let k = ltb-false e (epoch_of w) a in
+          let l = ltb-false (epoch_of w) e b in
+          let same : e ≡ epoch_of w = omega arith in
+          absurd (false≢true (sym odd ∙ ap is_even same ∙ even))
+
+      propose_comes : (t : Option Scores) → Heard ms.count came f e (body.Propose t) → Then P (hear_propose me now f e t x)
+      unfolding hear_propose
+      propose_comes t H =
+          by_test (is_even e) (λ _. nothing) (λ odd.
+          by_test (ltb e (epoch_of w)) (λ _. by_test (is_even (epoch_of w) && not (has (quorum_of x.state) f)) (λ _. calls_so _ (called ms i lt now w ranks even fits room x.state calm refl)) (λ _. nothing)) (λ a.
+          by_test (ltb (epoch_of w) e) (λ k. later (next_is k)) (λ b. same_is a b odd)))
+        where
+          later : e ≡ suc (epoch_of w) → Then P (weigh me now (table_or t x.state.elector.scores) f (merge t (adopt now e x)))
+          later is = subst (λ (n : ℕ). Then P (weigh me now (table_or t x.state.elector.scores) f (merge t (adopt now n x)))) (sym is)
+              (joins_so _ (proposed ms i lt now w ranks even fits room x.state calm refl came f t (subst (λ (n : ℕ). Heard ms.count came f n (body.Propose t)) is H)))
+
+      ack_comes : Then P (hear_ack me now f e x)
+      unfolding hear_ack
+      ack_comes =
+          by_test (is_even e || ltb e (epoch_of w)) (λ _. nothing) (λ k. (let o = or_parts (is_even e) (ltb e (epoch_of w)) k in
+          by_test (ltb (epoch_of w) e)
+          (λ l. subst (λ (n : ℕ). Then P (elect me now (adopt now n x))) (sym (next_is l)) (calls_so _ (acked ms i lt now w ranks even fits room x.state calm refl)))
+          (λ b. same_is o.1 b o.0)))
+
+      victory_comes : (r : List Bool) → Then P (hear_victory me now f e r x)
+      unfolding hear_victory
+      victory_comes r =
+          by_test (not (is_even e) || leb e (epoch_of w)) (λ _. nothing) (λ k. (let o = or_parts (not (is_even e)) (leb e (epoch_of w)) k in
+          let l = leb-false e (epoch_of w) o.1 in
+          let next : e ≡ suc (epoch_of w) = omega arith in
+          absurd (false≢true (sym (odd_of_even (epoch_of w) even) ∙ ap is_even (sym next) ∙ not-false (is_even e) o.0))))
+
+    -- ---- what its leader would say
+
+    module _ (f e : ℕ) (qf : has q f ≡ true) where
+      not_led : {A : Type 0} → of_leader f e x ≡ true → A
+      not_led t =
+          let k = and_three (is_peon x.state.phase) (eqb e (epoch_of w)) (eqb f s.peon.leader) t in
+          absurd (false≢true (sym F.lost ∙ ap (has q) (sym (eqb-true f s.peon.leader k.2)) ∙ qf))
+
+      collect_comes : (pn first last : ℕ) → Then P (hear_collect me now f e pn first last x)
+      unfolding hear_collect
+      collect_comes pn first last = by_test (not (of_leader f e x)) (λ _. nothing) (λ t. not_led (not-false (of_leader f e x) t))
+
+      begin_comes : (pn v : ℕ) (value : _) → Then P (hear_begin me f e pn v value x)
+      unfolding hear_begin
+      begin_comes pn v value =
+          by_test (not (of_leader f e x && eqb pn (promise_of w) && eqb v (suc w.last))) (λ _. nothing)
+          (λ t. not_led (and_three (of_leader f e x) (eqb pn (promise_of w)) (eqb v (suc w.last)) (not-false _ t)).0)
+
+      commit_comes : (from : ℕ) (values : _) → Then P (hear_commit f e from values x)
+      unfolding hear_commit
+      commit_comes from values = by_test (not (of_leader f e x) || ltb (suc w.last) from) (λ _. nothing) (λ t. not_led (not-false (of_leader f e x) (or_parts (not (of_leader f e x)) (ltb (suc w.last) from) t).0))
+
+      lease_comes : (last : ℕ) → Then P (hear_lease me now f e last x)
+      unfolding hear_lease
+      lease_comes last =
+          by_test (not (of_leader f e x) || not (eqb last w.last) || is_some (pending w)) (λ _. nothing)
+          (λ t. not_led (not-false (of_leader f e x) (or_three (not (of_leader f e x)) (not (eqb last w.last)) (is_some (pending w)) t).0))
+
+      route_comes : (seq : ℕ) (r : Reply) → Then P (hear_route f e seq r x)
+      unfolding hear_route
+      route_comes seq r = by_test (not (of_leader f e x)) (λ _. nothing) (λ t. not_led (not-false (of_leader f e x) t))
+
+    -- ---- copies and scores
+
+    probe_comes : (f : ℕ) → Then P (hear_probe me f x)
+    unfolding hear_probe
+    probe_comes f = by_test w.marked (λ _. nothing) (λ _. sends f (body.ProbeReply s.peon.quorum w.first w.last) _ refl refl refl refl refl (refl, refl))
+
+    grants : (full : Bool) (f : ℕ) → Then P (grant me full f x)
+    grants full f = where_fits P which.Cookie s.provider.next_cookie _ (λ _. sends f _ _ refl refl refl refl refl tt)
+
+    full_comes : (f : ℕ) → Then P (hear_get_cookie_full me f x)
+    unfolding hear_get_cookie_full
+    full_comes f = by_test w.marked (λ _. nothing) (λ _. grants true f)
+
+    recent_comes : (f last : ℕ) → Then P (hear_get_cookie_recent me f last x)
+    unfolding hear_get_cookie_recent
+    recent_comes f last = by_test w.marked (λ _. nothing) (λ _. by_test (ltb (suc last) w.first) (λ _. sends f _ _ refl refl refl refl refl tt) (λ _. grants false f))
+
+    chunk_comes : (f : ℕ) (c : Cookie) (p : Place) → Then P (hear_get_chunk me sh f c p x)
+    unfolding hear_get_chunk
+    chunk_comes f c p =
+        by_test w.marked (λ _. nothing) (λ _.
+        by_test (not (is_cookie c (slice_index_or s.provider.cookies f None)) || ltb (suc p.version) w.first) (λ _. sends f _ _ refl refl refl refl refl tt)
+        (λ _. sends f (chunk w.last c p (filter (is_after p.key) sh) ms.count w.record_of) _ refl refl refl refl refl (plain_chunk w ms.count c p (filter (is_after p.key) sh))))
+
+    ping_comes : (f : ℕ) (table : Option Scores) → Then P (hear_ping me f table x)
+    unfolding hear_ping
+    ping_comes f None = nothing
+    ping_comes f (Some table) = done (keeps _ refl refl refl refl ((refl, refl, tt), tt))
+
+    pong_comes : (f : ℕ) (table : Option Scores) → Then P (hear_ping_reply f table x)
+    unfolding hear_ping_reply
+    pong_comes f None = nothing
+    pong_comes f (Some table) = done (keeps _ refl refl refl refl tt)
+
+    -- ---- all messages
+
+    heard : (f e : ℕ) → has q f ≡ true → e ≤ suc (epoch_of w) → (b : Body) → Heard ms.count came f e b → Then P (hear me sh now f e b x)
+    unfolding hear_probe_reply hear_last hear_accept hear_lease_ack hear_forward hear_cookie hear_chunk hear_last_chunk hear_no_cookie
+    heard f e qf low body.Probe H = probe_comes f
+    heard f e qf low (body.ProbeReply r first last) H = nothing
+    heard f e qf low (body.Propose t) H = propose_comes f e low t H
+    heard f e qf low body.Ack H = ack_comes f e low
+    heard f e qf low (body.Victory r) H = victory_comes f e low r
+    heard f e qf low (body.Collect pn first last) H = collect_comes f e qf pn first last
+    heard f e qf low (body.Last pn first last whole from values told) H = nothing
+    heard f e qf low (body.Begin pn v value) H = begin_comes f e qf pn v value
+    heard f e qf low (body.Accept pn v) H = nothing
+    heard f e qf low (body.Commit from values) H = commit_comes f e qf from values
+    heard f e qf low (body.Lease last) H = lease_comes f e qf last
+    heard f e qf low (body.LeaseAck last) H = nothing
+    heard f e qf low (body.Forward seq c) H = nothing
+    heard f e qf low (body.Route seq r) H = route_comes f e qf seq r
+    heard f e qf low body.GetCookieFull H = full_comes f
+    heard f e qf low (body.GetCookieRecent last) H = recent_comes f last
+    heard f e qf low (body.Cookie full c last) H = nothing
+    heard f e qf low (body.GetChunk c p) H = chunk_comes f c p
+    heard f e qf low (body.Chunk c p values entries end) H = nothing
+    heard f e qf low (body.LastChunk c p values entries last) H = nothing
+    heard f e qf low (body.NoCookie c) H = nothing
+    heard f e qf low (body.Ping table) H = ping_comes f table
+    heard f e qf low (body.PingReply table) H = pong_comes f table
+    heard f e qf low (body.Request id r) H = nothing
+    heard f e qf low (body.Reply id r) H = nothing
+
+    -- ---- timers
+
+    module _ (t : Timer) (is : came ≡ input.Timer t) where
+      bare : (kind : Timer) (end : ℕ) → end_of kind (disarmed t s.timers) ≡ Some end → end_of kind s.timers ≡ Some end
+      bare kind end on = elim (same_kind_or kind t) [
+        | inl same ↦ absurd (none-some end (sym (off t s.timers F.kinds) ∙ subst (λ (k : Timer). end_of k (disarmed t s.timers) ≡ Some end) same on))
+        | inr ne ↦ sym (still_on kind t s.timers ne) ∙ on
+      ]
+
+    lease_ends : came ≡ input.Timer timer.Lease → Then P (timer_comes me now timer.Lease (disarm timer.Lease x))
+    lease_ends is = subst (Then P) (sym (probes_row me now (disarm timer.Lease x) several)) (done (probes is (record {
+      probes = refl;
+      outside = refl;
+      timers = λ kind end on. elim (same_kind_or kind timer.Probe) [
+        | inl same ↦ (same, (let two : Some end ≡ Some (now + 2000) = sym on ∙ ap (λ (k : Timer). end_of k (armed now timer.Probe bare_timers)) same ∙ ends now timer.Probe bare_timers size (omega arith) in cc))
+        | inr ne ↦ absurd (let k = only_ping_is (disarmed timer.Lease s.timers) kind end (sym (still_ends now kind timer.Probe bare_timers ne) ∙ on) in
+            none-some end (sym calm ∙ bare timer.Lease is timer.Ping end k.1))
+      ];
+      changes = refl;
+      out = refl;
+    })))
+      where
+        bare_timers : Timers
+        bare_timers = only_ping (disarmed timer.Lease s.timers)
+
+        size : length bare_timers ≡ 11
+        size = length-set unarmed (index_of timer.Ping) (end_of timer.Ping (disarmed timer.Lease s.timers))
+
+    propose_ends : came ≡ input.Timer timer.Propose → Then P (timer_comes me now timer.Propose (disarm timer.Propose x))
+    unfolding propose_due
+    propose_ends is = done (follows_so (disarmed timer.Propose s.timers) (disarmed_size timer.Propose s.timers F.kinds)
+        (let o = opened (λ (end : ℕ). end ≤ by_time) (end_of timer.Lease s.timers) F.waits in
+        closed (λ (end : ℕ). end ≤ by_time) (end_of timer.Lease (disarmed timer.Propose s.timers)) o.0 (still_on timer.Lease timer.Propose s.timers (λ e. omega arith) ∙ o.1) o.2)
+        (λ kind end on. F.only kind end (bare timer.Propose is kind end on)) _ refl refl refl refl tt)
+
+    rung : (t : Timer) → came ≡ input.Timer t → is_armed t s.timers ≡ true → Then P (timer_comes me now t (disarm t x))
+    rung t is on = by (end_of t s.timers) refl on
+      where
+        by : (o : Option ℕ) → end_of t s.timers ≡ o → is_some o ≡ true → Then P (timer_comes me now t (disarm t x))
+        by None e k = absurd (false≢true k)
+        by (Some end) e k = elim (F.only t end e) [
+          | inl same ↦ subst (λ (k : Timer). came ≡ input.Timer k → Then P (timer_comes me now k (disarm k x))) (sym same) lease_ends is
+          | inr same ↦ subst (λ (k : Timer). came ≡ input.Timer k → Then P (timer_comes me now k (disarm k x))) (sym same) propose_ends is
+        ]
+
+    -- ---- clients
+
+    replies : (y : Course) → y.state.phase ≡ phase.Peon → y.state.peon.leader ≡ s.peon.leader → y.state.timers ≡ s.timers → y.changes ≡ [] → AllByRecursion (IsQuiet w i) y.out → Then P (Ok y)
+    replies y p l t c quiet = done (keeps y p l t c quiet)
+
+    asks : (u : Session) (c : Command) → Then P (ask me now u c x)
+    unfolding ask
+    asks u c =
+        by_test (is_too_long c) (λ _. replies _ refl refl refl refl (tt, tt)) (λ _.
+        by_test (leb MOST_WAITING (length s.clients.sessions)) (λ _. replies _ refl refl refl refl (tt, tt)) (λ _.
+        where_fits P which.Seq s.clients.next_seq _ (λ _. replies _ refl refl refl refl ((refl, refl, tt), tt))))
+
+    reads : (u : Session) (reading : Readings → Reply) → Then P (read me now u reading x)
+    reads u reading = by_test (not (readable w.last ms.count (lease_of x.state) now)) (λ _. replies _ refl refl refl refl (tt, tt)) (λ _. replies _ refl refl refl refl (tt, tt))
+
+    asked : (u : Session) (r : Request) → Then P (hear_client me now u r x)
+    unfolding hear_client
+    asked u (request.Set key value) = asks u (command.Set key value)
+    asked u (request.Remove key) = asks u (command.Remove key)
+    asked u (request.Log text) = asks u (command.Log text)
+    asked u (request.Show v) = reads u (λ z. shown z v)
+    asked u (request.Since v n) = reads u (λ z. since z v n)
+
+    comes : (c : Input) → came ≡ c → IsOfMember c → Then P (running me sh now c x)
+    comes input.Start is of = nothing
+    comes (input.Deliver m) is of = by_test (is_heard me m) (λ t. heard m.from m.epoch of.0 of.1 m.body (record { message = m; is = is; from = refl; monitors = eqb-true m.monitors ms.count (and_three (not (eqb m.from i)) (eqb m.monitors ms.count) _ t).1; epoch = refl; says = refl })) (λ _. nothing)
+    comes (input.Timer t) is of = by_test (is_armed t s.timers) (λ on. rung t is on) (λ _. nothing)
+    comes (input.Client u r) is of = asked u r
+
+    pub followed : IsOfMember came → Then P (react me sh now w s came)
+    unfolding react
+    followed of = subst (λ (p : Phase). Then P (react me sh now w (record s { phase = p }) came)) (sym F.follows) (comes came refl of)
