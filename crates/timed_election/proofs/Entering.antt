@@ -1,6 +1,6 @@
 -- How a monitor in an even epoch takes part in the election of the next one: it calls it, or defers to a candidate.
 use Rattle.election_rules.specs.declared.scores.Scores.{Scores}
-use Rattle.mon_msg.specs.Protocol.Changes.{Change, Epoch}
+use Rattle.mon_msg.specs.Protocol.Changes.{Epoch}
 use Rattle.mon_msg.specs.Protocol.Course.{Course}
 use Rattle.mon_msg.specs.Protocol.Elections.{is_allowed, may_defer, merge, stands_before, table_or, weigh}
 use Rattle.mon_msg.specs.Protocol.Entering.{adopt, elect, is_even, scores_count}

@@ -35,15 +35,15 @@ use Rattle.quorum_timed.specs.Calls.{IsCall, IsCandidate}
 use Rattle.quorum_timed.specs.Timed.{MayBe, Owed, Pace, Timed}
 use Rattle.quorum_walk.proofs.Ranks.{has_only_is, has_with, has_with_is, nobody}
 use Rattle.quorum_walk.proofs.Walk.{Then}
-use Rattle.std.proofs.Common.{Bool, List, None, Ok, Option, Some, [], ap, arith, eqb, false, inl, inr, length, ltb, map, refl, subst, sym, true, ℕ, ◌&&◌, ◌*◌, ◌||◌, ◌+◌, ◌<◌, ◌^◌, ◌∙◌, ◌∷◌, ◌≡◌, ◌≤◌, ◌⊎◌}
-use Rattle.std.proofs.lemmas.Bool.{and_from, and_parts, cases_eq, eq-eqb, eqb-true, false≢true, lt-ltb, ltb-true, ne_eqb, or_left, or_right}
+use Rattle.std.proofs.Common.{Bool, List, None, Ok, Option, Some, [], ap, arith, eqb, false, inl, inr, length, ltb, map, refl, subst, sym, true, ℕ, ◌&&◌, ◌*◌, ◌||◌, ◌+◌, ◌^◌, ◌∙◌, ◌∷◌, ◌≡◌, ◌≤◌, ◌⊎◌}
+use Rattle.std.proofs.lemmas.Bool.{and_from, and_parts, cases_eq, eq-eqb, false≢true, lt-ltb, ltb-true, ne_eqb, or_left, or_right}
 use Rattle.std.proofs.lemmas.List.{get_or-set_same, length-set}
 use Rattle.std.specs.List.{AllByRecursion}
 use Rattle.std.specs.Prelude.{IsSomeAnd}
 use Rattle.timed_election.proofs.Coming.{How, again, asks, fires, first}
 use Rattle.timed_election.proofs.Counting.{not_whole, several}
 use Rattle.timed_election.proofs.Lists.{all_sent, closed, opened}
-use Rattle.timed_election.proofs.Outcomes.{Heard as Came, IsLow, Outcome, Stays, Wins, ack_taken, call_taken, calls, calls_again, counts, defers, reacted, rests, says, wins}
+use Rattle.timed_election.proofs.Outcomes.{Heard as Came, IsAnswerTo, IsLow, Outcome, Stays, Wins, ack_taken, call_taken, calls, calls_again, counts, defers, reacted, rests, says, VotesOrAnswers, wins}
 use Rattle.timed_election.proofs.Quiet.{IsQuiet, no_ack, no_call}
 use Rattle.timed_election.proofs.Ranking.{best_first, nobody_better, not_itself}
 use Rattle.timed_election.proofs.Times.{all_acked, best_now, over_by, unheard_by}
@@ -69,6 +69,7 @@ module _ (ms : Monitors) (q : List Bool) (pace : Pace) (quick : IsQuick pace) (E
     pub defers : (i ≡ b → ⊥) → Defers q pace E t.time i s → Defers q pace E u i after
     pub silent : (i ≡ b → ⊥) → (came ≡ input.Deliver (record { from = b; monitors = ms.count; epoch = E.epoch; body = body.Propose None }) → ⊥)
         → AllByRecursion (λ (m : Envelope). m.to ≡ b → m.message.body ≡ body.Ack → ⊥) (messages_of out)
+    pub answers : AllByRecursion (VotesOrAnswers came) (messages_of out)
 
   module _ (i : ℕ) (qi : has q i ≡ true) (lt : ltb i ms.count ≡ true) (came : Input) (e : Event) (left : ℕ → ℕ → List Owed) (s : State) (up : t.world.state i ≡ Some s) (how : How ms q pace t u i came e left s)
       (sh : List Entry) (y : Course) (reacts : react (member_of ms i lt) sh (u + pace.clock i) (readings_of (t.world.store i)) s came ≡ Ok y) (room : u + pace.clock i + 10000 ≤ 2 ^ 62) where
@@ -308,7 +309,7 @@ module _ (ms : Monitors) (q : List Bool) (pace : Pace) (quick : IsQuick pace) (E
         anew ts size only_one late K = inr (late, subst (λ (z : Timers). IsSomeAnd (end_of timer.Election z) (λ end. E.from + pace.clock i + 10000 ≤ end)) (sym K.timers) (again_after ts size only_one 10000 (omega arith)))
 
         by : Outcome ms i lt now sh w s came y → Result
-        by (rests K quiet) = turns K.changes (record {
+        by (rests K quiet answers) = turns K.changes (record {
           part = remains s.elector.candidate s.elector.acked s.elector.deferred s.timers K part.kinds part.only part.ends part.acks part.defers;
           own = all_own y.out quiet;
           stands = λ is. (let S = stands is in still_stands is s.elector.acked s.elector.deferred (subst (λ (z : Bool). Stays z s.elector.acked s.elector.deferred s.timers y) S.candidate K) S.ranks S.own);
@@ -317,6 +318,7 @@ module _ (ms : Monitors) (q : List Bool) (pace : Pace) (quick : IsQuick pace) (E
           added = λ is j h. inl (sym (ap (λ (z : List Bool). has z j) K.acked) ∙ h);
           defers = λ ne. kept_so s.elector.candidate s.elector.acked refl K;
           silent = λ ne isnt. all_silent y.out quiet;
+          answers = all_sent (IsAnswerTo came) (VotesOrAnswers came) (λ to m h. inr h) y.out answers;
         })
         by (counts f H candidate K out) = turns K.changes (record {
           part = remains true (with_rank s.elector.acked f) s.elector.deferred s.timers K part.kinds part.only part.ends (λ j h. elim (has_with_is s.elector.acked f j h) [
@@ -333,6 +335,7 @@ module _ (ms : Monitors) (q : List Bool) (pace : Pace) (quick : IsQuick pace) (E
           ];
           defers = λ ne. kept_so true (with_rank s.elector.acked f) candidate K;
           silent = λ ne isnt. subst (λ (z : List Sent). AllByRecursion (λ (m : Envelope). m.to ≡ b → m.message.body ≡ body.Ack → ⊥) (messages_of z)) (sym out) tt;
+          answers = subst (λ (z : List Sent). AllByRecursion (VotesOrAnswers came) (messages_of z)) (sym out) tt;
         })
         by (defers f tb table H better may K out) =
             let qf = subst (λ (z : ℕ). has q z ≡ true) H.from (of_member H.message H.is).0 in
@@ -346,6 +349,7 @@ module _ (ms : Monitors) (q : List Bool) (pace : Pace) (quick : IsQuick pace) (E
               defers = λ ne. defers_so f table qf better may K;
               silent = λ ne isnt. subst (λ (z : List Sent). AllByRecursion (λ (m : Envelope). m.to ≡ b → m.message.body ≡ body.Ack → ⊥) (messages_of z)) (sym out)
                   ((λ is _. isnt (call_is H.message H.is (subst IsCall (sym H.says) tt) (H.from ∙ is) (H.epoch ∙ epoch_is))), tt);
+              answers = subst (λ (z : List Sent). AllByRecursion (VotesOrAnswers came) (messages_of z)) (sym out) (inl tt, tt);
             })
         by (calls idle free K out) = turns K.changes (record {
           part = called_anew s.timers part.kinds part.only K;
@@ -359,6 +363,7 @@ module _ (ms : Monitors) (q : List Bool) (pace : Pace) (quick : IsQuick pace) (E
             | inr l ↦ anew s.timers part.kinds part.only (passed l.0) K
           ];
           silent = λ ne isnt. all_called (λ (m : Envelope). m.to ≡ b → m.message.body ≡ body.Ack → ⊥) (λ to _ k. cc) (others me) out;
+          answers = all_called (VotesOrAnswers came) (λ to. inl tt) (others me) out;
         })
           where
             standing : {A : Type 0} → i ≡ b → A
@@ -372,6 +377,7 @@ module _ (ms : Monitors) (q : List Bool) (pace : Pace) (quick : IsQuick pace) (E
           added = λ best. winning best;
           defers = λ ne k. anew (disarmed timer.Election s.timers) bare_size bare_only (late is) K;
           silent = λ ne isnt. all_called (λ (m : Envelope). m.to ≡ b → m.message.body ≡ body.Ack → ⊥) (λ to _ k. cc) (others me) out;
+          answers = all_called (VotesOrAnswers came) (λ to. inl tt) (others me) out;
         })
           where
             winning : {A : Type 0} → i ≡ b → A

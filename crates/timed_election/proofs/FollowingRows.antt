@@ -6,7 +6,7 @@ use Rattle.mon_bytes.specs.declared.command.Command.{Command}
 use Rattle.mon_bytes.specs.declared.entry.Entry.{Entry}
 use Rattle.mon_lease.specs.Lease.{readable}
 use Rattle.mon_msg.specs.Protocol.Chunks.{hear_chunk, hear_last_chunk}
-use Rattle.mon_msg.specs.Protocol.Commands.{ask, at_peon, hear_forward, hear_route, is_too_long, propose_due}
+use Rattle.mon_msg.specs.Protocol.Commands.{ask, hear_forward, hear_route, is_too_long, propose_due}
 use Rattle.mon_msg.specs.Protocol.Copying.{hear_cookie, hear_no_cookie}
 use Rattle.mon_msg.specs.Protocol.Course.{Course, disarm}
 use Rattle.mon_msg.specs.Protocol.Elections.{hear_ack, hear_propose, hear_victory, merge, table_or, weigh}
@@ -14,7 +14,7 @@ use Rattle.mon_msg.specs.Protocol.Entering.{adopt, elect, is_even, scores_count}
 use Rattle.mon_msg.specs.Protocol.Hearing.{hear, hear_client, is_heard}
 use Rattle.mon_msg.specs.Protocol.Leader.{hear_accept, hear_last, hear_lease_ack}
 use Rattle.mon_msg.specs.Protocol.Peon.{hear_begin, hear_collect, hear_commit, hear_lease, of_leader}
-use Rattle.mon_msg.specs.Protocol.Phases.{is_peon, same_phase, votes}
+use Rattle.mon_msg.specs.Protocol.Phases.{is_peon}
 use Rattle.mon_msg.specs.Protocol.Pings.{hear_ping, hear_ping_reply}
 use Rattle.mon_msg.specs.Protocol.Places.{is_after, is_cookie}
 use Rattle.mon_msg.specs.Protocol.Probing.{hear_probe, hear_probe_reply}
@@ -30,14 +30,11 @@ use Rattle.mon_msg.specs.Protocol.Timers.{armed, disarmed, end_of, index_of, is_
 use Rattle.mon_msg.specs.declared.input.Input.TheVariants as input
 use Rattle.mon_msg.specs.declared.input.Input.{Input}
 use Rattle.mon_msg.specs.declared.limits.TheConstants.{MOST_WAITING}
-use Rattle.mon_msg.specs.declared.plan.Sent.TheVariants as sent
-use Rattle.mon_msg.specs.declared.plan.Sent.{Sent}
 use Rattle.mon_msg.specs.declared.view.Me.{Me}
 use Rattle.mon_types.specs.Ranks.{has}
 use Rattle.mon_types.specs.declared.names.Which.TheVariants as which
 use Rattle.mon_wire.specs.declared.body.Body.TheVariants as body
 use Rattle.mon_wire.specs.declared.body.Body.{Body}
-use Rattle.mon_wire.specs.declared.message.Message.{Message}
 use Rattle.mon_wire.specs.declared.parts.Cookie.{Cookie}
 use Rattle.mon_wire.specs.declared.parts.Place.{Place}
 use Rattle.mon_wire.specs.declared.phase.Phase.TheVariants as phase
@@ -54,8 +51,8 @@ use Rattle.quorum_stays.proofs.Timers.{disarmed_size, ends, off, only_ping_is, s
 use Rattle.quorum_timed.proofs.Armed.{Timers}
 use Rattle.quorum_walk.proofs.Parity.{odd_of_even}
 use Rattle.quorum_walk.proofs.Walk.{Then, and_three, by_test, done, or_three, where_fits}
-use Rattle.std.proofs.Common.{Bool, Err, List, None, Ok, Option, Some, [], ap, arith, eqb, false, filter, inl, inr, leb, length, ltb, map, not, refl, slice_index_or, subst, suc, sym, true, ℕ, ◌&&◌, ◌+◌, ◌<◌, ◌^◌, ◌||◌, ◌∙◌, ◌∷◌, ◌≡◌, ◌≤◌, ◌⊎◌}
-use Rattle.std.proofs.lemmas.Bool.{cond_both, eqb-true, false≢true, leb-false, ltb-false, ltb-true, not-false, or_parts}
+use Rattle.std.proofs.Common.{Bool, Err, List, None, Ok, Option, Some, [], ap, arith, eqb, false, filter, inl, inr, leb, length, ltb, map, not, refl, slice_index_or, subst, suc, sym, true, ℕ, ◌&&◌, ◌+◌, ◌^◌, ◌||◌, ◌∙◌, ◌∷◌, ◌≡◌, ◌≤◌, ◌⊎◌}
+use Rattle.std.proofs.lemmas.Bool.{eqb-true, false≢true, leb-false, ltb-false, ltb-true, not-false, or_parts}
 use Rattle.std.proofs.lemmas.List.{length-set}
 use Rattle.std.proofs.lemmas.Option.{none-some}
 use Rattle.std.specs.List.{AllByRecursion}

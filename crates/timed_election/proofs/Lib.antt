@@ -4,11 +4,14 @@ pub mod Ending
 pub mod Entering
 pub mod Events
 pub mod FollowingRows
+pub mod Leaving
 pub mod Lists
 pub mod Outcomes
+pub mod Parts
 pub mod Probing
 pub mod ProbingRows
 pub mod Quiet
 pub mod Ranking
+pub mod Remaining
 pub mod Times
 pub mod Turning

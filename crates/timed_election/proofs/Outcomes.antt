@@ -17,7 +17,7 @@ use Rattle.mon_msg.specs.Protocol.Phases.{votes}
 use Rattle.mon_msg.specs.Protocol.Pings.{hear_ping, hear_ping_reply}
 use Rattle.mon_msg.specs.Protocol.Places.{is_after, is_cookie}
 use Rattle.mon_msg.specs.Protocol.Probing.{hear_probe, hear_probe_reply}
-use Rattle.mon_msg.specs.Protocol.Providing.{chunk, grant, hear_get_chunk, hear_get_cookie_full, hear_get_cookie_recent}
+use Rattle.mon_msg.specs.Protocol.Providing.{chunk, given_entries, given_values, grant, hear_get_chunk, hear_get_cookie_full, hear_get_cookie_recent, is_finished, reach}
 use Rattle.mon_msg.specs.Protocol.Readings.{Readings, epoch_of, or_zero, promise_of}
 use Rattle.mon_msg.specs.Protocol.Records.{pending}
 use Rattle.mon_msg.specs.Protocol.Sending.{members, message_to, others}
@@ -48,14 +48,16 @@ use Rattle.mon_wire.specs.declared.request.Request.{Request}
 use Rattle.mon_wire.specs.declared.request.Session.{Session}
 use Rattle.quorum_model.proofs.Members.{member_of}
 use Rattle.quorum_model.specs.Monitors.{Monitors}
+use Rattle.quorum_model.specs.World.{Envelope}
 use Rattle.quorum_timed.proofs.Armed.{Timers}
 use Rattle.quorum_walk.proofs.Parity.{next_is}
 use Rattle.quorum_walk.proofs.Walk.{Then, and_then, and_three, by_test, done, or_three, where_fits}
-use Rattle.std.proofs.Common.{Bool, Err, List, None, Ok, Option, Some, [], ap, arith, eqb, false, filter, inl, inr, leb, ltb, map, max, not, refl, slice_index_or, subst, suc, sym, true, ℕ, ◌&&◌, ◌++◌, ◌<◌, ◌^◌, ◌||◌, ◌∙◌, ◌∷◌, ◌≡◌, ◌≤◌}
+use Rattle.std.proofs.Common.{Bool, Err, List, None, Ok, Option, Some, [], ap, arith, eqb, false, filter, inl, inr, leb, ltb, map, max, not, refl, slice_index_or, subst, suc, sym, true, ℕ, ◌&&◌, ◌++◌, ◌<◌, ◌^◌, ◌||◌, ◌∙◌, ◌∷◌, ◌≡◌, ◌≤◌, ◌⊎◌}
 use Rattle.std.proofs.lemmas.Bool.{and_parts, cond_both, eq-eqb, eqb-true, false≢true, leb-false, ltb-false, ltb-true, ne_eqb, or_cases}
 use Rattle.std.specs.List.{AllByRecursion}
 use Rattle.std.specs.Prelude.{is_some}
 use Rattle.timed_election.proofs.Quiet.{IsPlain, IsQuiet, plain_chunk}
+use Rattle.timed_election.specs.Keeping.{IsVote}
 
 -- a message of another monitor comes
 pub record Heard (n : ℕ) (came : Input) (f e : ℕ) (b : Body) : Type 0 where
@@ -74,6 +76,28 @@ pub record Stays (stands : Bool) (those : List Bool) (whom : Option ℕ) (ts : T
   pub deferred : y.state.elector.deferred ≡ whom
   pub timers : y.state.timers ≡ ts
   pub changes : y.changes ≡ []
+
+-- a message that a monitor may answer while it takes part in an election
+abbrev pub Asks : Body → Type 0
+Asks body.Probe = Unit {0}
+Asks body.GetCookieFull = Unit {0}
+Asks (body.GetCookieRecent last) = Unit {0}
+Asks (body.GetChunk cookie p) = Unit {0}
+Asks (body.Ping table) = Unit {0}
+Asks other = ⊥
+
+abbrev pub AsksIn : Input → Type 0
+AsksIn (input.Deliver m) = Asks m.body
+AsksIn other = ⊥
+
+-- an answer to what comes, which asks nothing
+abbrev pub IsAnswerTo : Input → Sent → Type 0
+IsAnswerTo came (sent.Message to m) = AsksIn came × (Asks m.body → ⊥)
+IsAnswerTo came (sent.Reply to r) = Unit {0}
+
+-- a call, an acknowledgement, or an answer to what comes
+abbrev pub VotesOrAnswers : Input → Envelope → Type 0
+VotesOrAnswers came m = IsVote m.message.body ⊎ (AsksIn came × (Asks m.message.body → ⊥))
 
 -- what comes is of no later epoch
 abbrev pub IsLow : ℕ → Input → Type 0
@@ -107,7 +131,7 @@ module _ (ms : Monitors) (i : ℕ) (lt : ltb i ms.count ≡ true) (now : ℕ) (s
 
   -- what it does
   pub data Outcome (came : Input) (y : Course) : Type 0 where
-    rests : Stays s.elector.candidate s.elector.acked s.elector.deferred s.timers y → AllByRecursion (IsQuiet w i) y.out → Outcome came y
+    rests : Stays s.elector.candidate s.elector.acked s.elector.deferred s.timers y → AllByRecursion (IsQuiet w i) y.out → AllByRecursion (IsAnswerTo came) y.out → Outcome came y
     counts : (f : ℕ) → Heard ms.count came f (epoch_of w) body.Ack → s.elector.candidate ≡ true
         → Stays true (with_rank s.elector.acked f) s.elector.deferred s.timers y → y.out ≡ [] → Outcome came y
     defers : (f : ℕ) (t : Option Scores) (table : Scores) → Heard ms.count came f (epoch_of w) (body.Propose t) → (is_allowed me f && stands_before me table f i) ≡ true
@@ -126,18 +150,18 @@ module _ (ms : Monitors) (i : ℕ) (lt : ltb i ms.count ≡ true) (now : ℕ) (s
 
     -- ---- nothing happens
 
-    rest : (e : Elector) (y : Course) → e.candidate ≡ s.elector.candidate → e.acked ≡ s.elector.acked → e.deferred ≡ s.elector.deferred → y.state.elector ≡ e → y.state.phase ≡ phase.Electing → y.state.timers ≡ s.timers → y.changes ≡ [] → AllByRecursion (IsQuiet w i) y.out → O y
-    rest e y a b c is p t k quiet = rests (record {
+    rest : (e : Elector) (y : Course) → e.candidate ≡ s.elector.candidate → e.acked ≡ s.elector.acked → e.deferred ≡ s.elector.deferred → y.state.elector ≡ e → y.state.phase ≡ phase.Electing → y.state.timers ≡ s.timers → y.changes ≡ [] → AllByRecursion (IsQuiet w i) y.out → AllByRecursion (IsAnswerTo came) y.out → O y
+    rest e y a b c is p t k quiet answers = rests (record {
       phase = p;
       candidate = ap (λ (z : Elector). z.candidate) is ∙ a;
       acked = ap (λ (z : Elector). z.acked) is ∙ b;
       deferred = ap (λ (z : Elector). z.deferred) is ∙ c;
       timers = t;
       changes = k;
-    }) quiet
+    }) quiet answers
 
     nothing : Then O (Ok x)
-    nothing = done (rest s.elector x refl refl refl refl refl refl refl tt)
+    nothing = done (rest s.elector x refl refl refl refl refl refl refl tt tt)
 
     -- ---- it calls an election
 
@@ -204,11 +228,11 @@ module _ (ms : Monitors) (i : ℕ) (lt : ltb i ms.count ≡ true) (now : ℕ) (s
           by_test (is_allowed me f && stands_before me table f i)
           (λ better. by_test (may_defer me table f v.deferred)
           (λ may. done (defers f t table H better (subst (λ (d : Option ℕ). may_defer me table f d ≡ true) c may) (record { phase = refl; candidate = refl; acked = refl; deferred = refl; timers = refl; changes = refl }) refl))
-          (λ _. done (rest v (with_votes v s.timers) a b c refl refl refl refl tt)))
+          (λ _. done (rest v (with_votes v s.timers) a b c refl refl refl refl tt tt)))
           (λ _. by_test (not (is_some v.deferred) && not v.candidate)
           (λ t. (let k = and_parts (not (is_some v.deferred)) (not v.candidate) t in
           calls_so v s.timers (calls (sym a ∙ unset v.candidate k.1) (sym c ∙ none v.deferred k.0) (stays_called v s.timers) refl)))
-          (λ _. done (rest v (with_votes v s.timers) a b c refl refl refl refl tt)))
+          (λ _. done (rest v (with_votes v s.timers) a b c refl refl refl refl tt tt)))
         where
           unset : (b : Bool) → not b ≡ true → b ≡ false
           unset true e = absurd (false≢true e)
@@ -261,43 +285,51 @@ module _ (ms : Monitors) (i : ℕ) (lt : ltb i ms.count ≡ true) (now : ℕ) (s
     quiet : (f : ℕ) (b : Body) → IsPlain w b → AllByRecursion (IsQuiet w i) (says b f ∷ [])
     quiet f b p = ((refl, refl, p), tt)
 
-    sends : (f : ℕ) (b : Body) (y : Course) → y.state.elector ≡ s.elector → y.state.phase ≡ phase.Electing → y.state.timers ≡ s.timers → y.changes ≡ [] → y.out ≡ says b f ∷ [] → IsPlain w b → Then O (Ok y)
-    sends f b y is p t k out a = done (rest s.elector y refl refl refl is p t k (subst (AllByRecursion (IsQuiet w i)) (sym out) (quiet f b a)))
+    sends : AsksIn came → (f : ℕ) (b : Body) (y : Course) → y.state.elector ≡ s.elector → y.state.phase ≡ phase.Electing → y.state.timers ≡ s.timers → y.changes ≡ [] → y.out ≡ says b f ∷ [] → IsPlain w b → (Asks b → ⊥) → Then O (Ok y)
+    sends asks f b y is p t k out a n = done (rest s.elector y refl refl refl is p t k (subst (AllByRecursion (IsQuiet w i)) (sym out) (quiet f b a)) (subst (AllByRecursion (IsAnswerTo came)) (sym out) ((asks, n), tt)))
 
-    probe_comes : (f : ℕ) → Then O (hear_probe me f x)
+    probe_comes : AsksIn came → (f : ℕ) → Then O (hear_probe me f x)
     unfolding hear_probe
-    probe_comes f = by_test w.marked (λ _. nothing) (λ _. sends f (body.ProbeReply no_ranks w.first w.last) _ refl refl refl refl refl (refl, refl))
+    probe_comes asks f = by_test w.marked (λ _. nothing) (λ _. sends asks f (body.ProbeReply no_ranks w.first w.last) _ refl refl refl refl refl (refl, refl) (λ k. k))
 
-    grants : (full : Bool) (f : ℕ) → Then O (grant me full f x)
-    grants full f = where_fits O which.Cookie s.provider.next_cookie _ (λ _. sends f _ _ refl refl refl refl refl tt)
+    grants : AsksIn came → (full : Bool) (f : ℕ) → Then O (grant me full f x)
+    grants asks full f = where_fits O which.Cookie s.provider.next_cookie _ (λ _. sends asks f _ _ refl refl refl refl refl tt (λ k. k))
 
-    full_comes : (f : ℕ) → Then O (hear_get_cookie_full me f x)
+    full_comes : AsksIn came → (f : ℕ) → Then O (hear_get_cookie_full me f x)
     unfolding hear_get_cookie_full
-    full_comes f = by_test w.marked (λ _. nothing) (λ _. grants true f)
+    full_comes asks f = by_test w.marked (λ _. nothing) (λ _. grants asks true f)
 
-    recent_comes : (f last : ℕ) → Then O (hear_get_cookie_recent me f last x)
+    recent_comes : AsksIn came → (f last : ℕ) → Then O (hear_get_cookie_recent me f last x)
     unfolding hear_get_cookie_recent
-    recent_comes f last = by_test w.marked (λ _. nothing) (λ _. by_test (ltb (suc last) w.first) (λ _. sends f _ _ refl refl refl refl refl tt) (λ _. grants false f))
+    recent_comes asks f last = by_test w.marked (λ _. nothing) (λ _. by_test (ltb (suc last) w.first) (λ _. sends asks f _ _ refl refl refl refl refl tt (λ k. k)) (λ _. grants asks false f))
 
-    chunk_comes : (f : ℕ) (c : Cookie) (p : Place) → Then O (hear_get_chunk me sh f c p x)
+    -- a chunk asks nothing
+    chunk_asks : (c : Cookie) (p : Place) (left : List Entry) → Asks (chunk w.last c p left ms.count w.record_of) → ⊥
+    unfolding chunk
+    chunk_asks c p left =
+        let values = given_values w.last c p left ms.count w.record_of in
+        let entries = given_entries w.last c p left ms.count values in
+        cond_both (reach w.last p values && is_finished p left entries) (body.LastChunk c p values entries w.last) (body.Chunk c p values entries (is_finished p left entries)) (λ (b : Body). Asks b → ⊥) (λ _ k. k) (λ _ k. k)
+
+    chunk_comes : AsksIn came → (f : ℕ) (c : Cookie) (p : Place) → Then O (hear_get_chunk me sh f c p x)
     unfolding hear_get_chunk
-    chunk_comes f c p =
+    chunk_comes asks f c p =
         let left = filter (is_after p.key) sh in
         by_test w.marked (λ _. nothing) (λ _.
-        by_test (not (is_cookie c (slice_index_or s.provider.cookies f None)) || ltb (suc p.version) w.first) (λ _. sends f _ _ refl refl refl refl refl tt)
-        (λ _. sends f (chunk w.last c p left ms.count w.record_of) _ refl refl refl refl refl (plain_chunk w ms.count c p left)))
+        by_test (not (is_cookie c (slice_index_or s.provider.cookies f None)) || ltb (suc p.version) w.first) (λ _. sends asks f _ _ refl refl refl refl refl tt (λ k. k))
+        (λ _. sends asks f (chunk w.last c p left ms.count w.record_of) _ refl refl refl refl refl (plain_chunk w ms.count c p left) (chunk_asks c p left)))
 
     -- ---- scores
 
-    ping_comes : (f : ℕ) (table : Option Scores) → Then O (hear_ping me f table x)
+    ping_comes : AsksIn came → (f : ℕ) (table : Option Scores) → Then O (hear_ping me f table x)
     unfolding hear_ping
-    ping_comes f None = nothing
-    ping_comes f (Some table) = done (rest _ _ refl refl refl refl refl refl refl ((refl, refl, tt), tt))
+    ping_comes asks f None = nothing
+    ping_comes asks f (Some table) = done (rest _ _ refl refl refl refl refl refl refl ((refl, refl, tt), tt) ((asks, (λ k. k)), tt))
 
     reply_comes : (f : ℕ) (table : Option Scores) → Then O (hear_ping_reply f table x)
     unfolding hear_ping_reply
     reply_comes f None = nothing
-    reply_comes f (Some table) = done (rest _ _ refl refl refl refl refl refl refl tt)
+    reply_comes f (Some table) = done (rest _ _ refl refl refl refl refl refl refl tt tt)
 
     -- ---- all messages
 
@@ -337,9 +369,12 @@ module _ (ms : Monitors) (i : ℕ) (lt : ltb i ms.count ≡ true) (now : ℕ) (s
         not_below t = let l = ltb-true (epoch_of w) (epoch_of w) t in omega arith
 
     module _ (few : (f : ℕ) (m : Message) → came ≡ input.Deliver m → m.from ≡ f → is_whole me (with_rank s.elector.acked f) ≡ false) where
+      asks_so : (f e : ℕ) (b : Body) → Heard ms.count came f e b → Asks b → AsksIn came
+      asks_so f e b H k = subst AsksIn (sym H.is) (subst Asks (sym H.says) k)
+
       heard : (f e : ℕ) → e ≤ epoch_of w → (b : Body) → Heard ms.count came f e b → Then O (hear me sh now f e b x)
       unfolding hear_probe_reply hear_collect hear_last hear_begin hear_accept hear_commit hear_lease hear_lease_ack hear_forward hear_route hear_cookie hear_chunk hear_last_chunk hear_no_cookie
-      heard f e low body.Probe H = probe_comes f
+      heard f e low body.Probe H = probe_comes (asks_so f e body.Probe H tt) f
       heard f e low (body.ProbeReply q first last) H = nothing
       heard f e low (body.Propose t) H = propose_comes f e low t H
       heard f e low body.Ack H = ack_comes f e low (few f H.message H.is H.from) H
@@ -353,14 +388,14 @@ module _ (ms : Monitors) (i : ℕ) (lt : ltb i ms.count ≡ true) (now : ℕ) (s
       heard f e low (body.LeaseAck last) H = nothing
       heard f e low (body.Forward seq c) H = nothing
       heard f e low (body.Route seq r) H = nothing
-      heard f e low body.GetCookieFull H = full_comes f
-      heard f e low (body.GetCookieRecent last) H = recent_comes f last
+      heard f e low body.GetCookieFull H = full_comes (asks_so f e body.GetCookieFull H tt) f
+      heard f e low (body.GetCookieRecent last) H = recent_comes (asks_so f e (body.GetCookieRecent last) H tt) f last
       heard f e low (body.Cookie full c last) H = nothing
-      heard f e low (body.GetChunk c p) H = chunk_comes f c p
+      heard f e low (body.GetChunk c p) H = chunk_comes (asks_so f e (body.GetChunk c p) H tt) f c p
       heard f e low (body.Chunk c p values entries end) H = nothing
       heard f e low (body.LastChunk c p values entries last) H = nothing
       heard f e low (body.NoCookie c) H = nothing
-      heard f e low (body.Ping table) H = ping_comes f table
+      heard f e low (body.Ping table) H = ping_comes (asks_so f e (body.Ping table) H tt) f table
       heard f e low (body.PingReply table) H = reply_comes f table
       heard f e low (body.Request id r) H = nothing
       heard f e low (body.Reply id r) H = nothing
@@ -375,7 +410,7 @@ module _ (ms : Monitors) (i : ℕ) (lt : ltb i ms.count ≡ true) (now : ℕ) (s
           kind (Some end) e k = only_one t end e
 
       replies : (u : Session) (r : _) → Then O (Ok (record x { out = sent.Reply u r ∷ [] }))
-      replies u r = done (rest s.elector _ refl refl refl refl refl refl refl (tt, tt))
+      replies u r = done (rest s.elector _ refl refl refl refl refl refl refl (tt, tt) (tt, tt))
 
       asked : (u : Session) (r : Request) → Then O (hear_client me now u r x)
       unfolding hear_client ask

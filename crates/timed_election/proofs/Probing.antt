@@ -20,12 +20,12 @@ use Rattle.quorum_model.specs.Clients.{messages_of}
 use Rattle.quorum_model.specs.Meets.{message_at}
 use Rattle.quorum_model.specs.Monitors.{Monitors}
 use Rattle.quorum_model.specs.World.{Envelope, Event}
-use Rattle.quorum_stays.proofs.Onward.{here_left, one_state, other_left}
+use Rattle.quorum_stays.proofs.Onward.{one_state}
 use Rattle.quorum_stays.proofs.SteppingDown.{here}
 use Rattle.quorum_stays.proofs.UnderWay.{numbers}
 use Rattle.quorum_stays.specs.SteppingDown.{EachIs}
 use Rattle.quorum_timed.specs.Begins.{IsBetween}
-use Rattle.quorum_timed.specs.Timed.{Leads, MayBe, Owed, Pace, Timed, at_time, owed_by, without_first}
+use Rattle.quorum_timed.specs.Timed.{Leads, MayBe, Owed, Pace, Timed, at_time, owed_by}
 use Rattle.quorum_walk.proofs.Walk.{Then}
 use Rattle.std.proofs.Common.{Bool, List, Ok, Some, [], ap, arith, false, inl, inr, length, ltb, refl, subst, suc, sym, true, ℕ, ◌*◌, ◌++◌, ◌+◌, ◌<◌, ◌∙◌, ◌∷◌, ◌≡◌, ◌≤◌, ◌⊎◌}
 use Rattle.std.proofs.lemmas.Bool.{cases_eq, cases_lt, eq-eqb, false≢true, lt-ltb, ltb-true}

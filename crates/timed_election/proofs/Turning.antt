@@ -428,13 +428,13 @@ module _ (ms : Monitors) (q : List Bool) (pace : Pace) (quick : IsQuick pace) (E
         (to_member ms reign me collect best refl quorum j (same j ∙ qj) ne (C.members j qj)))
 
     -- all is from the winner, to others
-    away : (body : Body) (ks : List ℕ) → AllByRecursion (λ k. k ≡ i → ⊥) ks → AllByRecursion (λ (m : Envelope). (m.message.from ≡ i) × (m.to ≡ i → ⊥)) (each me reign.epoch body ks)
+    away : (body : Body) (ks : List ℕ) → AllByRecursion (λ k. k ≡ i → ⊥) ks → AllByRecursion (λ (m : Envelope). (m.message.from ≡ i) × (m.to ≡ i → ⊥) × (m.message.epoch ≡ reign.epoch)) (each me reign.epoch body ks)
     away body [] none = tt
-    away body (k ∷ ks) none = ((refl, none.0), away body ks none.1)
+    away body (k ∷ ks) none = ((refl, none.0, refl), away body ks none.1)
 
-    sent_away : AllByRecursion (λ (m : Envelope). (m.message.from ≡ i) × (m.to ≡ i → ⊥)) es
-    sent_away = subst (AllByRecursion (λ (m : Envelope). (m.message.from ≡ i) × (m.to ≡ i → ⊥))) (sym sent_is)
-        (all_append (λ (m : Envelope). (m.message.from ≡ i) × (m.to ≡ i → ⊥)) (each me reign.epoch (body.Victory quorum) (members me quorum)) (each me reign.epoch collect (members me quorum))
+    pub sent_away : AllByRecursion (λ (m : Envelope). (m.message.from ≡ i) × (m.to ≡ i → ⊥) × (m.message.epoch ≡ reign.epoch)) es
+    sent_away = subst (AllByRecursion (λ (m : Envelope). (m.message.from ≡ i) × (m.to ≡ i → ⊥) × (m.message.epoch ≡ reign.epoch))) (sym sent_is)
+        (all_append (λ (m : Envelope). (m.message.from ≡ i) × (m.to ≡ i → ⊥) × (m.message.epoch ≡ reign.epoch)) (each me reign.epoch (body.Victory quorum) (members me quorum)) (each me reign.epoch collect (members me quorum))
         (away (body.Victory quorum) (members me quorum) (none_own quorum i ms.count 0)) (away collect (members me quorum) (none_own quorum i ms.count 0)))
 
     -- ---- what is under way
@@ -466,7 +466,7 @@ module _ (ms : Monitors) (q : List Bool) (pace : Pace) (quick : IsQuick pace) (E
 
     apart_so : (f j : ℕ) → has q f ≡ true → has q j ≡ true → (f ≡ b → j ≡ b) → AllByRecursion (IsOfElection E next.world.messages f j due) (next.under_way f j)
     apart_so f j qf qj own = next_all ms q pace t u next e left went i came s y how D (IsOfElection E next.world.messages f j due) f j (old f j qf qj)
-        (λ d m there from to _. (let k = at_place (λ (m : Envelope). (m.message.from ≡ i) × (m.to ≡ i → ⊥)) es d m sent_away there in absurd (k.1 (to ∙ own (sym from ∙ k.0 ∙ best) ∙ sym best))))
+        (λ d m there from to _. (let k = at_place (λ (m : Envelope). (m.message.from ≡ i) × (m.to ≡ i → ⊥) × (m.message.epoch ≡ reign.epoch)) es d m sent_away there in absurd (k.1 (to ∙ own (sym from ∙ k.0 ∙ best) ∙ sym best))))
 
     -- ---- the members
 

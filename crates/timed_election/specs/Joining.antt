@@ -1,7 +1,7 @@
 -- Members whose leader is lost, and how all of them join one election.
 use Rattle.mon_msg.specs.Protocol.Entering.{is_even}
 use Rattle.mon_msg.specs.Protocol.Probing.{lag}
-use Rattle.mon_msg.specs.Protocol.Readings.{Readings, epoch_of, readings_of}
+use Rattle.mon_msg.specs.Protocol.Readings.{epoch_of, readings_of}
 use Rattle.mon_msg.specs.Protocol.State.{State}
 use Rattle.mon_msg.specs.Protocol.Timers.{end_of}
 use Rattle.mon_types.specs.Ranks.{has}

@@ -1,3 +1,4 @@
 pub mod Election
 pub mod Joining
+pub mod Keeping
 pub mod Probing

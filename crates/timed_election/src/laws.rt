@@ -1,4 +1,4 @@
-ghost use Rattle.std.specs.Prelude.{ℕ, ◌*◌, ◌+◌, ◌<◌, Bool, List};
+ghost use Rattle.std.specs.Prelude.{ℕ, ◌*◌, ◌+◌, ◌<◌, ◌≤◌, Bool, List};
 ghost use Rattle.quorum_model.specs.Monitors.{Monitors};
 ghost use Rattle.quorum_model.specs.World.{Event};
 ghost use Rattle.quorum_stays.specs.Reading.{ClocksGoOn};
@@ -6,6 +6,7 @@ ghost use Rattle.quorum_stays.specs.SteppingDown.{EachIs};
 ghost use Rattle.quorum_timed.specs.Begins.{IsQuick};
 ghost use Rattle.quorum_timed.specs.Timed.{Leads, Pace, Timed};
 ghost use Rattle.timed_election.specs.Election.{Election, Elects, IsWonBy};
+ghost use Rattle.timed_election.specs.Keeping.{IsWonWithin};
 ghost use Rattle.timed_election.specs.Probing.{CanAnswer, GoesOnBy, Probes};
 
 /// A member of a majority probes for no more than twice the delay of messages, if this is less than the time after which
@@ -25,4 +26,14 @@ pub fn law_election_ends()
     ensures { (ms : Monitors) (q : List Bool) (pace : Pace) (E : Election) (t last : Timed) (more : List (ℕ × Event))
         → IsQuick pace → Elects ms q pace E t → Leads ms q pace t more last → ClocksGoOn q pace last.time
         → E.by + 5000 + pace.late < last.time → IsWonBy ms q pace E t more (E.by + 5000 + pace.late) }
+{}
+
+/// Such an election leaves nothing else behind, if a message takes less than a second and the election has just begun.
+/// When it is won, no member but the winner has changed its store since, and of the election only calls and
+/// acknowledgements are under way.
+pub fn law_election_leaves_votes()
+    ensures { (ms : Monitors) (q : List Bool) (pace : Pace) (E : Election) (t last : Timed) (more : List (ℕ × Event))
+        → IsQuick pace → pace.delay < 1000 → Elects ms q pace E t → t.time ≤ E.by → Leads ms q pace t more last
+        → ClocksGoOn q pace last.time → E.by + 5000 + pace.late < last.time
+        → IsWonWithin ms q pace E t last more (E.by + 5000 + pace.late) }
 {}
