@@ -1,0 +1,4 @@
+pub mod Deserting
+pub mod Led
+pub mod Owned
+pub mod WholeLog

@@ -1,0 +1,23 @@
+-- A quorum that loses a monitor.
+use Rattle.mon_types.specs.Ranks.{has}
+use Rattle.quorum_model.specs.Meets.{message_at}
+use Rattle.quorum_timed.specs.Calls.{IsCall}
+use Rattle.quorum_timed.specs.Timed.{Pace, Timed}
+use Rattle.std.specs.List.{AllByRecursion}
+use Rattle.std.specs.Prelude.{Bool, IsSomeAnd, List, false, true, ℕ, ◌≡◌}
+
+-- The members of q are those of a quorum but for one monitor that it lost.
+pub record IsWithout (full q : List Bool) (lost : ℕ) : Type 0 where
+  pub was : has full lost ≡ true
+  pub gone : has q lost ≡ false
+  pub others : (i : ℕ) → (i ≡ lost → ⊥) → has q i ≡ has full i
+
+-- no call for an election is under way among members
+abbrev pub NobodyCalls : List Bool → Timed → Type 0
+NobodyCalls q t = (f i : ℕ) → has q f ≡ true → has q i ≡ true
+    → AllByRecursion (λ o. IsSomeAnd (message_at t.world.messages o.number) (λ m. IsCall m.message.body → ⊥))
+    (t.under_way f i)
+
+-- the same pace from an earlier time on
+abbrev pub from_time : ℕ → Pace → Pace
+from_time earlier pace = record pace { since = earlier }

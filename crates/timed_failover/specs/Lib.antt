@@ -1,0 +1,3 @@
+pub mod Failover
+pub mod Newest
+pub mod Reached

@@ -1,0 +1,40 @@
+ghost use Rattle.std.specs.Prelude.{ℕ, ◌+◌, ◌<◌, ◌^◌, ◌≡◌, ◌≤◌, Bool, List, Some, length, suc};
+ghost use Rattle.mon_msg.specs.Protocol.State.{State};
+ghost use Rattle.quorum_laws.specs.Accepting.{readings_at};
+ghost use Rattle.quorum_model.specs.Events.{AllFit};
+ghost use Rattle.quorum_model.specs.Monitors.{Monitors};
+ghost use Rattle.quorum_model.specs.Runs.{run};
+ghost use Rattle.quorum_model.specs.World.{Event};
+ghost use Rattle.quorum_stays.specs.Steady.{Reign, Round, Steady};
+ghost use Rattle.quorum_timed.specs.Begins.{Begins};
+ghost use Rattle.quorum_timed.specs.Timed.{Pace, Timed};
+ghost use Rattle.timed_election.specs.Joining.{Deserted};
+ghost use Rattle.timed_failover.specs.Failover.{IsWithout, NobodyCalls, from_time};
+ghost use Rattle.timed_failover.specs.Newest.{IsNewest};
+ghost use Rattle.timed_failover.specs.Reached.{IsAsLed, Reached};
+
+/// A leader that serves under the newest number has the whole log. Its number is the newest if a majority of which all
+/// are in its quorum promised no greater one. This holds after every run of two or more monitors under any rule, crashes
+/// included.
+pub fn law_leader_has_the_log()
+    ensures { (ms : Monitors) (events : List Event) → AllFit ms.count events → 1 < ms.count → (i : ℕ) (s : State)
+        → (run ms events).state i ≡ Some s → IsNewest ms.count (run ms events) s
+        → (readings_at (run ms events) i).last ≡ length (run ms events).log }
+{}
+
+/// In a timed run whose quorum is led, the leader has the whole log. No member is in a full synchronization, or lacks more
+/// than one version.
+pub fn law_led_quorum_has_the_log()
+    ensures { (ms : Monitors) (q : List Bool) (pace : Pace) (reign : Reign) (r : Round) (t : Timed) → Reached ms t.world
+        → Steady ms q pace reign r t → IsAsLed q reign t.world }
+{}
+
+/// A quorum that is led and loses its leader is deserted by it, if no call for an election is under way. Each other
+/// member follows it until 10 seconds after that at the latest. None of them needs a copy of another's versions, and no
+/// call or answer to a probe is under way.
+pub fn law_lost_leader_deserts()
+    ensures { (ms : Monitors) (full q : List Bool) (pace : Pace) (earlier : ℕ) (reign : Reign) (r : Round) (t : Timed)
+        → Reached ms t.world → Steady ms full (from_time earlier pace) reign r t → IsWithout full q reign.leader
+        → Begins ms q pace t → NobodyCalls q t → suc reign.epoch ≤ 2 ^ 62
+        → Deserted q pace reign.epoch (pace.since + 10000) t }
+{}

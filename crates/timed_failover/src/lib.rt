@@ -1,0 +1,6 @@
+//! That a quorum which loses a monitor is led again in time, in a run whose messages and timers are punctual.
+#![tactic(auto)]
+
+mod laws;
+
+pub use laws::{law_leader_has_the_log, law_led_quorum_has_the_log, law_lost_leader_deserts};
