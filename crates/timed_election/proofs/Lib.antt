@@ -4,6 +4,11 @@ pub mod Ending
 pub mod Entering
 pub mod Events
 pub mod FollowingRows
+pub mod JoinedTurns
+pub mod Joining
+pub mod JoiningFrame
+pub mod JoiningRun
+pub mod JoiningTurns
 pub mod Leaving
 pub mod Lists
 pub mod Outcomes

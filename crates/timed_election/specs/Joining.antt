@@ -85,9 +85,9 @@ pub record JoinBy (ms : Monitors) (q : List Bool) (pace : Pace) (best epoch : �
   pub parts : more ≡ before ++ after
   pub reached : Timed
   pub run : Leads ms q pace t before reached
-  pub time : reached.time ≤ u
   pub election : Election
   pub epoch_is : election.epoch ≡ epoch
   pub best_is : election.best ≡ best
+  pub soon : reached.time ≤ election.by
   pub by : election.by ≤ u
   pub elects : Elects ms q pace election reached

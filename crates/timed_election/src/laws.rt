@@ -1,11 +1,12 @@
-ghost use Rattle.std.specs.Prelude.{ℕ, ◌*◌, ◌+◌, ◌<◌, ◌≤◌, Bool, List};
+ghost use Rattle.std.specs.Prelude.{ℕ, suc, ◌*◌, ◌+◌, ◌<◌, ◌≤◌, Bool, List};
 ghost use Rattle.quorum_model.specs.Monitors.{Monitors};
 ghost use Rattle.quorum_model.specs.World.{Event};
 ghost use Rattle.quorum_stays.specs.Reading.{ClocksGoOn};
 ghost use Rattle.quorum_stays.specs.SteppingDown.{EachIs};
 ghost use Rattle.quorum_timed.specs.Begins.{IsQuick};
 ghost use Rattle.quorum_timed.specs.Timed.{Leads, Pace, Timed};
-ghost use Rattle.timed_election.specs.Election.{Election, Elects, IsWonBy};
+ghost use Rattle.timed_election.specs.Election.{CanElect, Election, Elects, IsWonBy};
+ghost use Rattle.timed_election.specs.Joining.{Deserted, JoinBy};
 ghost use Rattle.timed_election.specs.Keeping.{IsWonWithin};
 ghost use Rattle.timed_election.specs.Probing.{CanAnswer, GoesOnBy, Probes};
 
@@ -17,6 +18,17 @@ pub fn law_probing_ends()
         → 2 * pace.delay < 2000 → Probes ms pace i at q t → (run : Leads ms q pace t more last)
         → EachIs ms q pace (CanAnswer q) t more last run → at + 2 * pace.delay < last.time
         → GoesOnBy ms q pace t more i (at + 2 * pace.delay) }
+{}
+
+/// The members of a majority that follow lost leaders join one election in time. Whose lease ends first probes, and calls
+/// the election when it hears that the others are in a quorum or that a majority isn't. Each other member joins when it
+/// hears the call, or calls by itself. All take part by two delays after the last lease may end.
+pub fn law_members_join()
+    ensures { (ms : Monitors) (q : List Bool) (pace : Pace) (best epoch by : ℕ) (t last : Timed)
+        (more : List (ℕ × Event)) → IsQuick pace → 2 * pace.delay < 2000 → CanElect ms q best
+        → Deserted q pace epoch by t → Leads ms q pace t more last → ClocksGoOn q pace last.time
+        → by + pace.late + 2 * pace.delay < last.time
+        → JoinBy ms q pace best (suc epoch) t more (by + pace.late + 2 * pace.delay) }
 {}
 
 /// An election ends in time if all members of a majority joined it within three delays. The member that outranks the
