@@ -1,8 +1,8 @@
 """The forms of the language: expressions, patterns and clauses, as they are read from a file. Each has the line on which it begins."""
 from __future__ import annotations
 
-from dataclasses import dataclass, field, fields
-from typing import Dict, Iterator, Optional, Set, Tuple
+from dataclasses import dataclass, field
+from typing import Dict, Iterator, List, Optional, Set, Tuple
 
 
 class Fault(Exception):
@@ -207,12 +207,19 @@ def below(node: object) -> Iterator[Node]:
         for part in node:
             yield from below(part) if isinstance(part, (tuple, list)) else [part] if isinstance(part, Node) else []
     elif isinstance(node, Node):
-        yield from below([getattr(node, part.name) for part in fields(node)])
+        yield from below([getattr(node, name) for name in node.__dataclass_fields__])
 
 
 def names_in(node: object) -> Set[str]:
     """The names in an expression, local or not."""
-    found = {node.name} if isinstance(node, Name) else set()
-    for part in below(node):
-        found |= names_in(part)
+    found: Set[str] = set()
+    left: List[object] = [node]
+    while left:
+        it = left.pop()
+        if isinstance(it, (tuple, list)):
+            left += it
+        elif isinstance(it, Node):
+            if isinstance(it, Name):
+                found.add(it.name)
+            left += [getattr(it, name) for name in it.__dataclass_fields__]
     return found

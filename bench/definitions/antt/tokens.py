@@ -6,13 +6,15 @@ from typing import List, NamedTuple
 
 from .nodes import Fault
 
-TOKEN = re.compile(r'''
-    (?P<space>[ \t]+) | (?P<end>\n) | (?P<comment>--[^\n]*) |
+SPACE = r'[ \t]*(?:--[^\n]*)?'
+# A token, or the end of a line, with the spaces and the comment before it.
+TOKEN = re.compile(SPACE + r'''(?:
+    (?P<end>\n) |
     (?P<text>"[^"\n]*") |
     (?P<number>[0-9]+(?![A-Za-z_])) |
     (?P<name>[A-Za-z_ℕ◌⊥«»][A-Za-z0-9_'◌»]*(?:-[A-Za-z][A-Za-z0-9_']*)*) |
     (?P<sign>>>=|&&|\|\||==|\+\+|[▸∷+\-*/%^≡≢≤<×⊎↔→←↦=λ.(){}\[\];,|:¬⊗?])
-''', re.VERBOSE)
+)''', re.VERBOSE)
 
 
 class Token(NamedTuple):
@@ -31,16 +33,17 @@ def tokens_of(source: str, file: str) -> List[Token]:
     """The tokens of a text, without spaces and comments. Raises Fault at a character that begins none."""
     found: List[Token] = []
     at, line, begin, is_first = 0, 1, 0, True
-    match = TOKEN.match
-    while at < len(source):
-        token = match(source, at)
-        if token is None:
-            raise Fault(file, line, f'{source[at:at + 20]!r} begins no token')
-        kind, stop = token.lastgroup or '', token.end()
+    for token in TOKEN.finditer(source + '\n'):
+        if token.start() != at:
+            break
+        kind, at = token.lastgroup or '', token.end()
         if kind == 'end':
-            line, begin, is_first = line + 1, stop, True
-        elif kind not in ('space', 'comment'):
-            found.append(Token(kind, token.group(), line, at - begin, is_first, at, stop))
+            line, begin, is_first = line + 1, at, True
+        else:
+            start = token.start(kind)
+            found.append(Token(kind, token[kind], line, start - begin, is_first, start, at))
             is_first = False
-        at = stop
+    if at <= len(source):
+        rest = re.sub(SPACE, '', source[at:], count=1)
+        raise Fault(file, line, f'{rest[:20]!r} begins no token')
     return found
