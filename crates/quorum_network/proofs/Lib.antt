@@ -20,6 +20,7 @@ pub mod Letters
 pub mod Lives
 pub mod Mails
 pub mod Named
+pub mod Names
 pub mod OfCore
 pub mod Played
 pub mod Playing
