@@ -102,9 +102,13 @@ class Checks:
     def __init__(self, only: str | None):
         self.only, self.passed, self.failed, self.skipped = only, 0, 0, 0
 
+    def takes(self, name: str) -> bool:
+        """Whether the check of this name is run."""
+        return self.only is None or self.only in name
+
     def __call__(self, name: str, check, *words):
         """Runs a check, which fails if it raises anything but Skipped, or returns False."""
-        if self.only is not None and self.only not in name:
+        if not self.takes(name):
             return
         try:
             good, why = check(*words) is not False, ''
