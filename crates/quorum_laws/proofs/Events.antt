@@ -1,11 +1,10 @@
 -- Every event keeps what holds.
 use Rattle.mon_bytes.specs.declared.command.Command.{Command}
-use Rattle.mon_kv.specs.Readers.{most_size, size_of}
 use Rattle.mon_msg.proofs.Changed.{readings-joined}
 use Rattle.mon_msg.specs.Joined.{joined}
 use Rattle.mon_msg.specs.Protocol.Changes.{encoded}
 use Rattle.mon_msg.specs.Protocol.Course.{Course}
-use Rattle.mon_msg.specs.Protocol.Reaction.{Reaction, any_reaction, reaction_of}
+use Rattle.mon_msg.specs.Protocol.Reaction.{reaction_of}
 use Rattle.mon_msg.specs.Protocol.Phases.{is_member}
 use Rattle.mon_msg.specs.Protocol.Readings.{Readings, epoch_of, or_zero, promise_of, readings_of, shared_entries}
 use Rattle.mon_msg.specs.Protocol.State.{State, booting}
@@ -14,7 +13,6 @@ use Rattle.mon_msg.specs.declared.input.Input.{Input}
 use Rattle.mon_msg.specs.declared.view.Me.{Me}
 use Rattle.mon_tx.specs.Map.{Store, apply}
 use Rattle.mon_tx.specs.declared.op.Op.{Op}
-use Rattle.mon_types.specs.declared.names.Which.{Which}
 use Rattle.mon_wire.specs.declared.request.Session.{Session}
 use Rattle.quorum_history.proofs.Frame.{accepted_lasts}
 use Rattle.quorum_history.proofs.History.{ALevel, ANumber, APromise, Accepted, AnEpoch, Asks, Entry, Had, asking, ext_refl, had_lasts, triple}
@@ -34,19 +32,21 @@ use Rattle.quorum_laws.specs.Commands.{WasAsked}
 use Rattle.quorum_laws.specs.Promises.{Collects, last_number}
 use Rattle.quorum_model.specs.Clients.{messages_of, with_asked}
 use Rattle.quorum_model.specs.Events.{AllFit, PlainFits}
-use Rattle.quorum_model.specs.Happens.{Full, Stop, after_meeting, happens, in_world, is_active, kept_only, lost, moved, put_at, unless_stopped, unmoved}
-use Rattle.quorum_model.specs.Meets.{Meeting, Reacts}
+use Rattle.quorum_model.proofs.Happening as happening
+use Rattle.quorum_model.proofs.Happening.{Leads, of_next, run_leads, runs_apart}
+use Rattle.quorum_model.specs.Happens.{happens, is_active, kept_only, lost, moved, put_at, unmoved}
 use Rattle.quorum_model.specs.Monitors.{Monitors}
-use Rattle.quorum_model.specs.Runs.{goes_on, ran_from, run, run_from}
-use Rattle.quorum_model.specs.World.{Asked, Arrives, Crash, Envelope, Event, Plain, World, first_world, plain_of}
+use Rattle.quorum_model.specs.Runs.{run, run_from}
+use Rattle.quorum_model.specs.World.{Asked, Envelope, Event, Plain, World, first_world, plain_of}
 use Rattle.quorum_walk.proofs.FineCourses.{begun, still, Ended, EntryFine, Fine, fit_fits}
 use Rattle.quorum_walk.proofs.FineTable.{ComesFine, react_fine}
 use Rattle.quorum_walk.proofs.Lists.{Among, all_append}
 use Rattle.quorum_walk.proofs.Sparing.{own_of}
 use Rattle.quorum_walk.proofs.Walk.{Then}
 pub use Rattle.quorum_laws.proofs.Meetings.{Arriving, IsNoted, ToldOf, member_of}
-use Rattle.quorum_laws.proofs.Meetings.{OfMeeting, each_meeting}
-use Rattle.std.proofs.Common.{Bool, Err, IfSome, List, None, Ok, Option, Result, Some, [], ap, arith, cond, eqb, false, inl, inr, ltb, refl, subst, sym, true, ℕ, ◌%◌, ◌++◌, ◌<◌, ◌∙◌, ◌∷◌, ◌≡◌, ◌≤◌, ◌⊎◌}
+pub use Rattle.quorum_model.proofs.Happening.{unless_full}
+use Rattle.quorum_laws.proofs.Meetings.{Adds, adds, arriving}
+use Rattle.std.proofs.Common.{Bool, IfSome, List, None, Ok, Option, Some, [], ap, arith, cond, eqb, false, inl, inr, ltb, refl, subst, sym, true, ℕ, ◌%◌, ◌++◌, ◌<◌, ◌∙◌, ◌∷◌, ◌≡◌, ◌≤◌, ◌⊎◌}
 use Rattle.std.proofs.lemmas.Bool.{cond_both, eqb-true, false≢true}
 use Rattle.std.specs.List.{AllByRecursion}
 use Rattle.std.specs.Prelude.{IfOk}
@@ -203,10 +203,6 @@ lost_stays store state i j = by (eqb j i)
 
 -- ---- an event
 
--- whatever becomes of a transaction, the run goes on with it or stops
-pub unless_full : (P : World → Type 0) (m : Store) (next : Reaction → World) (r : Reaction) → P (next r) → IfOk (in_world next (unless_stopped m (Ok r))) P
-unless_full P m next r p = cond_both (ltb most_size (size_of (apply r.transaction m))) (Err (Full (size_of (apply r.transaction m)))) (Ok r) (λ (x : Result Reaction Stop). IfOk (in_world next x) P) (λ _. tt) (λ _. p)
-
 module _ (ms : Monitors) (w : World) (Told : Envelope → Type 0) where
   -- and what it does
   pub record Does (asked : List Asked) (I : InvWith ms w asked) : Type 0 where
@@ -221,45 +217,19 @@ module _ (ms : Monitors) (w : World) (Told : Envelope → Type 0) where
     pub goes_on : (d : Does (with_asked p w.asked) I) → P (moved w p d.by.rank (reaction_of d.y))
     pub goes_down : (d : Does (with_asked p w.asked) I) → P (kept_only w p d.by.rank (reaction_of d.y))
 
-  -- it comes, or with it a crash that keeps or loses what is written
-  abbrev event_of : Option Bool → Plain → Event
-  event_of None p = Arrives p
-  event_of (Some kept) p = Crash p kept
+  -- it is so whatever what is asked adds to the history
+  pub each_event : (I : InvOf ms w) (P : World → Type 0) → AllByRecursion Told w.messages → (e : Event) → PlainFits ms.count (plain_of e)
+      → ((J : InvWith ms w (with_asked (plain_of e) w.asked)) → Further I.g J.g → Keeps (plain_of e) J P) → IfOk (happens ms w e) P
+  each_event I P T e F K = happening.each_event ms w P e k.nothing k.loses (λ d. k.goes_on (does d)) (λ d. k.goes_down (does d))
+    where
+      A : Adds ms w I (plain_of e)
+      A = adds ms w I (plain_of e) F
 
-  -- what becomes of what it meets
-  abbrev Follows : (P : World → Type 0) (p : Plain) → Option Bool → Meeting → Type 0
-  Follows P p how met = IfOk (after_meeting w (event_of how p) met) P
+      k : Keeps (plain_of e) A.0 P
+      k = K A.0 A.1
 
-  module _ (P : World → Type 0) (p : Plain) (I : InvWith ms w (with_asked p w.asked)) (K : Keeps p I P) where
-    reacts : (how : Option Bool) (A : Arriving ms w Told (with_asked p w.asked) I) (r : Result Course Which)
-        → react (member_of ms A.rank A.lt) (shared_entries (w.store A.rank)) A.at (readings_of (w.store A.rank)) A.state
-        A.came ≡ r
-        → Follows P p how (Reacts A.rank A.came (any_reaction r))
-    reacts None A (Ok y) q =
-        unless_full P (w.store A.rank) (moved w p A.rank) (reaction_of y) (K.goes_on (record { by = A; y = y; is = q }))
-    reacts None A (Err which) q = tt
-    reacts (Some true) A (Ok y) q =
-        unless_full P (w.store A.rank) (kept_only w p A.rank) (reaction_of y)
-        (K.goes_down (record { by = A; y = y; is = q }))
-    reacts (Some true) A (Err which) q = tt
-    reacts (Some false) A r q = K.loses A.rank A.lt
-
-    follows : (how : Option Bool) → OfMeeting ms w Told p I (Follows P p how)
-    follows None = record { down = K.nothing; none = K.nothing; reacts = reacts None }
-    follows (Some true) = record { down = K.nothing; none = K.nothing; reacts = reacts (Some true) }
-    follows (Some false) = record { down = K.nothing; none = K.nothing; reacts = reacts (Some false) }
-
-  module _ (I : InvOf ms w) (P : World → Type 0) where
-    -- it is so whatever what is asked adds to the history
-    abbrev AllKeep : Plain → Type 0
-    AllKeep p = (J : InvWith ms w (with_asked p w.asked)) → Further I.g J.g → Keeps p J P
-
-    pub each_event : AllByRecursion Told w.messages → (e : Event) → PlainFits ms.count (plain_of e)
-        → AllKeep (plain_of e) → IfOk (happens ms w e) P
-    each_event T (Arrives p) F K =
-        each_meeting ms w Told I (Follows P p None) T p F (λ J up. follows P p J (K J up) None)
-    each_event T (Crash p kept) F K =
-        each_meeting ms w Told I (Follows P p (Some kept)) T p F (λ J up. follows P p J (K J up) (Some kept))
+      does : happening.Does ms w (plain_of e) → Does (with_asked (plain_of e) w.asked) A.0
+      does d = record { by = arriving ms w Told (plain_of e) F T A.0 A.2 d.by; y = d.y; is = d.is }
 
 -- every event keeps what holds, with a history that goes on
 abbrev pub After : (ms : Monitors) (w : World) (asked : List Asked) → InvWith ms w asked → World → Type 0
@@ -329,25 +299,26 @@ event_holds ms w e F I = each_event ms w any_told I (After ms w w.asked I) (all_
 abbrev pub GoesOn : (ms : Monitors) (w next : World) → InvOf ms w → Type 0
 GoesOn ms w next I = After ms w w.asked I next
 
+abbrev Fits : Monitors → Event → Type 0
+Fits ms e = PlainFits ms.count (plain_of e)
+
+abbrev Goes : (ms : Monitors) (w : World) → InvOf ms w → (next : World) → InvOf ms next → Type 0
+Goes ms w I next J = Further I.g J.g × Later w next
+
+next_holds : (ms : Monitors) (w : World) (e : Event) → Fits ms e → (I : InvOf ms w) (next : World) → happens ms w e ≡ Ok next → Leads ms (Fits ms) (InvOf ms) (Goes ms) w I next
+next_holds ms w e F I next q = let z = of_next (λ (next : World). GoesOn ms w next I) (happens ms w e) next q (event_holds ms w e F I) in (z.0, (z.1, z.2))
+
 run_holds : (ms : Monitors) (w : World) (events : List Event) → AllFit ms.count events → (I : InvOf ms w) → GoesOn ms w (run_from ms w events) I
-unfolding ran_from
-run_holds ms w [] F I = (I, further_refl I.g, later_refl w)
-run_holds ms w (e ∷ es) F I = by (happens ms w e) (event_holds ms w e F.0 I) (λ next. run_holds ms next es F.1)
-  where
-    by : (r : Result World Stop) → IfOk r (λ next. GoesOn ms w next I) → ((next : World) (J : InvOf ms next) → GoesOn ms next (run_from ms next es) J) → GoesOn ms w (goes_on w (λ next. ran_from ms next es) r).world I
-    by (Ok next) k ih = let z = ih next k.0 in (z.0, further_trans I.g k.0.g z.0.g k.1 z.1, later_trans w next (run_from ms next es) k.2 z.2)
-    by (Err stop) k ih = (I, further_refl I.g, later_refl w)
+run_holds ms w events F I =
+    let z = run_leads ms (Fits ms) (InvOf ms) (Goes ms) (λ w I. (further_refl I.g, later_refl w)) (λ u v w I J K a b. (further_trans I.g J.g K.g a.0 b.0, later_trans u v w a.1 b.1)) (next_holds ms) w events F I in
+    (z.0, z.1.0, z.1.1)
 
 pub all_runs : (ms : Monitors) (events : List Event) → AllFit ms.count events → InvOf ms (run ms events)
 all_runs ms events F = (run_holds ms first_world events F (at_first ms)).0
 
 -- a run, and one that goes on
-pub both_runs : (ms : Monitors) (w : World) (a b : List Event) → AllFit ms.count (a ++ b) → InvOf ms w → (I : InvOf ms (run_from ms w a)) × (J : InvOf ms (run_from ms w (a ++ b))) × ((r : Entry) → Among r I.g.roles → Among r J.g.roles) × Later (run_from ms w a) (run_from ms w (a ++ b))
-unfolding ran_from
-both_runs ms w [] b F I = let z = run_holds ms w b F I in (I, z.0, z.1.roles, z.2)
-both_runs ms w (e ∷ a) b F I = by (happens ms w e) (event_holds ms w e F.0 I) (λ next. both_runs ms next a b F.1)
-  where
-    by : (r : Result World Stop) → IfOk r (λ next. GoesOn ms w next I) → ((next : World) → InvOf ms next → (I : InvOf ms (run_from ms next a)) × (J : InvOf ms (run_from ms next (a ++ b))) × ((r : Entry) → Among r I.g.roles → Among r J.g.roles) × Later (run_from ms next a) (run_from ms next (a ++ b)))
-        → (I : InvOf ms (goes_on w (λ next. ran_from ms next a) r).world) × (J : InvOf ms (goes_on w (λ next. ran_from ms next (a ++ b)) r).world) × ((r : Entry) → Among r I.g.roles → Among r J.g.roles) × Later (goes_on w (λ next. ran_from ms next a) r).world (goes_on w (λ next. ran_from ms next (a ++ b)) r).world
-    by (Ok next) k ih = ih next k.0
-    by (Err stop) k ih = (I, I, λ r a. a, later_refl w)
+abbrev BothHold : Monitors → World → World → Type 0
+BothHold ms v w = (I : InvOf ms v) × (J : InvOf ms w) × ((r : Entry) → Among r I.g.roles → Among r J.g.roles) × Later v w
+
+pub both_runs : (ms : Monitors) (w : World) (a b : List Event) → AllFit ms.count (a ++ b) → InvOf ms w → BothHold ms (run_from ms w a) (run_from ms w (a ++ b))
+both_runs ms w a b F I = runs_apart ms (Fits ms) (InvOf ms) (λ w e fits I next q. (next_holds ms w e fits I next q).0) (BothHold ms) b (λ w I F. (let z = run_holds ms w b F I in (I, z.0, z.1.roles, z.2))) (λ w I. (I, I, λ r a. a, later_refl w)) w a F I

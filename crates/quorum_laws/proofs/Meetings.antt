@@ -12,6 +12,7 @@ use Rattle.mon_msg.specs.declared.input.Input.{Input}
 use Rattle.mon_tx.specs.Map.{Store}
 use Rattle.mon_tx.specs.declared.op.Op.{Op}
 use Rattle.mon_types.specs.declared.names.Which.{Which}
+use Rattle.mon_wire.specs.declared.message.Message.{Message}
 use Rattle.mon_wire.specs.declared.request.Request.TheVariants as request
 use Rattle.mon_wire.specs.declared.request.Request.{Request}
 use Rattle.mon_wire.specs.declared.request.Session.{Session}
@@ -26,17 +27,17 @@ use Rattle.quorum_laws.specs.Commands.{WasAsked}
 pub use Rattle.quorum_model.proofs.Members.{member_of}
 use Rattle.quorum_model.specs.Clients.{command_of, with_asked}
 use Rattle.quorum_model.specs.Events.{PlainFits, RequestFits}
-use Rattle.quorum_model.specs.Meets.{Down, Meeting, NoMessage, Reacts, meeting, meeting_at, meets, state_at}
-use Rattle.quorum_model.specs.Monitors.{Monitors, me_if}
-use Rattle.quorum_model.specs.World.{Asked, Client, Deliver, Envelope, Plain, Ring, Start, World}
+use Rattle.quorum_model.specs.Meets.{Down, Meeting, NoMessage, Reacts, meets}
+use Rattle.quorum_model.proofs.Happening as happening
+use Rattle.quorum_model.proofs.Happening.{Arrived, Brought}
+use Rattle.quorum_model.specs.Monitors.{Monitors}
+use Rattle.quorum_model.specs.World.{Asked, Client, Deliver, Envelope, Plain, World}
 use Rattle.quorum_walk.proofs.FineCourses.{EntryFine, RequestFine}
 use Rattle.quorum_walk.proofs.FineTable.{ComesFine}
 use Rattle.quorum_walk.proofs.Lists.{all_get}
-use Rattle.std.proofs.Common.{Bool, IfSome, List, None, Option, Result, Some, [], arith, false, inl, inr, ltb, refl, subst, suc, sym, true, zero, ℕ, ◌++◌, ◌<◌, ◌∷◌, ◌≡◌, ◌⊎◌}
+use Rattle.std.proofs.Common.{IfSome, List, Option, Result, Some, [], arith, inl, inr, ltb, refl, subst, suc, sym, true, ℕ, ◌++◌, ◌<◌, ◌∷◌, ◌≡◌, ◌⊎◌}
 use Rattle.std.proofs.lemmas.List.Elements.{Contains-append_right, Contains-push}
 use Rattle.std.specs.List.{AllByRecursion, Contains}
-use Rattle.std.specs.Option.{option_map}
-use Rattle.std.specs.Prelude.{slice_get}
 
 -- ---- what a client asks
 
@@ -160,108 +161,99 @@ module _ (ms : Monitors) (w : World) (Told : Envelope → Type 0) where
         → react (member_of ms A.rank A.lt) (shared_entries (w.store A.rank)) A.at (readings_of (w.store A.rank))
         A.state A.came ≡ r → Q (Reacts A.rank A.came (any_reaction r))
 
-  module _ (Q : Meeting → Type 0) (p : Plain) (I : InvWith ms w (with_asked p w.asked)) (K : OfMeeting p I Q) where
-    not_there : (met : Meeting) → (met ≡ Down) ⊎ (met ≡ NoMessage) → Q met
-    not_there met (inl q) = subst Q (sym q) K.down
-    not_there met (inr q) = subst Q (sym q) K.none
+-- ---- what arrives, in a history
 
-    module _ (rank at : ℕ) (came : Input)
-        (c : (lt : ltb rank ms.count ≡ true) → InputHolds (member_of ms rank lt) I.g came)
-        (d : (lt : ltb rank ms.count ≡ true) (S : AllByRecursion EntryFine (shared_entries (w.store rank)))
-        → ComesFine (member_of ms rank lt) at (readings_of (w.store rank)) made (shared_entries (w.store rank))
-        S came) (t : ToldOf Told rank came) (noted : IsNoted (with_asked p w.asked) rank came) where
-      -- it comes to a monitor that is up, down or unknown
-      arrives : (o : Option State) → OnState ms.count I.g rank (readings_of (w.store rank)) o → IfSome o StateFits
-          → ((s : State) → o ≡ Some s → (w.state rank ≡ Some s) ⊎ (s ≡ booting rank))
-          → (b : Bool) (q : ltb rank ms.count ≡ b)
-          → Q (meeting (record { rank = rank; at = at; input = came }) (w.store rank) (me_if ms rank b q) o)
-      arrives (Some s) k z r true q =
-          K.reacts (record {
-            rank = rank;
-            lt = q;
-            at = at;
-            state = s;
-            remembers = r s refl;
-            came = came;
-            on = k;
-            fits = z;
-            holds = c q;
-            fine = d q;
-            told = t;
-            noted = noted;
-          }) _ refl
-      arrives None k z r true q = not_there Down (inl refl)
-      arrives (Some s) k z r false q = not_there Down (inl refl)
-      arrives None k z r false q = not_there Down (inl refl)
+module _ (ms : Monitors) (w : World) (p : Plain) (a : Arrived ms w p) (asked : List Asked) (J : InvWith ms w asked) where
+  pub on : OnState ms.count J.g a.rank (readings_of (w.store a.rank)) (Some a.state)
+  on = by a.remembers
+    where
+      by : (w.state a.rank ≡ Some a.state) ⊎ (a.state ≡ booting a.rank) → OnState ms.count J.g a.rank (readings_of (w.store a.rank)) (Some a.state)
+      by (inl e) = subst (OnState ms.count J.g a.rank (readings_of (w.store a.rank))) e (J.mine a.rank).state
+      by (inr e) = subst (λ (s : State). OnState ms.count J.g a.rank (readings_of (w.store a.rank)) (Some s)) (sym e) tt
 
-      comes_to : OnState ms.count I.g rank (readings_of (w.store rank)) (state_at rank (w.state rank) came)
-          → IfSome (state_at rank (w.state rank) came) StateFits
-          → ((s : State) → state_at rank (w.state rank) came ≡ Some s
-          → (w.state rank ≡ Some s) ⊎ (s ≡ booting rank))
-          → Q (meeting_at ms w (Some (record { rank = rank; at = at; input = came })))
-      comes_to k z r = arrives (state_at rank (w.state rank) came) k z r (ltb rank ms.count) refl
+  pub fits : StateFits a.state
+  fits = by a.remembers
+    where
+      by : (w.state a.rank ≡ Some a.state) ⊎ (a.state ≡ booting a.rank) → StateFits a.state
+      by (inl e) = subst (λ (o : Option State). IfSome o StateFits) e (J.mine a.rank).fits
+      by (inr e) = subst StateFits (sym e) (record { found = tt; value = tt; pn = omega arith; stage = tt; queue = tt })
 
-    delivered : (at : ℕ) (o : Option Envelope) → IfSome o (EnvelopeHolds ms.count I.g) → IfSome o EnvelopeFine
-        → IfSome o Told
-        → Q (meeting_at ms w (option_map (λ v. record { rank = v.to; at = at; input = input.Deliver v.message }) o))
-    delivered at None k z t = not_there NoMessage (inr refl)
-    delivered at (Some v) k z t =
-        comes_to v.to at (input.Deliver v.message) (λ lt. k)
-        (λ lt S. (let a = k.0 in let b = ms.most in omega arith, z)) t tt (I.mine v.to).state (I.mine v.to).fits
-        (λ s e. inl e)
+  -- what is known of each envelope is known of the one that comes
+  pub sent_known : (P : Envelope → Type 0) → AllByRecursion P w.messages → (m : Message) → Brought ms w p a.rank (input.Deliver m) → P (record { to = a.rank; message = m })
+  sent_known P k m b = subst (λ (o : Option Envelope). IfSome o P) b.1 (all_get P w.messages b.0 k)
 
-  module _ (I : InvOf ms w) (Q : Meeting → Type 0) where
-    -- it is so whatever what is asked adds to the history
-    abbrev AllKeep : Plain → Type 0
-    AllKeep p = (J : InvWith ms w (with_asked p w.asked)) → Further I.g J.g → OfMeeting p J Q
+  pub said : (m : Message) → Brought ms w p a.rank (input.Deliver m) → EnvelopeHolds ms.count J.g (record { to = a.rank; message = m })
+  said m b = sent_known (EnvelopeHolds ms.count J.g) J.sent m b
 
-    asks_command : (rank at : ℕ) (s : Session) (r : Request) (c : Command) → rank < ms.count → command_of r ≡ Some c
-        → IsCommand c
-        → ((g : Ghost) → Asks g rank s c → IsAsked g rank s r) → RequestFine r → AllKeep (Client rank at s r)
-        → Q (meets ms w (Client rank at s r))
-    asks_command rank at s r c lt is form known fine K =
-        let A = command_asked ms.count w.store w.state w.transactions w.messages w.active w.asked I rank s r c lt is
-        form in
-        let J = A.0.0 in
-        comes_to Q (Client rank at s r) J (K J A.0.1) rank at (input.Client s r) (λ lt. known J.g A.1)
-        (λ lt S. fine) tt (Contains-push w.asked (record { rank = rank; session = s; request = r }))
-        (J.mine rank).state (J.mine rank).fits (λ s e. inl e)
+  pub fine : PlainFits ms.count p → (S : AllByRecursion EntryFine (shared_entries (w.store a.rank))) (came : Input) → Brought ms w p a.rank came → ComesFine (member_of ms a.rank a.lt) a.at (readings_of (w.store a.rank)) made (shared_entries (w.store a.rank)) S came
+  fine F S (input.Deliver m) b = (let k = (said m b).0 in let few = ms.most in omega arith, sent_known EnvelopeFine J.sizes m b)
+  fine F S (input.Client t r) b = by r (subst (PlainFits ms.count) b.1 F).1
+    where
+      by : (r : Request) → RequestFits r → RequestFine r
+      by (request.Set key value) k = k
+      by (request.Remove key) k = k
+      by (request.Log text) k = k
+      by other k = tt
+  fine F S other b = tt
 
-    asks_map : (rank at : ℕ) (s : Session) (r : Request) → ((g : Ghost) → IsAsked g rank s r) → RequestFine r
-        → AllKeep (Client rank at s r)
-        → Q (meets ms w (Client rank at s r))
-    asks_map rank at s r known fine K =
-        let A = map_asked ms.count w.store w.state w.transactions w.messages w.active w.asked I
-        (record { rank = rank; session = s; request = r } ∷ []) in
-        let J = A.0 in
-        comes_to Q (Client rank at s r) J (K J A.1) rank at (input.Client s r) (λ lt. known J.g) (λ lt S. fine) tt
-        (Contains-push w.asked (record { rank = rank; session = s; request = r })) (J.mine rank).state
-        (J.mine rank).fits (λ s e. inl e)
+  pub told_so : (Told : Envelope → Type 0) → AllByRecursion Told w.messages → (came : Input) → Brought ms w p a.rank came → ToldOf Told a.rank came
+  told_so Told T (input.Deliver m) b = sent_known Told T m b
+  told_so Told T other b = tt
 
-    asks_for : (rank at : ℕ) (s : Session) (r : Request) → rank < ms.count → RequestFits r
-        → AllKeep (Client rank at s r)
-        → Q (meets ms w (Client rank at s r))
-    asks_for rank at s (request.Set key value) lt F K =
-        asks_command rank at s (request.Set key value) (command.Set key value) lt refl F (λ g a. a) F K
-    asks_for rank at s (request.Remove key) lt F K =
-        asks_command rank at s (request.Remove key) (command.Remove key) lt refl F (λ g a. a) F K
-    asks_for rank at s (request.Log text) lt F K =
-        asks_command rank at s (request.Log text) (command.Log text) lt refl F (λ g a. a) F K
-    asks_for rank at s (request.Show v) lt F K = asks_map rank at s (request.Show v) (λ g. tt) tt K
-    asks_for rank at s (request.Since v k) lt F K = asks_map rank at s (request.Since v k) (λ g. tt) tt K
+-- what is asked is in the history
+abbrev Knows : Ghost → Plain → Type 0
+Knows g (Client rank at s r) = IsAsked g rank s r
+Knows g other = Unit {0}
 
-    pub each_meeting : AllByRecursion Told w.messages → (p : Plain) → PlainFits ms.count p → AllKeep p
-        → Q (meets ms w p)
-    each_meeting T (Start rank at) F K =
-        comes_to Q (Start rank at) I (K I (further_refl I.g)) rank at input.Start (λ lt. tt) (λ lt S. tt) tt tt tt
-        (record { found = tt; value = tt; pn = omega arith; stage = tt; queue = tt })
-        (λ s e. let q : s ≡ booting rank = cc in inr q)
-    each_meeting T (Deliver zero at) F K = not_there Q (Deliver zero at) I (K I (further_refl I.g)) NoMessage (inr refl)
-    each_meeting T (Deliver (suc k) at) F K =
-        delivered Q (Deliver (suc k) at) I (K I (further_refl I.g)) at (slice_get w.messages k)
-        (all_get (EnvelopeHolds ms.count I.g) w.messages k I.sent) (all_get EnvelopeFine w.messages k I.sizes)
-        (all_get Told w.messages k T)
-    each_meeting T (Ring rank timer at) F K =
-        comes_to Q (Ring rank timer at) I (K I (further_refl I.g)) rank at (input.Timer timer) (λ lt. tt)
-        (λ lt S. tt) tt tt (I.mine rank).state (I.mine rank).fits (λ s e. inl e)
-    each_meeting T (Client rank at s r) F K = asks_for rank at s r F.0 F.1 K
+module _ (ms : Monitors) (w : World) (Told : Envelope → Type 0) (p : Plain) (F : PlainFits ms.count p) (T : AllByRecursion Told w.messages) (J : InvWith ms w (with_asked p w.asked)) (known : Knows J.g p) (a : Arrived ms w p) where
+  pub holds : (came : Input) → Brought ms w p a.rank came → InputHolds (member_of ms a.rank a.lt) J.g came
+  holds (input.Deliver m) b = said ms w p a (with_asked p w.asked) J m b
+  holds (input.Client t r) b = subst (Knows J.g) b.1 known
+  holds other b = tt
+
+  pub noted : (came : Input) → Brought ms w p a.rank came → IsNoted (with_asked p w.asked) a.rank came
+  noted (input.Client t r) b = let one : Asked = record { rank = a.rank; session = t; request = r } in subst (λ (z : Plain). Contains (with_asked z w.asked) one) (sym b.1) (Contains-push w.asked one)
+  noted other b = tt
+
+  abbrev pub arriving : Arriving ms w Told (with_asked p w.asked) J
+  arriving = record {
+    rank = a.rank;
+    lt = a.lt;
+    at = a.at;
+    state = a.state;
+    remembers = a.remembers;
+    came = a.came;
+    on = on ms w p a (with_asked p w.asked) J;
+    fits = fits ms w p a (with_asked p w.asked) J;
+    holds = holds a.came a.brought;
+    fine = λ S. fine ms w p a (with_asked p w.asked) J F S a.came a.brought;
+    told = told_so ms w p a (with_asked p w.asked) J Told T a.came a.brought;
+    noted = noted a.came a.brought;
+  }
+
+module _ (ms : Monitors) (w : World) (I : InvOf ms w) where
+  -- what an event asks is added to the history
+  abbrev pub Adds : Plain → Type 0
+  Adds p = (J : InvWith ms w (with_asked p w.asked)) × Further I.g J.g × Knows J.g p
+
+  pub adds : (p : Plain) → PlainFits ms.count p → Adds p
+  adds (Client rank at s r) F = by r F.1
+    where
+      asks : (r : Request) (c : Command) → command_of r ≡ Some c → IsCommand c → ((g : Ghost) → Asks g rank s c → IsAsked g rank s r) → Adds (Client rank at s r)
+      asks r c is form known = let A = command_asked ms.count w.store w.state w.transactions w.messages w.active w.asked I rank s r c F.0 is form in (A.0.0, A.0.1, known A.0.0.g A.1)
+
+      reads : (r : Request) → ((g : Ghost) → IsAsked g rank s r) → Adds (Client rank at s r)
+      reads r known = let A = map_asked ms.count w.store w.state w.transactions w.messages w.active w.asked I (record { rank = rank; session = s; request = r } ∷ []) in (A.0, A.1, known A.0.g)
+
+      by : (r : Request) → RequestFits r → Adds (Client rank at s r)
+      by (request.Set key value) k = asks (request.Set key value) (command.Set key value) refl k (λ g a. a)
+      by (request.Remove key) k = asks (request.Remove key) (command.Remove key) refl k (λ g a. a)
+      by (request.Log text) k = asks (request.Log text) (command.Log text) refl k (λ g a. a)
+      by (request.Show v) k = reads (request.Show v) (λ g. tt)
+      by (request.Since v n) k = reads (request.Since v n) (λ g. tt)
+  adds other F = (I, further_refl I.g, tt)
+
+-- it is so whatever what is asked adds to the history
+pub each_meeting : (ms : Monitors) (w : World) (Told : Envelope → Type 0) (I : InvOf ms w) (Q : Meeting → Type 0) → AllByRecursion Told w.messages → (p : Plain) → PlainFits ms.count p
+    → ((J : InvWith ms w (with_asked p w.asked)) → Further I.g J.g → OfMeeting ms w Told p J Q) → Q (meets ms w p)
+each_meeting ms w Told I Q T p F K = let A = adds ms w I p F in let k = K A.0 A.1 in happening.each_meeting ms w p Q k.down k.none (λ a r q. k.reacts (arriving ms w Told p F T A.0 A.2 a) r q)
