@@ -6,6 +6,7 @@ use Rattle.quorum_agreement.proofs.LoneWorlds.{LoneFollows, LoneHolds, lone_aski
 use Rattle.quorum_agreement.proofs.Worlds.{Follows, all_follow, asking}
 use Rattle.quorum_agreement.specs.Growing.{GrowsBy}
 use Rattle.quorum_laws.proofs.Events.{each_event}
+use Rattle.quorum_model.proofs.Happening.{of_next, run_keeps, runs_apart}
 use Rattle.quorum_model.specs.Events.{AllFit, PlainFits}
 use Rattle.quorum_model.specs.Happens.{Stop, happens}
 use Rattle.quorum_model.specs.Monitors.{Monitors}
@@ -28,14 +29,14 @@ module _ (ms : Monitors) (P : World → Type 0) (follows : (w : World) (e : Even
   abbrev After : World → Result World Stop → Type 0
   After w r = IfOk r (λ next. P next × GrowsByOne w.log next.log)
 
+  abbrev Fits : Event → Type 0
+  Fits e = PlainFits ms.count (plain_of e)
+
+  next_holds : (w : World) (e : Event) → Fits e → P w → (next : World) → happens ms w e ≡ Ok next → P next
+  next_holds w e F h next q = (of_next (λ (next : World). P next × GrowsByOne w.log next.log) (happens ms w e) next q (follows w e F h)).0
+
   pub runs_hold : (w : World) (events : List Event) → AllFit ms.count events → P w → P (run_from ms w events)
-  unfolding ran_from
-  runs_hold w [] F h = h
-  runs_hold w (e ∷ es) F h = by (happens ms w e) (follows w e F.0 h) (λ next. runs_hold next es F.1)
-    where
-      by : (r : Result World Stop) → After w r → ((next : World) → P next → P (run_from ms next es)) → P (goes_on w (λ next. ran_from ms next es) r).world
-      by (Ok next) k ih = ih next k.0
-      by (Err stop) k ih = h
+  runs_hold = run_keeps ms Fits P next_holds
 
   grows_from : (w : World) (events : List Event) → AllFit ms.count events → P w → GrowsBy (length events) w.log (run_from ms w events).log
   unfolding ran_from
@@ -47,14 +48,7 @@ module _ (ms : Monitors) (P : World → Type 0) (follows : (w : World) (e : Even
       by (Err stop) k ih = as_it_is (suc (length es)) w.log
 
   grows_on : (w : World) (before after : List Event) → AllFit ms.count (before ++ after) → P w → GrowsBy (length after) (run_from ms w before).log (run_from ms w (before ++ after)).log
-  unfolding ran_from
-  grows_on w [] after F h = grows_from w after F h
-  grows_on w (e ∷ es) after F h = by (happens ms w e) (follows w e F.0 h) (λ next. grows_on next es after F.1)
-    where
-      by : (r : Result World Stop) → After w r → ((next : World) → P next → GrowsBy (length after) (run_from ms next es).log (run_from ms next (es ++ after)).log)
-          → GrowsBy (length after) (goes_on w (λ next. ran_from ms next es) r).world.log (goes_on w (λ next. ran_from ms next (es ++ after)) r).world.log
-      by (Ok next) k ih = ih next k.0
-      by (Err stop) k ih = as_it_is (length after) w.log
+  grows_on w before after F h = runs_apart ms Fits P next_holds (λ u v. GrowsBy (length after) u.log v.log) after (λ w h F. grows_from w after F h) (λ w h. as_it_is (length after) w.log) w before F h
 
 -- ---- several monitors, and one
 
