@@ -51,14 +51,15 @@ use Rattle.quorum_model.specs.Agree.{Agree, Agrees}
 use Rattle.quorum_model.specs.Clients.{messages_of, replies_of, with_asked}
 use Rattle.quorum_model.specs.Events.{AllFit, PlainFits}
 use Rattle.quorum_model.specs.Growth.{last_of}
-use Rattle.quorum_model.specs.Happens.{Stop, happens, kept_only, lost, moved, unmoved}
+use Rattle.quorum_model.proofs.Happening.{of_next, runs_apart}
+use Rattle.quorum_model.specs.Happens.{happens, kept_only, lost, moved, unmoved}
 use Rattle.quorum_model.specs.Kept.{IsKeptIn}
 use Rattle.quorum_model.specs.Monitors.{Monitors}
-use Rattle.quorum_model.specs.Runs.{goes_on, ran_from, run, run_from}
+use Rattle.quorum_model.specs.Runs.{run, run_from}
 use Rattle.quorum_model.specs.World.{Acknowledged, Asked, Envelope, Event, Plain, Replied, World, first_world, plain_of}
 use Rattle.quorum_walk.proofs.Lists.{Among, all_among, all_append, all_map, among_left}
 use Rattle.quorum_walk.proofs.Sparing.{own_of}
-use Rattle.std.proofs.Common.{Err, List, Ok, Result, Some, [], ap, arith, false, inl, inr, length, refl, subst, sym, true, ℕ, ◌++◌, ◌<◌, ◌^◌, ◌∙◌, ◌∷◌, ◌≡◌, ◌≤◌}
+use Rattle.std.proofs.Common.{List, Ok, Some, [], ap, arith, false, inl, inr, length, refl, subst, sym, true, ℕ, ◌++◌, ◌<◌, ◌^◌, ◌∙◌, ◌∷◌, ◌≡◌, ◌≤◌}
 use Rattle.std.proofs.lemmas.Bool.{ltb-true}
 use Rattle.std.specs.List.{AllByRecursion, Contains}
 use Rattle.std.specs.Prelude.{IfOk}
@@ -375,14 +376,11 @@ module _ (ms : Monitors) where
   from_now : (w : World) (later : List Event) → AllFit ms.count later → Reached ms w → Holds ms first_world w → AllRefused w (run_from ms w later)
   from_now w later F R h = let O = (runs_on ms (Holds ms w) (follows ms w) w later F R (h.0, refusals_now first_world w h.0.g h.1)).1 in O.refused
 
-  both : (w : World) (earlier later : List Event) → AllFit ms.count (earlier ++ later) → Reached ms w → Holds ms first_world w → AllRefused (run_from ms w earlier) (run_from ms w (earlier ++ later))
-  unfolding ran_from
-  both w [] later F R h = from_now w later F R h
-  both w (e ∷ es) later F R h = by (happens ms w e) refl (follows ms first_world w e R F.0 h) (λ next S. both next es later F.1 S)
-    where
-      by : (r : Result World Stop) → happens ms w e ≡ r → IfOk r (GoesOn ms first_world w) → ((next : World) → Reached ms next → Holds ms first_world next → AllRefused (run_from ms next es) (run_from ms next (es ++ later))) → AllRefused (goes_on w (λ next. ran_from ms next es) r).world (goes_on w (λ next. ran_from ms next (es ++ later)) r).world
-      by (Ok next) q k ih = ih next (reached_next ms w next e F.0 q R) (k (log_prefix_next ms w next e F.0 q R))
-      by (Err stop) q k ih = let O = (refusals_now first_world w h.0.g h.1) in O.refused
+  abbrev Stands : World → Type 0
+  Stands w = Reached ms w × Holds ms first_world w
+
+  stands_next : (w : World) (e : Event) → PlainFits ms.count (plain_of e) → Stands w → (next : World) → happens ms w e ≡ Ok next → Stands next
+  stands_next w e F h next q = (reached_next ms w next e F q h.0, of_next (GoesOn ms first_world w) (happens ms w e) next q (follows ms first_world w e h.0 F h.1) (log_prefix_next ms w next e F q h.0))
 
   pub all_refused : (earlier later : List Event) → AllFit ms.count (earlier ++ later) → AllRefused (run ms earlier) (run ms (earlier ++ later))
-  all_refused earlier later F = both first_world earlier later F (reached_first ms) (at_start ms)
+  all_refused earlier later F = runs_apart ms (λ e. PlainFits ms.count (plain_of e)) Stands stands_next AllRefused later (λ w h F. from_now w later F h.0 h.1) (λ w h. let O = refusals_now first_world w h.1.0.g h.1.1 in O.refused) first_world earlier F (reached_first ms, at_start ms)

@@ -36,13 +36,14 @@ use Rattle.quorum_model.specs.Acknowledging.{acknowledgements_of}
 use Rattle.quorum_model.specs.Clients.{messages_of, replies_of, with_asked}
 use Rattle.quorum_model.specs.Events.{AllFit, PlainFits}
 use Rattle.quorum_model.specs.Growth.{last_of}
-use Rattle.quorum_model.specs.Happens.{Stop, happens, kept_only, lost, moved, put_at, unmoved}
+use Rattle.quorum_model.proofs.Happening.{of_next, run_keeps}
+use Rattle.quorum_model.specs.Happens.{happens, kept_only, lost, moved, put_at, unmoved}
 use Rattle.quorum_model.specs.Monitors.{Monitors}
-use Rattle.quorum_model.specs.Runs.{goes_on, ran_from, run, run_from}
+use Rattle.quorum_model.specs.Runs.{run}
 use Rattle.quorum_model.specs.World.{Acknowledged, Asked, Envelope, Event, Plain, Replied, World, first_world, plain_of}
 use Rattle.quorum_walk.proofs.Lists.{Among, all_append, all_both, all_map}
 use Rattle.quorum_walk.proofs.Sparing.{own_of}
-use Rattle.std.proofs.Common.{Bool, Err, List, None, Ok, Result, Some, [], ap, append-nil, arith, cond, eqb, false, inl, inr, ltb, refl, subst, suc, sym, true, ℕ, ◌<◌, ◌∙◌, ◌∷◌, ◌≡◌, ◌≤◌, ◌⊎◌}
+use Rattle.std.proofs.Common.{Bool, List, None, Some, [], ap, append-nil, arith, cond, eqb, false, inl, inr, ltb, refl, subst, suc, sym, true, ℕ, ◌<◌, ◌∙◌, ◌∷◌, ◌≡◌, ◌≤◌, ◌⊎◌}
 use Rattle.std.proofs.lemmas.Bool.{cases_lt, cases_order, eqb-true, ltb-true}
 use Rattle.std.specs.List.{AllByRecursion}
 use Rattle.std.specs.Prelude.{IfOk}
@@ -356,20 +357,11 @@ module _ (ms : Monitors) where
       marked_messages [] k = tt
       marked_messages (x ∷ xs) k = ((λ several. (k several).0), marked_messages xs (λ several. (k several).1))
 
-  run_holds : (w : World) (events : List Event) → AllFit ms.count events → Holds w → Holds (run_from ms w events)
-  unfolding ran_from
-  run_holds w [] F h = h
-  run_holds w (e ∷ es) F h = by (happens ms w e) (follows w e F.0 h) (λ next. run_holds next es F.1)
-    where
-      by : (r : Result World Stop) → IfOk r Holds → ((next : World) → Holds next → Holds (run_from ms next es)) → Holds (goes_on w (λ next. ran_from ms next es) r).world
-      by (Ok next) k ih = ih next k
-      by (Err stop) k ih = h
-
   first : Holds first_world
   first = (at_first ms, record { still = λ i s e. absurd cc; quiet = tt; replied = tt; acknowledged = tt; order = tt }, (λ several. record { sent = tt; up = λ i s e. absurd cc; reads = tt; writes = tt }), record { reads = tt; writes = tt; mixed = tt })
 
   pub after_events : (events : List Event) → AllFit ms.count events → Holds (run ms events)
-  after_events events F = run_holds first_world events F first
+  after_events events F = run_keeps ms (λ e. PlainFits ms.count (plain_of e)) Holds (λ w e fits h next q. of_next Holds (happens ms w e) next q (follows w e fits h)) first_world events F first
 
   -- an active leader has each operation of its epoch
   pub leader_covers : (w : World) → Holds w → (i : ℕ) (s : State) → i < ms.count → w.state i ≡ Some s → s.phase ≡ phase.Active → Covered w (epoch_of (readings_at w i)) (readings_at w i).last
