@@ -18,13 +18,15 @@ use Rattle.mon_wire.specs.declared.request.Session.{Session}
 use Rattle.quorum_agreement.proofs.Answered.{asker}
 use Rattle.quorum_agreement.proofs.LoneWorlds.{IsWhole}
 use Rattle.quorum_agreement.proofs.Result.{OneLog}
-use Rattle.quorum_commands.proofs.Sends.{HandsNone, IsCalm, IsCalmBody}
-use Rattle.quorum_commands.proofs.Coming.{Brought, Does, me, phase_holds}
+use Rattle.quorum_commands.proofs.Sends.{IsCalm, IsCalmBody}
+use Rattle.quorum_commands.proofs.Coming.{Does, me, phase_holds}
+use Rattle.quorum_laws.proofs.Meetings.{sent_known}
+use Rattle.quorum_model.proofs.Happening.{Brought}
 use Rattle.quorum_commands.proofs.Exchange.{Alike, at_second, exchanged, only_one, other_is, second_is, tickets_exchanged}
-use Rattle.quorum_commands.proofs.Idle.{AllFair, BodyReturns}
+use Rattle.quorum_commands.proofs.Idle.{BodyReturns}
 use Rattle.quorum_commands.proofs.Places.{AskedAt, IsSettled, Nowhere, Places, StillAt, Tickets}
 use Rattle.quorum_commands.proofs.Sources.{AskedBy, HasAsker, SettledBy, asks_more, newest_settled}
-use Rattle.quorum_commands.proofs.Steps.{Leaves, Refuses, Says, leaves}
+use Rattle.quorum_commands.proofs.Steps.{Leaves, Refuses, Says, Stills, leaves}
 use Rattle.quorum_commands.specs.Unmade.{AcknowledgesNone}
 use Rattle.quorum_history.proofs.History.{Ghost, Handed, hand}
 use Rattle.quorum_history.proofs.Holds.{FollowsIn, InPhase, IsHanded, core_of}
@@ -33,9 +35,9 @@ use Rattle.quorum_laws.proofs.Invariant.{Further, InvOf}
 use Rattle.quorum_model.specs.Clients.{command_of, messages_of, replies_of, with_asked}
 use Rattle.quorum_model.specs.Monitors.{Monitors}
 use Rattle.quorum_model.specs.World.{Asked, Envelope, Plain, Replied, World}
-use Rattle.quorum_walk.proofs.Lists.{all_among, all_get, all_map}
+use Rattle.quorum_walk.proofs.Lists.{all_among, all_map}
 use Rattle.quorum_walk.proofs.Sparing.{own_of}
-use Rattle.std.proofs.Common.{IfSome, List, Option, [], ap, inl, inr, length, subst, sym, ℕ, ◌<◌, ◌∙◌, ◌∷◌, ◌≡◌}
+use Rattle.std.proofs.Common.{List, Option, [], ap, inl, inr, length, subst, sym, ℕ, ◌<◌, ◌∙◌, ◌∷◌, ◌≡◌}
 use Rattle.std.proofs.lemmas.Bool.{cases_eq}
 use Rattle.std.proofs.lemmas.Option.{slice_get_within}
 use Rattle.std.specs.List.{AllByRecursion}
@@ -81,7 +83,7 @@ module _ (asked more : List Asked) (still : StillAt asked more) (places after : 
 
 module _ (ms : Monitors) (w : World) (p : Plain) (I : InvOf ms w) (places : Places) (T : Tickets ms.count places w.store w.state w.transactions w.messages w.asked w.log) (A : Answers I.g w.asked places w.messages w.replied) (d : Does ms w p) where
   abbrev i : ℕ
-  i = d.rank
+  i = d.by.rank
 
   abbrev pub asked : List Asked
   asked = with_asked p w.asked
@@ -90,28 +92,28 @@ module _ (ms : Monitors) (w : World) (p : Plain) (I : InvOf ms w) (places : Plac
   self = me ms w I p d
 
   abbrev w0 : Readings
-  w0 = readings_of (w.store d.rank)
+  w0 = readings_of (w.store d.by.rank)
 
   abbrev pub Settled : Session → Type 0
-  Settled t = IsSettled asked places d.rank t
+  Settled t = IsSettled asked places d.by.rank t
 
-  returns : (e : ℕ) (b : Body) → BodyBack I.g w.asked places i e b → BodyReturns self d.at w0 d.state Settled e b
+  returns : (e : ℕ) (b : Body) → BodyBack I.g w.asked places i e b → BodyReturns self d.by.at w0 d.by.state Settled e b
   returns e (body.Route seq r) k = λ u peon now_is a among same.
       let z = k u in
-      let follows : FollowsIn I.g i (core_of (own_of w0) d.state) = subst (InPhase ms.count I.g i (core_of (own_of w0) d.state)) (peon_is_peon d.state.phase peon) (phase_holds ms w I p d) in
-      let mine = all_among (IsHanded I.g i (epoch_of w0)) a d.state.clients.sessions among follows.sessions in
+      let follows : FollowsIn I.g i (core_of (own_of w0) d.by.state) = subst (InPhase ms.count I.g i (core_of (own_of w0) d.by.state)) (peon_is_peon d.by.state.phase peon) (phase_holds ms w I p d) in
+      let mine = all_among (IsHanded I.g i (epoch_of w0)) a d.by.state.clients.sessions among follows.sessions in
       let theirs = subst (λ (f : ℕ). Handed I.g i f a.seq z.0 z.1) now_is (subst (λ (s : ℕ). Handed I.g i e s z.0 z.1) (sym same) z.2) in
       let hands = I.glob.hands in
       let both = hands.once i (epoch_of w0) a.seq a.session z.0 mine.0 z.1 mine.1 theirs in
       subst (IsSettled asked places i) (sym both.0) (settled_lasts w.asked asked (asks_more p w.asked) places places (λ j lt q. q) i z.0 z.3)
   returns e other k = tt
 
-  pub may_answer : SettledBy ms w p I places T d Settled d.came
-  may_answer = by d.came d.brought
+  pub may_answer : SettledBy ms w p I places T d Settled d.by.came
+  may_answer = by d.by.came d.by.brought
     where
       by : (came : Input) → Brought ms w p i came → SettledBy ms w p I places T d Settled came
       by input.Start b = tt
-      by (input.Deliver m) b = returns m.epoch m.body (subst (λ (o : Option Envelope). IfSome o (Back I.g w.asked places)) b.1 (all_get (Back I.g w.asked places) w.messages b.0 A.back))
+      by (input.Deliver m) b = returns m.epoch m.body (sent_known ms w p d.by w.asked I (Back I.g w.asked places) A.back m b)
       by (input.Timer t) b = tt
       by (input.Client t r) b = newest_settled ms w p I places T d t r b
 
@@ -156,27 +158,18 @@ module _ (ms : Monitors) (w : World) (p : Plain) (I : InvOf ms w) (places : Plac
     module _ (h : Ghost) (F : Further I.g h) (event : ℕ) (m : Store) where
       -- of the answers of this event
       abbrev Said : Places → List Sent → Type 0
-      Said after out = AllByRecursion (Back h asked after) (messages_of out) × AllByRecursion (IsKnown asked after) (replies_of event d.rank m out)
+      Said after out = AllByRecursion (Back h asked after) (messages_of out) × AllByRecursion (IsKnown asked after) (replies_of event d.by.rank m out)
 
-      calm_said : (out : List Sent) → AllByRecursion IsCalm out → Said E.after out
+      calm_said : (out : List Sent) → AllByRecursion (IsCalm (Stills ms w p I L W places T d Settled may_answer E.after)) out → Said E.after out
       calm_said [] k = (tt, tt)
       calm_said (sent.Message to x ∷ out) k = let z = calm_said out k.1 in ((by x.body k.0, z.0), z.1)
         where
           by : (b : Body) → IsCalmBody b → BodyBack h asked E.after to x.epoch b
           by (body.Route seq r) k = λ u. absurd (k u)
           by other k = tt
-      calm_said (sent.Reply t r ∷ out) k = let z = calm_said out k.1 in (z.0, (λ u. absurd (k.0 u), z.1))
-
-      fair_said : ((k : ℕ) → E.after k ≡ places k) → (out : List Sent) → AllFair self d.at w0 d.state Settled out → Said E.after out
-      fair_said same [] k = (tt, tt)
-      fair_said same (sent.Message to x ∷ out) k = let z = fair_said same out k.1 in ((by x.body k.0, z.0), z.1)
-        where
-          by : (b : Body) → HandsNone b → BodyBack h asked E.after to x.epoch b
-          by (body.Route seq r) k = λ u. absurd (k u)
-          by other k = tt
-      fair_said same (sent.Reply t r ∷ out) k =
-          let z = fair_said same out k.1 in
-          (z.0, ((λ u. (let s = k.0 u in record { k = s.k; by = s.by; at = s.at; rank = s.rank; session = s.session; place = same s.k ∙ s.place })), z.1))
+      calm_said (sent.Reply t r ∷ out) k =
+          let z = calm_said out k.1 in
+          (z.0, ((λ u. (let a = k.0 u in let s = a.0 in record { k = s.k; by = s.by; at = s.at; rank = s.rank; session = s.session; place = a.1 s.k ∙ s.place })), z.1))
 
     -- ---- what becomes of places
 
@@ -185,7 +178,7 @@ module _ (ms : Monitors) (w : World) (p : Plain) (I : InvOf ms w) (places : Plac
       pub tickets : (store : ℕ → Store) (state : ℕ → Option State) (txs : ℕ → List (List Op)) (messages : List Envelope) (log : List (List ℕ)) → Tickets ms.count E.after store state txs messages asked log → Tickets ms.count after store state txs messages asked log
       pub stays : (k : ℕ) → k < length w.asked → places k ≡ Nowhere → after k ≡ Nowhere
       pub back : AllByRecursion (Back h asked after) (messages_of out)
-      pub known : AllByRecursion (IsKnown asked after) (replies_of event d.rank m out)
+      pub known : AllByRecursion (IsKnown asked after) (replies_of event d.by.rank m out)
 
     pub becomes : (h : Ghost) → Further I.g h → (event : ℕ) (m : Store) → Becomes h event m d.y.out
     becomes h F event m = by E.says
@@ -197,7 +190,7 @@ module _ (ms : Monitors) (w : World) (p : Plain) (I : InvOf ms w) (places : Plac
           tickets = refused_tickets R i t B same;
           stays = still_settled R i t B same;
           back = subst (λ (out : List Sent). AllByRecursion (Back h asked (exchanged_places R i t B same)) (messages_of out)) (sym out) tt;
-          known = subst (λ (out : List Sent). AllByRecursion (IsKnown asked (exchanged_places R i t B same)) (replies_of event d.rank m out)) (sym out) ((λ u. its_settled R i t B same), tt);
+          known = subst (λ (out : List Sent). AllByRecursion (IsKnown asked (exchanged_places R i t B same)) (replies_of event d.by.rank m out)) (sym out) ((λ u. its_settled R i t B same), tt);
         }
         refused R (origin.Forwarded f seq) tie same out = record {
           after = exchanged_places R f tie.0 tie.2 same;
@@ -205,7 +198,7 @@ module _ (ms : Monitors) (w : World) (p : Plain) (I : InvOf ms w) (places : Plac
           stays = still_settled R f tie.0 tie.2 same;
           back = subst (λ (out : List Sent). AllByRecursion (Back h asked (exchanged_places R f tie.0 tie.2 same)) (messages_of out)) (sym out)
               ((λ u. (tie.0, R.command, F.hands (hand f (epoch_of w0) seq tie.0 R.command) tie.1, its_settled R f tie.0 tie.2 same)), tt);
-          known = subst (λ (out : List Sent). AllByRecursion (IsKnown asked (exchanged_places R f tie.0 tie.2 same)) (replies_of event d.rank m out)) (sym out) tt;
+          known = subst (λ (out : List Sent). AllByRecursion (IsKnown asked (exchanged_places R f tie.0 tie.2 same)) (replies_of event d.by.rank m out)) (sym out) tt;
         }
 
         as_it_is : Said h F event m E.after d.y.out → Becomes h event m d.y.out
@@ -213,5 +206,4 @@ module _ (ms : Monitors) (w : World) (p : Plain) (I : InvOf ms w) (places : Plac
 
         by : Says ms w p I L W places T d Settled may_answer E.after → Becomes h event m d.y.out
         by (inl R) = refused R R.origin R.tie R.asks R.out
-        by (inr (inl calm)) = as_it_is (calm_said h F event m d.y.out calm)
-        by (inr (inr fair)) = as_it_is (fair_said h F event m fair.0 d.y.out fair.1)
+        by (inr calm) = as_it_is (calm_said h F event m d.y.out calm)

@@ -34,13 +34,13 @@ use Rattle.mon_wire.specs.declared.phase.Timer.{Timer}
 use Rattle.mon_wire.specs.declared.reply.Reply.TheVariants as reply
 use Rattle.mon_wire.specs.declared.reply.Reply.{Reply}
 use Rattle.mon_wire.specs.declared.request.Session.{Session}
-use Rattle.quorum_commands.proofs.Sends.{HandsNone}
+use Rattle.quorum_commands.proofs.Sends.{AllFair, HandsNone, IsFair}
 use Rattle.quorum_commands.specs.Unmade.{AcknowledgesNone}
 use Rattle.quorum_history.proofs.Phases.{no}
 use Rattle.quorum_history.proofs.Rows.{body_brings, brings}
 use Rattle.std.proofs.Common.{List, None, Option, Some, [], ap, arith, eqb, false, inl, inr, ltb, map, not, refl, subst, suc, sym, true, ℕ, ◌++◌, ◌<◌, ◌∙◌, ◌∷◌, ◌≡◌, ◌⊎◌}
 use Rattle.std.proofs.lemmas.Bool.{cond_both, eqb-false, eqb-true, not-true}
-use Rattle.std.specs.List.{AllByRecursion, filter}
+use Rattle.std.specs.List.{filter}
 use Rattle.table_walk.proofs.Acts.{acts_of}
 use Rattle.table_walk.proofs.Lists.{Among, all_append, all_map, all_of}
 use Rattle.table_walk.proofs.Steps.{ActSteps, FoundOf, HeardFrom, HeardLast, InHand, IsOwn, MayAnswer, MayCopy, MayLead, MayLearn, MayRaise, MaySay, MaySend, MayTell, MayWrite, Nothing, Steps, ValueOf, accepted_by_all, alone, brought, chosen, copied_chunk, copied_last_chunk, from_chunk, from_commit, from_last, from_last_chunk, leads_still, only_member, stood, unserved}
@@ -55,14 +55,6 @@ SameClients a b = (a.queue ≡ b.queue) × (a.taken ≡ b.taken)
 
 -- Settled says that a session may be given any reply.
 module _ (me : Me) (now : ℕ) (w : Readings) (s : State) (Settled : Session → Type 0) where
-  -- it hands no command on, and refuses only a session that is settled
-  abbrev pub IsFair : Sent → Type 0
-  IsFair (sent.Message to m) = HandsNone m.body
-  IsFair (sent.Reply t r) = AcknowledgesNone r → Settled t
-
-  abbrev pub AllFair : List Sent → Type 0
-  AllFair sends = AllByRecursion IsFair sends
-
   -- it is alone in its map, with no value pending and nothing to replay
   pub record Alone : Type 0 where
     pub one : me.member.monitors ≡ 1
@@ -74,7 +66,7 @@ module _ (me : Me) (now : ℕ) (w : Readings) (s : State) (Settled : Session →
   Leads c = ((is_leading s.phase ≡ true) × SameClients c s.clients) ⊎ (((votes s.phase ≡ true) × (is_even (epoch_of w) ≡ false)) ⊎ ((same_phase s.phase phase.Electing ≡ true) ⊎ (ltb 1 me.member.monitors ≡ false)))
 
   pub record Idle (y : Course) : Type 0 where
-    pub out : AllFair y.out
+    pub out : AllFair Settled y.out
     pub clients : SameClients y.state.clients s.clients ⊎ (y.state.clients ≡ no_clients)
     pub leads : is_leading y.state.phase ≡ true → Leads y.state.clients
     pub last : Alone → y.readings.last ≡ w.last
@@ -82,7 +74,7 @@ module _ (me : Me) (now : ℕ) (w : Readings) (s : State) (Settled : Session →
   abbrev x0 : Course
   x0 = at_rest w s
 
-  pub says : (sends : List Sent) → AllFair sends → Idle (record x0 { out = sends })
+  pub says : (sends : List Sent) → AllFair Settled sends → Idle (record x0 { out = sends })
   says sends O = record { out = O; clients = inl (refl, refl); leads = λ t. inl (t, (refl, refl)); last = λ a. refl }
 
   -- what comes back to a session that waits under this number settles it
@@ -103,7 +95,7 @@ module _ (me : Me) (now : ℕ) (w : Readings) (s : State) (Settled : Session →
 
   -- nothing more is pending than before, and no version is new
   record IdleAt (sent : List Sent) (c : Clients) (p : Phase) (r : Readings) : Type 0 where
-    out : AllFair sent
+    out : AllFair Settled sent
     clients : SameClients c s.clients ⊎ (c ≡ no_clients)
     leads : is_leading p ≡ true → Leads c
     last : Alone → (pending r ≡ None) × (r.last ≡ w.last)
@@ -115,8 +107,8 @@ module _ (me : Me) (now : ℕ) (w : Readings) (s : State) (Settled : Session →
   reads : {o : List Sent} {c : Clients} {p : Phase} {r : Readings} (q : Readings) → (Alone → (pending q ≡ None) × (q.last ≡ w.last)) → IdleAt o c p r → IdleAt o c p q
   reads q last A = record { out = A.out; clients = A.clients; leads = A.leads; last = last }
 
-  sends : {o : List Sent} {c : Clients} {p : Phase} {r : Readings} (more : List Sent) → AllFair more → IdleAt o c p r → IdleAt (o ++ more) c p r
-  sends {o} more k A = record { out = all_append IsFair o more A.out k; clients = A.clients; leads = A.leads; last = A.last }
+  sends : {o : List Sent} {c : Clients} {p : Phase} {r : Readings} (more : List Sent) → AllFair Settled more → IdleAt o c p r → IdleAt (o ++ more) c p r
+  sends {o} more k A = record { out = all_append (IsFair Settled) o more A.out k; clients = A.clients; leads = A.leads; last = A.last }
 
   idle : (x : Course) → IdleIn x → Idle x
   idle x A = record { out = A.out; clients = A.clients; leads = A.leads; last = λ a. (A.last a).1 }
@@ -177,7 +169,7 @@ module _ (me : Me) (now : ℕ) (w : Readings) (s : State) (Settled : Session →
     says_fair x (body.Route seq r) k = absurd k
     says_fair x other k = tt
 
-    sends_fair : (x : Course) (m : Sent) → MaySend me shared x m → IsFair m
+    sends_fair : (x : Course) (m : Sent) → MaySend me shared x m → (IsFair Settled) m
     sends_fair x (sent.Message to m) k = says_fair x m.body k.2
     sends_fair x (sent.Reply t r) k = absurd k
 
@@ -186,7 +178,7 @@ module _ (me : Me) (now : ℕ) (w : Readings) (s : State) (Settled : Session →
     told_fair h x (body.Route seq r) k = absurd k
     told_fair h x other k = tt
 
-    tells_fair : (h : InHand) (x : Course) (m : Sent) → IsOwn me x (MayTell me h x) m → IsFair m
+    tells_fair : (h : InHand) (x : Course) (m : Sent) → IsOwn me x (MayTell me h x) m → (IsFair Settled) m
     tells_fair h x (sent.Message to m) k = told_fair h x m.body k.2
     tells_fair h x (sent.Reply t r) k = absurd k
 
@@ -195,7 +187,7 @@ module _ (me : Me) (now : ℕ) (w : Readings) (s : State) (Settled : Session →
     asked_none x (unserved t) k = k
     asked_none x other k = k
 
-    acknowledged_fair : (e : ℕ) (o : Option Origin) (v : ℕ) → AllFair (answers_to me e o (reply.Done v))
+    acknowledged_fair : (e : ℕ) (o : Option Origin) (v : ℕ) → AllFair Settled (answers_to me e o (reply.Done v))
     acknowledged_fair e None v = tt
     acknowledged_fair e (Some (origin.Session u)) v = ((λ z. absurd z), tt)
     acknowledged_fair e (Some (origin.Forwarded f seq)) v = ((λ z. z), tt)
@@ -211,16 +203,16 @@ module _ (me : Me) (now : ℕ) (w : Readings) (s : State) (Settled : Session →
     found_none x (inr e) A a = e ∙ (A.last a).0
 
     -- a reply that a leader routes goes to those that wait under its number
-    routes_fair : (f e seq : ℕ) (r : Reply) → HeardFrom me came f e (body.Route seq r) → of_leader f e x0 ≡ true → AllFair (map (λ (a : Asked). sent.Reply a.session r) (filter (λ (a : Asked). eqb a.seq seq) s.clients.sessions))
+    routes_fair : (f e seq : ℕ) (r : Reply) → HeardFrom me came f e (body.Route seq r) → of_leader f e x0 ≡ true → AllFair Settled (map (λ (a : Asked). sent.Reply a.session r) (filter (λ (a : Asked). eqb a.seq seq) s.clients.sessions))
     routes_fair f e seq r C t =
         let k = and_three (is_peon s.phase) (eqb e (epoch_of w)) (eqb f s.peon.leader) t in
         let known : BodyReturns C.message.epoch C.message.body = (subst Heard C.is heard).1 in
         each k.0 (eqb-true e (epoch_of w) k.1) (subst (λ (n : ℕ). Returns n seq r) C.epoch (subst (BodyReturns C.message.epoch) C.says known)) s.clients.sessions (λ a z. z)
       where
-        each : is_peon s.phase ≡ true → e ≡ epoch_of w → Returns e seq r → (xs : List Asked) → ((a : Asked) → Among a xs → Among a s.clients.sessions) → AllFair (map (λ (a : Asked). sent.Reply a.session r) (filter (λ (a : Asked). eqb a.seq seq) xs))
+        each : is_peon s.phase ≡ true → e ≡ epoch_of w → Returns e seq r → (xs : List Asked) → ((a : Asked) → Among a xs → Among a s.clients.sessions) → AllFair Settled (map (λ (a : Asked). sent.Reply a.session r) (filter (λ (a : Asked). eqb a.seq seq) xs))
         each p n K [] k = tt
         each p n K (a ∷ xs) k =
-            cond_both (eqb a.seq seq) (a ∷ filter (λ (b : Asked). eqb b.seq seq) xs) (filter (λ (b : Asked). eqb b.seq seq) xs) (λ (ys : List Asked). AllFair (map (λ (b : Asked). sent.Reply b.session r) ys))
+            cond_both (eqb a.seq seq) (a ∷ filter (λ (b : Asked). eqb b.seq seq) xs) (filter (λ (b : Asked). eqb b.seq seq) xs) (λ (ys : List Asked). AllFair Settled (map (λ (b : Asked). sent.Reply b.session r) ys))
             (λ q. ((λ u. K u p n a (k a (inl refl)) (eqb-true a.seq seq q)), each p n K xs (λ b o. k b (inr o))))
             (λ q. each p n K xs (λ b o. k b (inr o)))
 
@@ -234,11 +226,11 @@ module _ (me : Me) (now : ℕ) (w : Readings) (s : State) (Settled : Session →
       after = λ {x = x} A. idle x A.0;
       marks = λ f C why A. record { out = (tt, tt); clients = inl (refl, refl); leads = λ t. no t; last = λ a. absurd (several C a) };
       answers_probe = λ f e A. says _ (tt, tt);
-      votes = λ {x = x} f e pn v value C t A. record { out = all_append IsFair x.out (message_to me (epoch_of x.readings) (body.Accept pn v) f ∷ []) A.0.out (tt, tt); clients = A.0.clients; leads = A.0.leads; last = λ a. absurd (several C a) };
+      votes = λ {x = x} f e pn v value C t A. record { out = all_append (IsFair Settled) x.out (message_to me (epoch_of x.readings) (body.Accept pn v) f ∷ []) A.0.out (tt, tt); clients = A.0.clients; leads = A.0.leads; last = λ a. absurd (several C a) };
       writes = λ {x = x} c k A. (writes_idle x c k A.0, A.1);
       replays = λ left v end values t z e A. (reads _ (λ a. absurd (a.replays v end t z)) A.0, tt);
       copies = λ v values entries t k A. (reads _ (λ a. absurd (copies_none values entries k a)) A.0, A.1);
-      sends = λ {x = x} more k A. (sends more (all_map (MaySend me shared x) IsFair (sends_fair x) more k) A.0, A.1);
+      sends = λ {x = x} more k A. (sends more (all_map (MaySend me shared x) (IsFair Settled) (sends_fair x) more k) A.0, A.1);
       timers = λ ts A. A;
       elector = λ e A. A;
       prober = λ p A. A;
@@ -263,12 +255,12 @@ module _ (me : Me) (now : ℕ) (w : Readings) (s : State) (Settled : Session →
       raises = λ {x = x} c k A. (raises_idle x c k A.0, A.1);
       learns = λ {x = x} v value values k short A. (reads _ (λ a. absurd (learns_none (value ∷ values) k A.1 a)) A.0, A.1);
       proposes = λ {x = x} z value o short leads A. record {
-        out = all_append IsFair x.out _ A.0.out (all_of IsFair (message_to me (epoch_of x.readings) (body.Begin x.state.leader.pn (suc x.readings.last) value)) (λ to. tt) (members me x.state.leader.quorum));
+        out = all_append (IsFair Settled) x.out _ A.0.out (all_of (IsFair Settled) (message_to me (epoch_of x.readings) (body.Begin x.state.leader.pn (suc x.readings.last) value)) (λ to. tt) (members me x.state.leader.quorum));
         clients = A.0.clients;
         leads = λ t. A.0.leads leads;
         last = λ a. (A.0.last a).1;
       };
-      tells = λ {h = h} {x = x} more k A. (sends more (all_map (IsOwn me x (MayTell me h x)) IsFair (tells_fair h x) more k) A.0, A.1);
+      tells = λ {h = h} {x = x} more k A. (sends more (all_map (IsOwn me x (MayTell me h x)) (IsFair Settled) (tells_fair h x) more k) A.0, A.1);
       leads = λ l A. A;
       enters = λ {x = x} p k A. (record { out = A.0.out; clients = A.0.clients; leads = λ t. leads_so x (k t) A.0; last = A.0.last }, A.1);
       collects = λ q pn short A. A;

@@ -24,9 +24,10 @@ use Rattle.quorum_laws.proofs.Later.{Later, Stays}
 use Rattle.quorum_laws.specs.Accepting.{AcceptedIn}
 use Rattle.quorum_model.specs.Clients.{messages_of, with_asked}
 use Rattle.quorum_model.specs.Events.{AllFit, PlainFits}
-use Rattle.quorum_model.specs.Happens.{Stop, happens, kept_only, lost, moved, put_at, unmoved}
+use Rattle.quorum_model.proofs.Happening.{Leads, of_next, run_leads, runs_apart}
+use Rattle.quorum_model.specs.Happens.{happens, kept_only, lost, moved, put_at, unmoved}
 use Rattle.quorum_model.specs.Monitors.{Monitors}
-use Rattle.quorum_model.specs.Runs.{goes_on as goes_on_from, ran_from, run, run_from}
+use Rattle.quorum_model.specs.Runs.{run}
 use Rattle.quorum_model.specs.World.{Asked, Envelope, Event, Plain, World, first_world, plain_of}
 use Rattle.std.proofs.Common.{Bool, Err, List, None, Ok, Option, Result, Some, [], ap, arith, cond, eqb, false, inl, inr, length, refl, subst, suc, sym, true, ℕ, ◌++◌, ◌<◌, ◌∙◌, ◌∷◌, ◌≡◌, ◌≤◌, ◌⊎◌}
 use Rattle.std.proofs.lemmas.Bool.{cases_lt, eqb-false, ltb-true}
@@ -61,16 +62,6 @@ record Has (ms : Monitors) (w next : World) (places : Places) : Type 0 where
   after : Places
   tickets : TicketsIn ms after next
   lasts : Lasts ms.count w.asked next.asked w.log next.log places after
-
-itself : (ms : Monitors) (w : World) (places : Places) → TicketsIn ms places w → Has ms w w places
-itself ms w places T = record { after = places; tickets = T; lasts = λ v lt a. (lt, a, refl) }
-
-and_on : (ms : Monitors) (u v w : World) (places : Places) → (a : Has ms u v places) → Has ms v w a.after → Has ms u w places
-and_on ms u v w places a b = record { after = b.after; tickets = b.tickets; lasts = λ x lt k. (let s = a.lasts x lt k in let t = b.lasts x s.0 s.1 in (t.0, t.1, t.2 ∙ s.2)) }
-
--- of a run, and of one that goes on
-abbrev Both : Monitors → World → World → Type 0
-Both ms w next = (places : Places) × TicketsIn ms places w × Has ms w next places
 
 pub first_tickets : (ms : Monitors) → TicketsIn ms (λ k. Nowhere) first_world
 first_tickets ms = record { free = λ k le. refl; waits = λ i. tt; forwards = tt; begun = λ k v bytes e. absurd cc; accepted = λ several i v q bytes a. absurd (nothing_accepted v q bytes a); logged = λ v lt. absurd (omega arith) }
@@ -111,9 +102,9 @@ module _ (ms : Monitors) (D : Basis ms) where
     unfolding lost
     loses i = fewer n places w.store w.state (put_at w.state i None) w.transactions w.messages w.messages asked w.log (none_put w.state w.state i (λ j ne. refl)) (λ P h. h) more
 
-    module _ (d : Does ms w p) (Settled : Session → Type 0) (S : SettledBy ms w p I places T d Settled d.came) where
+    module _ (d : Does ms w p) (Settled : Session → Type 0) (S : SettledBy ms w p I places T d Settled d.by.came) where
       abbrev i : ℕ
-      i = d.rank
+      i = d.by.rank
 
       abbrev m : Store
       m = next ms w I p d
@@ -124,10 +115,10 @@ module _ (ms : Monitors) (D : Basis ms) where
       abbrev Up : Option State → Type 0
       Up now = (s : State) → now ≡ Some s → (d.y.state ≡ s) × Here ms w p I (D.one w B) (D.whole w B) places T d Settled S
 
-      pub goes : Follows w (moved w p d.rank (reaction_of d.y)) → TicketsIn ms E.after (moved w p d.rank (reaction_of d.y)) × Lasts n w.asked asked w.log (moved w p d.rank (reaction_of d.y)).log places E.after
+      pub goes : Follows w (moved w p d.by.rank (reaction_of d.y)) → TicketsIn ms E.after (moved w p d.by.rank (reaction_of d.y)) × Lasts n w.asked asked w.log (moved w p d.by.rank (reaction_of d.y)).log places E.after
       unfolding moved
       goes k =
-          let next = moved w p d.rank (reaction_of d.y) in
+          let next = moved w p d.by.rank (reaction_of d.y) in
           let here = (let L = k.1 in L.each i) in
           let same = put_same w.store i m in
           let stays : Stays (readings_of (w.store i)) (w.state i) (readings_of m) (Some d.y.state) =
@@ -135,20 +126,20 @@ module _ (ms : Monitors) (D : Basis ms) where
           (subst (λ (o : Option State). Stays (readings_of (w.store i)) (w.state i) (readings_of (put_at w.store i m i)) o) (put_same w.state i (Some d.y.state)) here) in
           let up : Up (Some d.y.state) = λ s q. ((let z : d.y.state ≡ s = cc in z), stays) in
           let L = D.one next k.0.0 in
-          let W : n ≡ 1 → IsWhole next.log m = λ single. subst (IsWhole next.log) same (D.whole next k.0.0 single i (ltb-true d.rank ms.count d.lt)) in (
+          let W : n ≡ 1 → IsWhole next.log m = λ single. subst (IsWhole next.log) same (D.whole next k.0.0 single i (ltb-true d.by.rank ms.count d.by.lt)) in (
             goes_on ms w p I (D.one w B) (D.whole w B) places T d Settled S (Some d.y.state) stays.epoch up next.log k.0.1 L.short L.values W (D.somebody next k.0.0),
             goes_last ms w p I (D.one w B) (D.whole w B) places T d Settled S (Some d.y.state) stays.epoch up next.log k.0.1 L.short L.values W (D.somebody next k.0.0),
           )
 
-      pub falls : Follows w (kept_only w p d.rank (reaction_of d.y)) → TicketsIn ms E.after (kept_only w p d.rank (reaction_of d.y)) × Lasts n w.asked asked w.log (kept_only w p d.rank (reaction_of d.y)).log places E.after
+      pub falls : Follows w (kept_only w p d.by.rank (reaction_of d.y)) → TicketsIn ms E.after (kept_only w p d.by.rank (reaction_of d.y)) × Lasts n w.asked asked w.log (kept_only w p d.by.rank (reaction_of d.y)).log places E.after
       unfolding kept_only
       falls k =
-          let next = kept_only w p d.rank (reaction_of d.y) in
+          let next = kept_only w p d.by.rank (reaction_of d.y) in
           let same = put_same w.store i m in
           let rises = subst (λ (u : Store). epoch_of (readings_of (w.store i)) ≤ epoch_of (readings_of u)) same (let L = k.1 in let s = L.each i in s.epoch) in
           let up : Up None = λ s q. absurd cc in
           let L = D.one next k.0.0 in
-          let W : n ≡ 1 → IsWhole next.log m = λ single. subst (IsWhole next.log) same (D.whole next k.0.0 single i (ltb-true d.rank ms.count d.lt)) in (
+          let W : n ≡ 1 → IsWhole next.log m = λ single. subst (IsWhole next.log) same (D.whole next k.0.0 single i (ltb-true d.by.rank ms.count d.by.lt)) in (
             fewer n E.after (put_at w.store i m) (put_at w.state i None) (put_at w.state i None) (put_at w.transactions i (w.transactions i ++ joined (encoded d.y.changes) ∷ [])) (w.messages ++ messages_of d.y.out) w.messages asked next.log (λ j s q. q)
                 (λ P h. front P w.messages (messages_of d.y.out) h) (goes_on ms w p I (D.one w B) (D.whole w B) places T d Settled S None rises up next.log k.0.1 L.short L.values W (D.somebody next k.0.0)),
             goes_last ms w p I (D.one w B) (D.whole w B) places T d Settled S None rises up next.log k.0.1 L.short L.values W (D.somebody next k.0.0),
@@ -170,14 +161,14 @@ module _ (ms : Monitors) (D : Basis ms) where
     forgets i = record { after = places; tickets = loses w p B (D.inv w B) places T i; lasts = same_lasts w p B (D.inv w B) places T }
 
     module _ (d : Does ms w p) where
-      abbrev any : SettledBy ms w p (D.inv w B) places T d Anybody d.came
+      abbrev any : SettledBy ms w p (D.inv w B) places T d Anybody d.by.came
       any = anybody ms w p (D.inv w B) places T d
 
-      moves : Follows w (moved w p d.rank (reaction_of d.y)) → Has ms w (moved w p d.rank (reaction_of d.y)) places
+      moves : Follows w (moved w p d.by.rank (reaction_of d.y)) → Has ms w (moved w p d.by.rank (reaction_of d.y)) places
       unfolding moved
       moves k = let z = goes w p B (D.inv w B) places T d Anybody any k in record { after = (leaves ms w p (D.inv w B) (D.one w B) (D.whole w B) places T d Anybody any).after; tickets = z.0; lasts = z.1 }
 
-      keeps : Follows w (kept_only w p d.rank (reaction_of d.y)) → Has ms w (kept_only w p d.rank (reaction_of d.y)) places
+      keeps : Follows w (kept_only w p d.by.rank (reaction_of d.y)) → Has ms w (kept_only w p d.by.rank (reaction_of d.y)) places
       unfolding kept_only
       keeps k = let z = falls w p B (D.inv w B) places T d Anybody any k in record { after = (leaves ms w p (D.inv w B) (D.one w B) (D.whole w B) places T d Anybody any).after; tickets = z.0; lasts = z.1 }
 
@@ -189,24 +180,30 @@ module _ (ms : Monitors) (D : Basis ms) where
 
   -- ---- runs
 
-  run_has : (w : World) (es : List Event) → AllFit ms.count es → D.holds w → (places : Places) → TicketsIn ms places w → Has ms w (run_from ms w es) places
-  unfolding ran_from
-  run_has w [] F B places T = itself ms w places T
-  run_has w (e ∷ es) F B places T = by (happens ms w e) (event w e F.0 B places T) (λ next. run_has next es F.1)
-    where
-      by : (r : Result World Stop) → IfOk r (λ next. D.holds next × Has ms w next places) → ((next : World) → D.holds next → (more : Places) → TicketsIn ms more next → Has ms next (run_from ms next es) more) → Has ms w (goes_on_from w (λ next. ran_from ms next es) r).world places
-      by (Ok next) k ih = and_on ms w next (run_from ms next es) places k.1 (ih next k.0 k.1.after k.1.tickets)
-      by (Err stop) k ih = itself ms w places T
+  abbrev Fits : Event → Type 0
+  Fits e = PlainFits ms.count (plain_of e)
 
-  both : (w : World) (before es : List Event) → AllFit ms.count (before ++ es) → D.holds w → (places : Places) → TicketsIn ms places w → Both ms (run_from ms w before) (run_from ms w (before ++ es))
-  unfolding ran_from
-  both w [] es F B places T = (places, T, run_has w es F B places T)
-  both w (e ∷ before) es F B places T = by (happens ms w e) (event w e F.0 B places T) (λ next. both next before es F.1)
-    where
-      by : (r : Result World Stop) → IfOk r (λ next. D.holds next × Has ms w next places) → ((next : World) → D.holds next → (more : Places) → TicketsIn ms more next → Both ms (run_from ms next before) (run_from ms next (before ++ es)))
-          → Both ms (goes_on_from w (λ next. ran_from ms next before) r).world (goes_on_from w (λ next. ran_from ms next (before ++ es)) r).world
-      by (Ok next) k ih = ih next k.0 k.1.after k.1.tickets
-      by (Err stop) k ih = (places, T, itself ms w places T)
+  -- the log, and a place of each request
+  abbrev pub Placed : World → Type 0
+  Placed w = D.holds w × (places : Places) × TicketsIn ms places w
+
+  abbrev pub AllLast : (w : World) → Placed w → (next : World) → Placed next → Type 0
+  AllLast w h next k = Lasts n w.asked next.asked w.log next.log h.1 k.1
+
+  placed : (w : World) (e : Event) → Fits e → (h : Placed w) (next : World) → happens ms w e ≡ Ok next → Leads ms Fits Placed AllLast w h next
+  placed w e F h next q = let z = of_next (λ (next : World). D.holds next × Has ms w next h.1) (happens ms w e) next q (event w e F h.0 h.1 h.2) in ((z.0, z.1.after, z.1.tickets), z.1.lasts)
+
+  still : (w : World) (h : Placed w) → AllLast w h w h
+  still w h v lt a = (lt, a, refl)
+
+  -- of a run, and of one that goes on
+  abbrev pub Both : World → World → Type 0
+  Both was now = (h : Placed was) × Leads ms Fits Placed AllLast was h now
+
+  pub both : (before after : List Event) → AllFit n (before ++ after) → (h : Placed first_world) → Both (run ms before) (run ms (before ++ after))
+  both before after F h = runs_apart ms Fits Placed (λ w e fits h next q. (placed w e fits h next q).0) Both after
+      (λ w h F. (h, run_leads ms Fits Placed AllLast still (λ u v w h k l a b x lt c. (let s = a x lt c in let t = b x s.0 s.1 in (t.0, t.1, t.2 ∙ s.2))) placed w after F h))
+      (λ w h. (h, (h, still w h))) first_world before F h
 
 -- ---- one monitor, and several
 
@@ -217,11 +214,11 @@ module _ (ms : Monitors) (before events : List Event) (F : AllFit ms.count (befo
   abbrev now : World
   now = run ms (before ++ events)
 
-  runs : Both ms was now
-  runs = let D = basis ms in both ms D first_world before events F D.first (λ k. Nowhere) (first_tickets ms)
+  runs : Both ms (basis ms) was now
+  runs = both ms (basis ms) before events F ((basis ms).first, (λ k. Nowhere), first_tickets ms)
 
   abbrev places : Places
-  places = runs.2.after
+  places = runs.1.0.1
 
   -- the request of a version, which is that of the run before if it has the version
   record Picked (v : ℕ) : Type 0 where
@@ -235,11 +232,11 @@ module _ (ms : Monitors) (before events : List Event) (F : AllFit ms.count (befo
     where
       by : (v < length was.log) ⊎ (length was.log ≤ v) → Picked v
       by (inl low) =
-          let a = runs.1.logged v low in
-          let s = runs.2.lasts v low a in
+          let a = runs.0.2.logged v low in
+          let s = runs.1.1 v low a in
           let b = s.1 in
           record { k = b.k; place = b.place; of = record { by = b.by; at = b.at; made = b.made }; earlier = λ l. subst (λ (k : ℕ). k < length was.asked) (sym s.2) (slice_get_within was.asked a.k a.by a.at) }
-      by (inr high) = let b = runs.2.tickets.logged v lt in record { k = b.k; place = b.place; of = record { by = b.by; at = b.at; made = b.made }; earlier = λ low. absurd (omega arith) }
+      by (inr high) = let b = runs.1.0.2.logged v lt in record { k = b.k; place = b.place; of = record { by = b.by; at = b.at; made = b.made }; earlier = λ low. absurd (omega arith) }
 
   pub once : CommittedOnce ms.count was now
   once = record {

@@ -3,6 +3,7 @@ use Rattle.mon_msg.specs.declared.plan.Sent.TheVariants as sent
 use Rattle.mon_msg.specs.declared.plan.Sent.{Sent}
 use Rattle.mon_wire.specs.declared.body.Body.TheVariants as body
 use Rattle.mon_wire.specs.declared.body.Body.{Body}
+use Rattle.mon_wire.specs.declared.request.Session.{Session}
 use Rattle.quorum_commands.specs.Unmade.{AcknowledgesNone}
 use Rattle.std.proofs.Common.{List}
 use Rattle.std.specs.List.{AllByRecursion}
@@ -14,29 +15,33 @@ HandsNone (body.Forward seq c) = ⊥
 HandsNone (body.Route seq r) = ¬ AcknowledgesNone r
 HandsNone other = Unit {0}
 
-abbrev pub IsOther : Sent → Type 0
-IsOther (sent.Message to m) = HandsNone m.body
-IsOther (sent.Reply t r) = ¬ AcknowledgesNone r
+-- it hands no command on, and refuses only sessions of S
+abbrev pub IsFair : (Session → Type 0) → Sent → Type 0
+IsFair S (sent.Message to m) = HandsNone m.body
+IsFair S (sent.Reply t r) = AcknowledgesNone r → S t
 
-abbrev pub AllOther : List Sent → Type 0
-AllOther sends = AllByRecursion IsOther sends
+abbrev pub AllFair : (Session → Type 0) → List Sent → Type 0
+AllFair S sends = AllByRecursion (IsFair S) sends
 
--- it refuses nothing
+abbrev pub Nobody : Session → Type 0
+Nobody t = ⊥
+
+-- it refuses only sessions of S, and may hand a command on
 abbrev pub IsCalmBody : Body → Type 0
 IsCalmBody (body.Route seq r) = ¬ AcknowledgesNone r
 IsCalmBody other = Unit {0}
 
-abbrev pub IsCalm : Sent → Type 0
-IsCalm (sent.Message to m) = IsCalmBody m.body
-IsCalm (sent.Reply t r) = ¬ AcknowledgesNone r
+abbrev pub IsCalm : (Session → Type 0) → Sent → Type 0
+IsCalm S (sent.Message to m) = IsCalmBody m.body
+IsCalm S (sent.Reply t r) = AcknowledgesNone r → S t
 
-pub others_calm : (sends : List Sent) → AllOther sends → AllByRecursion IsCalm sends
-others_calm sends k = all_map IsOther IsCalm by sends k
+pub fair_calm : (S T : Session → Type 0) → ((t : Session) → S t → T t) → (sends : List Sent) → AllFair S sends → AllByRecursion (IsCalm T) sends
+fair_calm S T f sends k = all_map (IsFair S) (IsCalm T) by sends k
   where
     calm_body : (b : Body) → HandsNone b → IsCalmBody b
     calm_body (body.Route seq r) k = k
     calm_body other k = tt
 
-    by : (x : Sent) → IsOther x → IsCalm x
+    by : (x : Sent) → IsFair S x → IsCalm T x
     by (sent.Message to m) o = calm_body m.body o
-    by (sent.Reply t r) o = o
+    by (sent.Reply t r) o = λ u. f t (o u)

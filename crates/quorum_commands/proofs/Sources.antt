@@ -24,7 +24,9 @@ use Rattle.mon_wire.specs.declared.request.Request.{Request}
 use Rattle.mon_wire.specs.declared.request.Session.{Session}
 use Rattle.quorum_agreement.proofs.Answered.{asker}
 use Rattle.quorum_agreement.proofs.Lone.{active_is}
-use Rattle.quorum_commands.proofs.Coming.{Brought, Does, me, phase_holds}
+use Rattle.quorum_commands.proofs.Coming.{Does, me, phase_holds}
+use Rattle.quorum_laws.proofs.Meetings.{sent_known}
+use Rattle.quorum_model.proofs.Happening.{Brought}
 use Rattle.quorum_commands.proofs.Idle.{BodyReturns}
 use Rattle.quorum_commands.proofs.Places.{AllWait, AskedAt, BodyForwards, Forwards, IsAt, IsForwarded, IsSettled, Place, Places, Nowhere, Handed, Queued, StillAt, Tickets, Waits, WaitsIn, asked_still, get_contained, get_more, get_pushed}
 use Rattle.quorum_commands.proofs.Taking.{BodyKnown, InputKnown, Outcome, RequestKnown, TimerKnown, takes}
@@ -34,10 +36,10 @@ use Rattle.quorum_history.proofs.Phases.{no}
 use Rattle.quorum_laws.proofs.Invariant.{EnvelopeFine, EnvelopeHolds, InvOf}
 use Rattle.quorum_laws.specs.Commands.{WasAsked}
 use Rattle.quorum_model.specs.Clients.{command_of, with_asked}
+use Rattle.quorum_model.specs.Events.{PlainFits}
 use Rattle.quorum_model.specs.Monitors.{Monitors}
-use Rattle.quorum_model.specs.World.{Asked, Client, Deliver, Envelope, Plain, Ring, Start, World}
+use Rattle.quorum_model.specs.World.{Asked, Client, Deliver, Plain, Ring, Start, World}
 use Rattle.quorum_walk.proofs.FineCourses.{MessageFine}
-use Rattle.quorum_walk.proofs.Lists.{all_get}
 use Rattle.quorum_walk.proofs.Sparing.{own_of}
 use Rattle.quorum_walk.proofs.Walk.{Then}
 use Rattle.std.proofs.Common.{IfSome, List, Option, Some, [], ap, arith, get_or-set_other, get_or-set_same, inl, inr, length, length-append, length-set, ltb, refl, slice_get, slice_index_or, slice_set, subst, suc, sym, true, ℕ, ◌<◌, ◌∙◌, ◌∷◌, ◌≡◌, ◌≤◌, ◌⊎◌}
@@ -82,7 +84,7 @@ module _ (ms : Monitors) (w : World) (p : Plain) (I : InvOf ms w) (places : Plac
   n = ms.count
 
   abbrev i : ℕ
-  i = d.rank
+  i = d.by.rank
 
   abbrev pub asked : List Asked
   asked = with_asked p w.asked
@@ -91,27 +93,27 @@ module _ (ms : Monitors) (w : World) (p : Plain) (I : InvOf ms w) (places : Plac
   self = me ms w I p d
 
   abbrev w0 : Readings
-  w0 = readings_of (w.store d.rank)
+  w0 = readings_of (w.store d.by.rank)
 
   still : StillAt w.asked asked
   still = asks_more p w.asked
 
   in_map : i < n
-  in_map = ltb-true d.rank ms.count d.lt
+  in_map = ltb-true d.by.rank ms.count d.by.lt
 
   -- those that waited here
-  pub waited : Waits n w.asked places i d.state.clients.queue d.state.clients.taken
-  waited = by d.remembers
+  pub waited : Waits n w.asked places i d.by.state.clients.queue d.by.state.clients.taken
+  waited = by d.by.remembers
     where
-      by : (w.state i ≡ Some d.state) ⊎ (d.state ≡ booting i) → Waits n w.asked places i d.state.clients.queue d.state.clients.taken
+      by : (w.state i ≡ Some d.by.state) ⊎ (d.by.state ≡ booting i) → Waits n w.asked places i d.by.state.clients.queue d.by.state.clients.taken
       by (inl e) = subst (WaitsIn n w.asked places i) e (T.waits i)
       by (inr e) = subst (λ (s : State). Waits n w.asked places i s.clients.queue s.clients.taken) (sym e) (refl, 0, tt)
 
   -- a leader was up
-  pub was_up : is_leading d.state.phase ≡ true → w.state i ≡ Some d.state
-  was_up t = by d.remembers
+  pub was_up : is_leading d.by.state.phase ≡ true → w.state i ≡ Some d.by.state
+  was_up t = by d.by.remembers
     where
-      by : (w.state i ≡ Some d.state) ⊎ (d.state ≡ booting i) → w.state i ≡ Some d.state
+      by : (w.state i ≡ Some d.by.state) ⊎ (d.by.state ≡ booting i) → w.state i ≡ Some d.by.state
       by (inl e) = e
       by (inr e) = no (ap (λ (s : State). is_leading s.phase) (sym e) ∙ t)
 
@@ -155,13 +157,13 @@ module _ (ms : Monitors) (w : World) (p : Plain) (I : InvOf ms w) (places : Plac
     pub fresh : from ≡ Nowhere → k ≡ length w.asked
     pub wait : AllWait n w.asked places i ticket others
     pub apart : (u : ℕ) → ticket ≤ u → Queued i u ≡ from → ⊥
-    pub open_still : (f seq : ℕ) → slice_index_or taken f 0 < seq → (slice_index_or d.state.clients.taken f 0 < seq) × (Handed f i (epoch_of w0) seq ≡ from → ⊥)
+    pub open_still : (f seq : ℕ) → slice_index_or taken f 0 < seq → (slice_index_or d.by.state.clients.taken f 0 < seq) × (Handed f i (epoch_of w0) seq ≡ from → ⊥)
 
   -- the newest request asks a command of this monitor
   abbrev pub Asks : Session → Command → Type 0
   Asks t c = (places (length w.asked) ≡ Nowhere) × (a : AskedAt n asked (length w.asked) i c) × (a.session ≡ t)
 
-  from_client : (t : Session) (c : Command) → Asks t c → Source c (origin.Session t) d.state.clients.queue d.state.clients.taken
+  from_client : (t : Session) (c : Command) → Asks t c → Source c (origin.Session t) d.by.state.clients.queue d.by.state.clients.taken
   from_client t c A = let q = waited in record {
     k = length w.asked;
     from = Nowhere;
@@ -178,10 +180,10 @@ module _ (ms : Monitors) (w : World) (p : Plain) (I : InvOf ms w) (places : Plac
   }
 
   -- the first of those that wait
-  first_known : same_phase d.state.phase phase.Active ≡ true → (x : Waiting) (xs : List Waiting) → d.state.clients.queue ≡ x ∷ xs → Source x.command x.origin xs d.state.clients.taken
+  first_known : same_phase d.by.state.phase phase.Active ≡ true → (x : Waiting) (xs : List Waiting) → d.by.state.clients.queue ≡ x ∷ xs → Source x.command x.origin xs d.by.state.clients.taken
   first_known active x xs e =
       let q = waited in
-      let leads : ActsIn n I.g i (core_of (own_of w0) d.state) = subst (InPhase n I.g i (core_of (own_of w0) d.state)) (active_is d.state.phase active) (phase_holds ms w I p d) in
+      let leads : ActsIn n I.g i (core_of (own_of w0) d.by.state) = subst (InPhase n I.g i (core_of (own_of w0) d.by.state)) (active_is d.by.state.phase active) (phase_holds ms w I p d) in
       let source = subst (AllByRecursion (HeldAs I.g i (epoch_of w0))) e leads.0.reigns.queue in
       let h = subst (AllWait n w.asked places i q.1) e q.2 in
       record {
@@ -200,12 +202,12 @@ module _ (ms : Monitors) (w : World) (p : Plain) (I : InvOf ms w) (places : Plac
       }
 
   -- a command that a peon hands on, and that wasn't taken
-  forward_known : (f e seq : ℕ) (c : Command) → ((f ≡ i → ⊥) → IsForwarded n w.asked places (w.store i) (w.state i) f i e seq c) → (s : Session) × HandedOn I.g f e seq s c → f < n → (f ≡ i → ⊥) → is_leading d.state.phase ≡ true → e ≡ epoch_of w0 → ltb (slice_index_or d.state.clients.taken f 0) seq ≡ true
-      → Source c (origin.Forwarded f seq) d.state.clients.queue (slice_set d.state.clients.taken f seq)
+  forward_known : (f e seq : ℕ) (c : Command) → ((f ≡ i → ⊥) → IsForwarded n w.asked places (w.store i) (w.state i) f i e seq c) → (s : Session) × HandedOn I.g f e seq s c → f < n → (f ≡ i → ⊥) → is_leading d.by.state.phase ≡ true → e ≡ epoch_of w0 → ltb (slice_index_or d.by.state.clients.taken f 0) seq ≡ true
+      → Source c (origin.Forwarded f seq) d.by.state.clients.queue (slice_set d.by.state.clients.taken f seq)
   forward_known f e seq c F B lt apart leads now_is fresh =
       let q = waited in
-      let new = ltb-true (slice_index_or d.state.clients.taken f 0) seq fresh in
-      let h = (F apart).own d.state (was_up leads) leads (sym now_is) new in
+      let new = ltb-true (slice_index_or d.by.state.clients.taken f 0) seq fresh in
+      let h = (F apart).own d.by.state (was_up leads) leads (sym now_is) new in
       record {
         k = h.k;
         from = Handed f i e seq;
@@ -214,23 +216,23 @@ module _ (ms : Monitors) (w : World) (p : Plain) (I : InvOf ms w) (places : Plac
         asks = asked_still n w.asked asked still h.k f c h.of;
         tie = handed_by f seq B.0 c (subst (λ (z : ℕ). HandedOn I.g f z seq B.0 c) now_is B.1);
         fresh = λ z. absurd cc;
-        long = length-set d.state.clients.taken f seq ∙ q.0;
+        long = length-set d.by.state.clients.taken f seq ∙ q.0;
         ticket = q.1;
         wait = q.2;
         apart = λ u le z. absurd cc;
         open_still = λ g s less. by g s (cases_eq g f) less new (let long = q.0 in let few = ms.most in omega arith);
       }
     where
-      by : (g s : ℕ) → (g ≡ f) ⊎ (g ≡ f → ⊥) → slice_index_or (slice_set d.state.clients.taken f seq) g 0 < s → slice_index_or d.state.clients.taken f 0 < seq → f < length d.state.clients.taken
-          → (slice_index_or d.state.clients.taken g 0 < s) × (Handed g i (epoch_of w0) s ≡ Handed f i e seq → ⊥)
+      by : (g s : ℕ) → (g ≡ f) ⊎ (g ≡ f → ⊥) → slice_index_or (slice_set d.by.state.clients.taken f seq) g 0 < s → slice_index_or d.by.state.clients.taken f 0 < seq → f < length d.by.state.clients.taken
+          → (slice_index_or d.by.state.clients.taken g 0 < s) × (Handed g i (epoch_of w0) s ≡ Handed f i e seq → ⊥)
       by g s (inl z) less new within =
-          let less2 : slice_index_or (slice_set d.state.clients.taken f seq) f 0 < s = subst (λ (j : ℕ). slice_index_or (slice_set d.state.clients.taken f seq) j 0 < s) z less in
-          let is = get_or-set_same d.state.clients.taken f seq 0 within in
-          (subst (λ (j : ℕ). slice_index_or d.state.clients.taken j 0 < s) (sym z) (omega arith), λ u. (let same = ap seq_of u in omega arith))
-      by g s (inr ne) less new within = (let is = get_or-set_other d.state.clients.taken f g seq 0 ne in omega arith, λ u. ne (ap from_of u))
+          let less2 : slice_index_or (slice_set d.by.state.clients.taken f seq) f 0 < s = subst (λ (j : ℕ). slice_index_or (slice_set d.by.state.clients.taken f seq) j 0 < s) z less in
+          let is = get_or-set_same d.by.state.clients.taken f seq 0 within in
+          (subst (λ (j : ℕ). slice_index_or d.by.state.clients.taken j 0 < s) (sym z) (omega arith), λ u. (let same = ap seq_of u in omega arith))
+      by g s (inr ne) less new within = (let is = get_or-set_other d.by.state.clients.taken f g seq 0 ne in omega arith, λ u. ne (ap from_of u))
 
   newest_at : (t : Session) (r : Request) → Brought ms w p i (input.Client t r) → slice_get asked (length w.asked) ≡ Some (record { rank = i; session = t; request = r })
-  newest_at t r b = subst (λ (xs : List Asked). slice_get xs (length w.asked) ≡ Some (record { rank = i; session = t; request = r })) (sym b.0) (get_pushed w.asked (record { rank = i; session = t; request = r }))
+  newest_at t r b = subst (λ (z : Plain). slice_get (with_asked z w.asked) (length w.asked) ≡ Some (record { rank = i; session = t; request = r })) (sym b.1) (get_pushed w.asked (record { rank = i; session = t; request = r }))
 
   -- a request that comes is the newest
   newest : (t : Session) (r : Request) (c : Command) → command_of r ≡ Some c → Brought ms w p i (input.Client t r) → Asks t c
@@ -240,7 +242,7 @@ module _ (ms : Monitors) (w : World) (p : Plain) (I : InvOf ms w) (places : Plac
       by = one;
       at = newest_at t r b;
       session = t;
-      was = record { by = one; among = (0, omega arith, refl); at = refl; below = in_map; session = refl; command = is; form = subst (λ (o : Option Command). IfSome o IsCommand) is b.1 };
+      was = record { by = one; among = (0, omega arith, refl); at = refl; below = in_map; session = refl; command = is; form = subst (λ (o : Option Command). IfSome o IsCommand) is (subst (PlainFits ms.count) b.1 d.fit).1 };
     },
     refl,
   )
@@ -254,23 +256,20 @@ module _ (ms : Monitors) (w : World) (p : Plain) (I : InvOf ms w) (places : Plac
 
   -- what is known of a message that comes
   pub said : (m : Message) → Brought ms w p i (input.Deliver m) → ((m.from < n) × MessageHolds I.g i m) × MessageFine m
-  said m b = (
-    subst (λ (o : Option Envelope). IfSome o (EnvelopeHolds n I.g)) b.1 (all_get (EnvelopeHolds n I.g) w.messages b.0 I.sent),
-    subst (λ (o : Option Envelope). IfSome o EnvelopeFine) b.1 (all_get EnvelopeFine w.messages b.0 I.sizes),
-  )
+  said m b = (sent_known ms w p d.by w.asked I (EnvelopeHolds n I.g) I.sent m b, sent_known ms w p d.by w.asked I EnvelopeFine I.sizes m b)
 
   -- ---- what comes
 
   -- the sessions that an input may answer are settled
   abbrev pub SettledBy : (Session → Type 0) → Input → Type 0
   SettledBy Settled (input.Client t r) = Settled t
-  SettledBy Settled (input.Deliver m) = BodyReturns self d.at w0 d.state Settled m.epoch m.body
+  SettledBy Settled (input.Deliver m) = BodyReturns self d.by.at w0 d.by.state Settled m.epoch m.body
   SettledBy Settled other = Unit {0}
 
-  pub anybody : SettledBy Anybody d.came
-  anybody = by d.came
+  pub anybody : SettledBy Anybody d.by.came
+  anybody = by d.by.came
     where
-      returns : (e : ℕ) (b : Body) → BodyReturns self d.at w0 d.state Anybody e b
+      returns : (e : ℕ) (b : Body) → BodyReturns self d.by.at w0 d.by.state Anybody e b
       returns e (body.Route seq r) = λ u p now_is a among same. tt
       returns e other = tt
 
@@ -280,31 +279,31 @@ module _ (ms : Monitors) (w : World) (p : Plain) (I : InvOf ms w) (places : Plac
       by (input.Timer t) = tt
       by (input.Client t r) = tt
 
-  module _ (Settled : Session → Type 0) (S : SettledBy Settled d.came) where
-    request_known : (t : Session) (r : Request) → ((c : Command) → command_of r ≡ Some c → Asks t c) → RequestKnown self d.at w0 d.state Source Asks Settled t r
+  module _ (Settled : Session → Type 0) (S : SettledBy Settled d.by.came) where
+    request_known : (t : Session) (r : Request) → ((c : Command) → command_of r ≡ Some c → Asks t c) → RequestKnown self d.by.at w0 d.by.state Source Asks Settled t r
     request_known t (request.Set key value) k = let A = k (command.Set key value) refl in (from_client t (command.Set key value) A, A)
     request_known t (request.Remove key) k = let A = k (command.Remove key) refl in (from_client t (command.Remove key) A, A)
     request_known t (request.Log text) k = let A = k (command.Log text) refl in (from_client t (command.Log text) A, A)
     request_known t (request.Show v) k = tt
     request_known t (request.Since v m) k = tt
 
-    timer_known : (t : Timer) → TimerKnown self d.at w0 d.state Source Asks Settled t
+    timer_known : (t : Timer) → TimerKnown self d.by.at w0 d.by.state Source Asks Settled t
     timer_known timer.Propose = first_known
     timer_known other = tt
 
-    body_known : (f e : ℕ) (b : Body) → BodyForwards n w.asked places (w.store i) (w.state i) f i e b → BodyHolds I.g f i e b → f < n → BodyReturns self d.at w0 d.state Settled e b → BodyKnown self d.at w0 d.state Source Asks Settled f e b
+    body_known : (f e : ℕ) (b : Body) → BodyForwards n w.asked places (w.store i) (w.state i) f i e b → BodyHolds I.g f i e b → f < n → BodyReturns self d.by.at w0 d.by.state Settled e b → BodyKnown self d.by.at w0 d.by.state Source Asks Settled f e b
     body_known f e (body.Forward seq c) F B lt K = forward_known f e seq c F B lt
     body_known f e (body.Route seq r) F B lt K = K
     body_known f e other F B lt K = tt
 
-    input_known : (came : Input) → Brought ms w p i came → SettledBy Settled came → InputKnown self d.at w0 d.state Source Asks Settled came
+    input_known : (came : Input) → Brought ms w p i came → SettledBy Settled came → InputKnown self d.by.at w0 d.by.state Source Asks Settled came
     input_known input.Start b K = tt
     input_known (input.Deliver m) b K =
         let z = said m b in
         let lt = z.0.0 in
-        (lt, body_known m.from m.epoch m.body (subst (λ (o : Option Envelope). IfSome o (Forwards n w.asked places w.store w.state)) b.1 (all_get (Forwards n w.asked places w.store w.state) w.messages b.0 T.forwards)) z.0.1.body lt K)
+        (lt, body_known m.from m.epoch m.body (sent_known ms w p d.by w.asked I (Forwards n w.asked places w.store w.state) T.forwards m b) z.0.1.body lt K)
     input_known (input.Timer t) b K = timer_known t
     input_known (input.Client t r) b K = (request_known t r (λ c is. newest t r c is b), K)
 
-    pub outcome : Outcome self d.at w0 d.state Source Asks Settled d.came d.y
-    outcome = (subst (Then (Outcome self d.at w0 d.state Source Asks Settled d.came)) d.is (takes self d.at w0 d.state Source Asks Settled (shared_entries (w.store i)) d.came (input_known d.came d.brought S))).holds
+    pub outcome : Outcome self d.by.at w0 d.by.state Source Asks Settled d.by.came d.y
+    outcome = (subst (Then (Outcome self d.by.at w0 d.by.state Source Asks Settled d.by.came)) d.is (takes self d.by.at w0 d.by.state Source Asks Settled (shared_entries (w.store i)) d.by.came (input_known d.by.came d.by.brought S))).holds

@@ -31,13 +31,14 @@ use Rattle.quorum_agreement.proofs.Answering.{peon_leads_not}
 use Rattle.quorum_agreement.proofs.LoneWorlds.{IsWhole}
 use Rattle.quorum_agreement.proofs.Premises.{requests_in}
 use Rattle.quorum_agreement.proofs.Result.{OneLog}
-use Rattle.quorum_commands.proofs.Coming.{Brought, Does, leads_unmarked, me, next, phase_holds, versions}
-use Rattle.quorum_commands.proofs.Sends.{AllOther, HandsNone, IsCalm, IsOther, others_calm}
-use Rattle.quorum_commands.proofs.Idle.{AllFair, Alone, Idle, IsFair, Leads, SameClients}
+use Rattle.quorum_commands.proofs.Coming.{Does, leads_unmarked, me, next, phase_holds, versions}
+use Rattle.quorum_commands.proofs.Sends.{AllFair, HandsNone, IsCalm, IsFair, Nobody, fair_calm}
+use Rattle.quorum_commands.proofs.Idle.{Alone, Idle, Leads, SameClients}
 use Rattle.quorum_commands.proofs.Places.{AllWait, AskedAt, HasOwn, IsAt, IsForwarded, MadeAt, MadeOf, Moves, Place, Places, Nowhere, Handed, Queued, Begun, StillAt, Tickets, Waits, is_moved, moved_to, moves, own_lasts, wait_last, wait_push, was_there}
 use Rattle.quorum_commands.proofs.Sources as sources
 use Rattle.quorum_commands.proofs.Sources.{HasAsker, SettledBy, asks_longer, asks_more}
 use Rattle.quorum_commands.proofs.Taking.{Becomes, Commits, Hands, Outcome, Proposes, Takes, TakesNone}
+use Rattle.quorum_model.proofs.Happening.{Brought}
 use Rattle.quorum_history.proofs.History.{ext_refl}
 use Rattle.quorum_history.proofs.Holds.{Core, FollowsIn, Good, InPhase, StageHolds, core_of}
 use Rattle.quorum_history.proofs.Phases.{electing_is, no, peon_is_peon, votes_in_odd}
@@ -64,12 +65,12 @@ vote_place other = Nowhere
 -- ---- an event
 
 module _ (ms : Monitors) (w : World) (p : Plain) (I : InvOf ms w) (L : OneLog ms w) (W : ms.count ≡ 1 → (i : ℕ) → i < ms.count → IsWhole w.log (w.store i)) (places : Places)
-    (T : Tickets ms.count places w.store w.state w.transactions w.messages w.asked w.log) (d : Does ms w p) (Settled : Session → Type 0) (S0 : SettledBy ms w p I places T d Settled d.came) where
+    (T : Tickets ms.count places w.store w.state w.transactions w.messages w.asked w.log) (d : Does ms w p) (Settled : Session → Type 0) (S0 : SettledBy ms w p I places T d Settled d.by.came) where
   abbrev n : ℕ
   n = ms.count
 
   abbrev i : ℕ
-  i = d.rank
+  i = d.by.rank
 
   abbrev asked : List Asked
   asked = with_asked p w.asked
@@ -78,7 +79,7 @@ module _ (ms : Monitors) (w : World) (p : Plain) (I : InvOf ms w) (L : OneLog ms
   self = me ms w I p d
 
   abbrev w0 : Readings
-  w0 = readings_of (w.store d.rank)
+  w0 = readings_of (w.store d.by.rank)
 
   abbrev after_store : Store
   after_store = next ms w I p d
@@ -90,9 +91,9 @@ module _ (ms : Monitors) (w : World) (p : Plain) (I : InvOf ms w) (L : OneLog ms
   longer = asks_longer p w.asked
 
   in_map : i < n
-  in_map = ltb-true d.rank ms.count d.lt
+  in_map = ltb-true d.by.rank ms.count d.by.lt
 
-  K : InPhase n I.g i (core_of (own_of w0) d.state) d.state.phase
+  K : InPhase n I.g i (core_of (own_of w0) d.by.state) d.by.state.phase
   K = phase_holds ms w I p d
 
   -- ---- what an event leaves of requests
@@ -136,9 +137,13 @@ module _ (ms : Monitors) (w : World) (p : Plain) (I : InvOf ms w) (L : OneLog ms
     pub tie : HasAsker ms w p I places T d origin command
     pub out : d.y.out ≡ answer_to self (epoch_of w0) origin reply ∷ []
 
-  -- it refuses a command, or nothing; or it moves none, and refuses only sessions that are settled
+  -- the session is settled, and no request moves
+  abbrev pub Stills : Places → Session → Type 0
+  Stills after t = Settled t × ((k : ℕ) → after k ≡ places k)
+
+  -- It refuses a command. Or it refuses nobody, or moves no request and refuses only sessions that are settled.
   abbrev pub Says : Places → Type 0
-  Says after = Refuses after ⊎ (AllByRecursion IsCalm d.y.out ⊎ (((k : ℕ) → after k ≡ places k) × AllFair self d.at w0 d.state Settled d.y.out))
+  Says after = Refuses after ⊎ AllByRecursion (IsCalm (Stills after)) d.y.out
 
   -- one request goes to another place at most, and all others stay
   pub record Leaves : Type 0 where
@@ -166,17 +171,10 @@ module _ (ms : Monitors) (w : World) (p : Plain) (I : InvOf ms w) (L : OneLog ms
   other_body after from to e (body.Forward seq c) k = absurd k
   other_body after from to e other k = tt
 
-  others_sent : (after : Places) (sends : List Sent) → AllOther sends → AllByRecursion (SendsOwn after) sends
-  others_sent after sends k = all_map IsOther (SendsOwn after) by sends k
+  fair_sent : (S : Session → Type 0) (after : Places) (sends : List Sent) → AllFair S sends → AllByRecursion (SendsOwn after) sends
+  fair_sent S after sends k = all_map (IsFair S) (SendsOwn after) by sends k
     where
-      by : (x : Sent) → IsOther x → SendsOwn after x
-      by (sent.Message to m) o = other_body after m.from to m.epoch m.body o
-      by (sent.Reply t r) o = tt
-
-  fair_sent : (after : Places) (sends : List Sent) → AllFair self d.at w0 d.state Settled sends → AllByRecursion (SendsOwn after) sends
-  fair_sent after sends k = all_map (IsFair self d.at w0 d.state Settled) (SendsOwn after) by sends k
-    where
-      by : (x : Sent) → IsFair self d.at w0 d.state Settled x → SendsOwn after x
+      by : (x : Sent) → IsFair S x → SendsOwn after x
       by (sent.Message to m) o = other_body after m.from to m.epoch m.body o
       by (sent.Reply t r) o = tt
 
@@ -185,11 +183,11 @@ module _ (ms : Monitors) (w : World) (p : Plain) (I : InvOf ms w) (L : OneLog ms
   answer_sent after (origin.Forwarded f seq) r = (tt, tt)
 
   -- those that waited here
-  waited : Waits n w.asked places i d.state.clients.queue d.state.clients.taken
+  waited : Waits n w.asked places i d.by.state.clients.queue d.by.state.clients.taken
   waited = sources.waited ms w p I places T d
 
   -- a leader was up
-  was_up : is_leading d.state.phase ≡ true → w.state i ≡ Some d.state
+  was_up : is_leading d.by.state.phase ≡ true → w.state i ≡ Some d.by.state
   was_up = sources.was_up ms w p I places T d
 
   free_still : (k : ℕ) → length asked ≤ k → places k ≡ Nowhere
@@ -198,7 +196,7 @@ module _ (ms : Monitors) (w : World) (p : Plain) (I : InvOf ms w) (L : OneLog ms
   -- ---- what a request makes
 
   -- the value of a command that a request asked
-  made_over : is_leading d.state.phase ≡ true → (k : ℕ) (c : Command) (o : Origin) (ops : List Op) → AskedAt n asked k (asker i o) c → value w0 c (asked_of self o) ≡ Ok ops → MadeOf n asked w.log k (suc w0.last) ops
+  made_over : is_leading d.by.state.phase ≡ true → (k : ℕ) (c : Command) (o : Origin) (ops : List Op) → AskedAt n asked k (asker i o) c → value w0 c (asked_of self o) ≡ Ok ops → MadeOf n asked w.log k (suc w0.last) ops
   made_over t k c o ops a e =
       let V = versions ms w I p d L (leads_unmarked ms w I p d t) in
       record {
@@ -226,7 +224,7 @@ module _ (ms : Monitors) (w : World) (p : Plain) (I : InvOf ms w) (L : OneLog ms
   abbrev Asks : Session → Command → Type 0
   Asks = sources.Asks ms w p I places T d
 
-  outcome : Outcome self d.at w0 d.state Source Asks Settled d.came d.y
+  outcome : Outcome self d.by.at w0 d.by.state Source Asks Settled d.by.came d.y
   outcome = sources.outcome ms w p I places T d Settled S0
 
   -- ---- if nothing is written
@@ -238,11 +236,11 @@ module _ (ms : Monitors) (w : World) (p : Plain) (I : InvOf ms w) (L : OneLog ms
       none a = a
 
   -- those that wait still do, if nothing moves
-  still_waits : Waits n asked places i d.state.clients.queue d.state.clients.taken
-  still_waits = let q = waited in (q.0, q.1, wait_last n w.asked asked still Nowhere places places stays i q.1 d.state.clients.queue (λ u le e. absurd cc) q.2)
+  still_waits : Waits n asked places i d.by.state.clients.queue d.by.state.clients.taken
+  still_waits = let q = waited in (q.0, q.1, wait_last n w.asked asked still Nowhere places places stays i q.1 d.by.state.clients.queue (λ u le e. absurd cc) q.2)
 
-  same_waits : (after : Places) (c : Clients) → SameClients c d.state.clients → Waits n asked after i d.state.clients.queue d.state.clients.taken → Waits n asked after i c.queue c.taken
-  same_waits after c same h = subst (λ (xs : List Waiting). Waits n asked after i xs c.taken) (sym same.0) (subst (λ (ts : List ℕ). Waits n asked after i d.state.clients.queue ts) (sym same.1) h)
+  same_waits : (after : Places) (c : Clients) → SameClients c d.by.state.clients → Waits n asked after i d.by.state.clients.queue d.by.state.clients.taken → Waits n asked after i c.queue c.taken
+  same_waits after c same h = subst (λ (xs : List Waiting). Waits n asked after i xs c.taken) (sym same.0) (subst (λ (ts : List ℕ). Waits n asked after i d.by.state.clients.queue ts) (sym same.1) h)
 
   -- ---- if no command is taken
 
@@ -251,7 +249,7 @@ module _ (ms : Monitors) (w : World) (p : Plain) (I : InvOf ms w) (L : OneLog ms
   Known v x = (k : ℕ) × (places k ≡ Begun v (text x))
 
   module _ (several : 1 < n) where
-    good : Good self I.g Known (at_rest w0 d.state)
+    good : Good self I.g Known (at_rest w0 d.by.state)
     good = record {
       h = I.g;
       ext = ext_refl i I.g;
@@ -276,19 +274,19 @@ module _ (ms : Monitors) (w : World) (p : Plain) (I : InvOf ms w) (L : OneLog ms
     fits_in (input.Timer t) b = tt
     fits_in (input.Client t r) b = tt
 
-    repeated : brings d.came ≡ false → (v q : ℕ) (x : List Op) → Among (Vote v q x) d.y.changes → Known v x
+    repeated : brings d.by.came ≡ false → (v q : ℕ) (x : List Op) → Among (Vote v q x) d.y.changes → Known v x
     repeated none v q x a =
-        let B = (subst (Then (Good self I.g Known)) d.is (reacts_plain self d.at I.g Known (shared_entries (w.store i)) w0 d.state d.came none (input_holds d.came d.brought none) (fits_in d.came d.brought) (I.mine i).fine.records good)).holds in
+        let B = (subst (Then (Good self I.g Known)) d.is (reacts_plain self d.by.at I.g Known (shared_entries (w.store i)) w0 d.by.state d.by.came none (input_holds d.by.came d.by.brought none) (fits_in d.by.came d.by.brought) (I.mine i).fine.records good)).holds in
         B.known self.member.rank v q x (B.tied.votes v q x a)
 
-  alone : n ≡ 1 → Alone self d.at w0 d.state Settled
+  alone : n ≡ 1 → Alone self d.by.at w0 d.by.state Settled
   unfolding pending_of
   alone one = record {
     one = one;
     none = (let z = H.settled in ap (λ (b : Bool). cond b (found_as w0.pending_v w0.pending_pn (record_at w0.record_of (suc w0.last))) None) (ne_eqb w0.pending_v (suc w0.last) (λ e. omega arith)));
     replays = λ from end t e.
-        let R = requests_in self I.g w0 d.state I.glob d.state.phase t K in
-        let full = (subst (StageHolds I.g w0.last w0.floor d.state.requester.provider d.state.requester.full d.state.requester.start d.state.requester.place.version) e R.1).0 in
+        let R = requests_in self I.g w0 d.by.state I.glob d.by.state.phase t K in
+        let full = (subst (StageHolds I.g w0.last w0.floor d.by.state.requester.provider d.by.state.requester.full d.by.state.requester.start d.by.state.requester.place.version) e R.1).0 in
         no (sym (R.0 ∙ H.unmarked) ∙ full);
   }
     where
@@ -300,24 +298,24 @@ module _ (ms : Monitors) (w : World) (p : Plain) (I : InvOf ms w) (L : OneLog ms
   same_epoch here e low now_is = let up = here.epoch in omega arith
 
   -- who stood for election leads in a later epoch
-  elected : Here → (e : ℕ) → e ≤ epoch_of w0 → epoch_of (readings_of after_store) ≡ e → is_leading d.y.state.phase ≡ true → d.state.phase ≡ phase.Electing → ⊥
-  elected here e low now_is leads stood = by d.remembers (here.inside (rw leads refl) (now_is ∙ sym (same_epoch here e low now_is)))
+  elected : Here → (e : ℕ) → e ≤ epoch_of w0 → epoch_of (readings_of after_store) ≡ e → is_leading d.y.state.phase ≡ true → d.by.state.phase ≡ phase.Electing → ⊥
+  elected here e low now_is leads stood = by d.by.remembers (here.inside (rw leads refl) (now_is ∙ sym (same_epoch here e low now_is)))
     where
-      by : (w.state i ≡ Some d.state) ⊎ (d.state ≡ booting i) → is_in (w.state i) ≡ true → ⊥
+      by : (w.state i ≡ Some d.by.state) ⊎ (d.by.state ≡ booting i) → is_in (w.state i) ≡ true → ⊥
       by (inl z) k = no (sym (ap is_in z ∙ ap is_member stood) ∙ k)
       by (inr z) k = let booted : phase.Booting ≡ phase.Electing = sym (ap (λ (s : State). s.phase) z) ∙ stood in absurd cc
 
-  idle_opens : Idle self d.at w0 d.state Settled d.y → Opens places
+  idle_opens : Idle self d.by.at w0 d.by.state Settled d.y → Opens places
   idle_opens Q here f e seq c leads now_is lt apart below F = by (Q.leads leads)
     where
-      by : Leads self d.at w0 d.state Settled d.y.state.clients → HasOwn n asked places (Handed f i e seq) f c
+      by : Leads self d.by.at w0 d.by.state Settled d.y.state.clients → HasOwn n asked places (Handed f i e seq) f c
       by (inl z) = own_lasts n w.asked asked still Nowhere places places stays (Handed f i e seq) f c (λ u. absurd cc)
-          (F.own d.state (was_up z.0) z.0 (same_epoch here e F.low now_is) (subst (λ (ts : List ℕ). slice_index_or ts f 0 < seq) z.1.1 lt))
-      by (inr (inl z)) = absurd (elected here e F.low now_is leads (votes_in_odd n I.g i (core_of (own_of w0) d.state) d.state.phase I.glob.roles z.1 z.0 K))
-      by (inr (inr (inl z))) = absurd (elected here e F.low now_is leads (electing_is d.state.phase z))
+          (F.own d.by.state (was_up z.0) z.0 (same_epoch here e F.low now_is) (subst (λ (ts : List ℕ). slice_index_or ts f 0 < seq) z.1.1 lt))
+      by (inr (inl z)) = absurd (elected here e F.low now_is leads (votes_in_odd n I.g i (core_of (own_of w0) d.by.state) d.by.state.phase I.glob.roles z.1 z.0 K))
+      by (inr (inr (inl z))) = absurd (elected here e F.low now_is leads (electing_is d.by.state.phase z))
       by (inr (inr (inr one))) = absurd (apart (let few = ltb-false 1 n one in let b = in_map in omega arith))
 
-  idle_leaves : TakesNone self d.at w0 d.state Source Asks Settled d.came d.y → Leaves
+  idle_leaves : TakesNone self d.by.at w0 d.by.state Source Asks Settled d.by.came d.y → Leaves
   idle_leaves N = record {
     from = Nowhere;
     at = tt;
@@ -327,24 +325,24 @@ module _ (ms : Monitors) (w : World) (p : Plain) (I : InvOf ms w) (L : OneLog ms
     begun = λ k v bytes e. inl e;
     waits = wait N.idle.clients;
     opens = idle_opens N.idle;
-    sends = fair_sent places d.y.out N.idle.out;
-    says = inr (inr ((λ k. refl), N.idle.out));
+    sends = fair_sent Settled places d.y.out N.idle.out;
+    says = inr (fair_calm Settled (Stills places) (λ t z. (z, λ k. refl)) d.y.out N.idle.out);
     settled = λ k lt e. e;
-    votes = λ several. vote several (brings d.came) refl;
+    votes = λ several. vote several (brings d.by.came) refl;
     lone = λ one. inl (N.idle.last (alone one));
   }
     where
-      wait : SameClients d.y.state.clients d.state.clients ⊎ (d.y.state.clients ≡ no_clients) → Waits n asked places i d.y.state.clients.queue d.y.state.clients.taken
+      wait : SameClients d.y.state.clients d.by.state.clients ⊎ (d.y.state.clients ≡ no_clients) → Waits n asked places i d.y.state.clients.queue d.y.state.clients.taken
       wait (inl same) = same_waits places d.y.state.clients same still_waits
       wait (inr e) = subst (λ (c : Clients). Waits n asked places i c.queue c.taken) (sym e) (refl, 0, tt)
 
-      vote : 1 < n → (b : Bool) → brings d.came ≡ b → (v q : ℕ) (x : List Op) → Among (Vote v q x) d.y.changes → (k : ℕ) × (places k ≡ Begun v (text x))
+      vote : 1 < n → (b : Bool) → brings d.by.came ≡ b → (v q : ℕ) (x : List Op) → Among (Vote v q x) d.y.changes → (k : ℕ) × (places k ≡ Begun v (text x))
       vote several true e = no_votes places (N.stays e)
       vote several false e = repeated several e
 
   -- ---- if a command is taken
 
-  module _ (H : Takes self d.at w0 d.state Source Asks Settled d.y) where
+  module _ (H : Takes self d.by.at w0 d.by.state Source Asks Settled d.y) where
     abbrev S : Source H.command H.origin H.others H.taken
     S = H.source
 
@@ -352,7 +350,7 @@ module _ (ms : Monitors) (w : World) (p : Plain) (I : InvOf ms w) (L : OneLog ms
     takes_opens after M here f e seq c leads now_is lt apart below F =
         let o = S.open_still f seq (subst (λ (ts : List ℕ). slice_index_or ts f 0 < seq) H.counts lt) in
         let same = same_epoch here e F.low now_is in
-        own_lasts n w.asked asked still S.from places after M (Handed f i e seq) f c (subst (λ (u : ℕ). Handed f i u seq ≡ S.from → ⊥) same o.1) (F.own d.state (was_up H.leads) H.leads same o.0)
+        own_lasts n w.asked asked still S.from places after M (Handed f i e seq) f c (subst (λ (u : ℕ). Handed f i u seq ≡ S.from → ⊥) same o.1) (F.own d.by.state (was_up H.leads) H.leads same o.0)
 
     others_wait : (after : Places) → Moves S.from places after → AllWait n asked after i S.ticket H.others
     others_wait after M = wait_last n w.asked asked still S.from places after M i S.ticket H.others S.apart S.wait
@@ -411,11 +409,11 @@ module _ (ms : Monitors) (w : World) (p : Plain) (I : InvOf ms w) (L : OneLog ms
       begun_in : (k v : ℕ) (bytes : List ℕ) → goes_to to k ≡ Begun v bytes → (places k ≡ Begun v bytes) ⊎ MadeAt n asked w.log k v bytes
       begun_in k v bytes e = elim (was_there S.k to places k (Begun v bytes) e) [ inl o ↦ inl o | inr q ↦ inr (subst (λ (j : ℕ). MadeAt n asked w.log j v bytes) (sym q.0) (subst MadeThere q.1 (record { x = ops; encodes = refl; of = own }))) ]
 
-      votes_in : Proposes self d.at w0 d.state Source Asks Settled ops d.y ⊎ Commits self d.at w0 d.state Source Asks Settled ops d.y → (v q : ℕ) (x : List Op) → Among (Vote v q x) d.y.changes → (k : ℕ) × (goes_to to k ≡ Begun v (text x))
+      votes_in : Proposes self d.by.at w0 d.by.state Source Asks Settled ops d.y ⊎ Commits self d.by.at w0 d.by.state Source Asks Settled ops d.y → (v q : ℕ) (x : List Op) → Among (Vote v q x) d.y.changes → (k : ℕ) × (goes_to to k ≡ Begun v (text x))
       votes_in (inl c) v q x a = elim (subst (λ (cs : List Change). Among (Vote v q x) cs) c.1 a) [ inl e ↦ (S.k, there ∙ sym (ap vote_place e)) | inr b ↦ absurd b ]
       votes_in (inr c) v q x a = elim (subst (λ (cs : List Change). Among (Vote v q x) cs) c.0 a) [ inl e ↦ absurd cc | inr b ↦ elim b [ inl e ↦ absurd cc | inr b ↦ absurd b ] ]
 
-      lone_in : Proposes self d.at w0 d.state Source Asks Settled ops d.y ⊎ Commits self d.at w0 d.state Source Asks Settled ops d.y → (d.y.readings.last ≡ w0.last) ⊎ CommitsOwn (goes_to to)
+      lone_in : Proposes self d.by.at w0 d.by.state Source Asks Settled ops d.y ⊎ Commits self d.by.at w0 d.by.state Source Asks Settled ops d.y → (d.y.readings.last ≡ w0.last) ⊎ CommitsOwn (goes_to to)
       lone_in (inl c) = inl c.2
       lone_in (inr c) = inr (record { ops = ops; k = S.k; place = there; made = own; changes = c.0; last = c.1 })
 
@@ -425,7 +423,7 @@ module _ (ms : Monitors) (w : World) (p : Plain) (I : InvOf ms w) (L : OneLog ms
         waits_there : (x : Waiting) (to : Place) → to ≡ Queued i (S.ticket + length H.others) → AskedAt n asked S.k (asker i x.origin) x.command → AllWait n asked (goes_to to) i S.ticket (H.others ++ x ∷ [])
         waits_there x to is a = wait_push n asked (goes_to to) i S.ticket H.others x (others_wait (goes_to to) (goes to)) (record { k = S.k; place = is_moved S.k to places ∙ is; of = a })
 
-        by : Becomes self d.at w0 d.state Source Asks Settled H.command H.origin H.others d.y → Leaves
+        by : Becomes self d.by.at w0 d.by.state Source Asks Settled H.command H.origin H.others d.y → Leaves
         by (inl z) =
             leaves_as (goes_to Nowhere) (goes Nowhere) (goes_free Nowhere)
             (λ k v bytes e. elim (was_there S.k Nowhere places k (Begun v bytes) e) [ inl o ↦ inl o | inr q ↦ (let bad : Nowhere ≡ Begun v bytes = q.1 in absurd cc) ])
@@ -438,16 +436,16 @@ module _ (ms : Monitors) (w : World) (p : Plain) (I : InvOf ms w) (L : OneLog ms
             leaves_as (goes_to to) (goes to) (goes_free to)
             (λ k v bytes e. elim (was_there S.k to places k (Begun v bytes) e) [ inl o ↦ inl o | inr q ↦ (let bad : to ≡ Begun v bytes = q.1 in absurd cc) ])
             (counted (goes_to to) (H.others ++ x ∷ []) S.ticket z.queue (waits_there x to refl S.asks)) (no_votes (goes_to to) z.writes.changes) (inl (ap (λ (r : Readings). r.last) z.writes.readings))
-            (others_sent (goes_to to) d.y.out z.out) (inr (inl (others_calm d.y.out z.out))) (goes_settled to)
+            (fair_sent Nobody (goes_to to) d.y.out z.out) (inr (fair_calm Nobody (Stills (goes_to to)) (λ t none. absurd none) d.y.out z.out)) (goes_settled to)
         by (inr (inr z)) =
             let B = z.begins in
             let own = made_over H.leads S.k H.command H.origin B.ops S.asks B.made in
             let to = Begun (suc w0.last) (text B.ops) in
             leaves_as (goes_to to) (goes to) (goes_free to) (begun_in B.ops own) (counted (goes_to to) H.others S.ticket z.queue (others_wait (goes_to to) (goes to))) (votes_in B.ops own B.how) (lone_in B.ops own B.how)
-            (others_sent (goes_to to) d.y.out z.out) (inr (inl (others_calm d.y.out z.out))) (goes_settled to)
+            (fair_sent Nobody (goes_to to) d.y.out z.out) (inr (fair_calm Nobody (Stills (goes_to to)) (λ t none. absurd none) d.y.out z.out)) (goes_settled to)
 
   -- a peon hands one on
-  hands_leaves : Hands self d.at w0 d.state Source Asks Settled d.y → Leaves
+  hands_leaves : Hands self d.by.at w0 d.by.state Source Asks Settled d.y → Leaves
   hands_leaves H = record {
     from = Nowhere;
     at = tt;
@@ -456,9 +454,9 @@ module _ (ms : Monitors) (w : World) (p : Plain) (I : InvOf ms w) (L : OneLog ms
     free = λ k le. let lt = slice_get_within asked k0 H.asked.1.by H.asked.1.at in ap (λ (b : Bool). cond b to (places k)) (ne_eqb k k0 (λ e. omega arith)) ∙ free_still k le;
     begun = λ k v bytes e. elim (was_there k0 to places k (Begun v bytes) e) [ inl o ↦ inl o | inr q ↦ (let bad : to ≡ Begun v bytes = q.1 in absurd cc) ];
     waits = same_waits after d.y.state.clients (H.queue, H.taken) wait;
-    opens = λ here f e seq c leads now_is lt apart below F. no (sym (ap is_leading H.still ∙ peon_leads_not d.state.phase H.peon) ∙ leads);
+    opens = λ here f e seq c leads now_is lt apart below F. no (sym (ap is_leading H.still ∙ peon_leads_not d.by.state.phase H.peon) ∙ leads);
     sends = subst (λ (out : List Sent). AllByRecursion (SendsOwn after) out) (sym H.out) ((low, record { k = k0; place = is_moved k0 to places; of = H.asked.1 }), tt);
-    says = inr (inl (subst (λ (out : List Sent). AllByRecursion IsCalm out) (sym H.out) (tt, tt)));
+    says = inr (subst (λ (out : List Sent). AllByRecursion (IsCalm (Stills after)) out) (sym H.out) (tt, tt));
     settled = λ k lt e. ap (λ (b : Bool). cond b to (places k)) (ne_eqb k k0 (λ z. omega arith)) ∙ e;
     votes = λ several. no_votes after H.writes.changes;
     lone = λ one. inl (ap (λ (r : Readings). r.last) H.writes.readings);
@@ -468,24 +466,24 @@ module _ (ms : Monitors) (w : World) (p : Plain) (I : InvOf ms w) (L : OneLog ms
       k0 = length w.asked
 
       to : Place
-      to = Handed i d.state.peon.leader (epoch_of w0) H.seq
+      to = Handed i d.by.state.peon.leader (epoch_of w0) H.seq
 
       after : Places
-      after = moved_to (length w.asked) (Handed i d.state.peon.leader (epoch_of w0) H.seq) places
+      after = moved_to (length w.asked) (Handed i d.by.state.peon.leader (epoch_of w0) H.seq) places
 
-      wait : Waits n asked after i d.state.clients.queue d.state.clients.taken
-      wait = let q = waited in (q.0, q.1, wait_last n w.asked asked still Nowhere places after (moves k0 Nowhere to places H.asked.0) i q.1 d.state.clients.queue (λ u le e. absurd cc) q.2)
+      wait : Waits n asked after i d.by.state.clients.queue d.by.state.clients.taken
+      wait = let q = waited in (q.0, q.1, wait_last n w.asked asked still Nowhere places after (moves k0 Nowhere to places H.asked.0) i q.1 d.by.state.clients.queue (λ u le e. absurd cc) q.2)
 
-      low : epoch_of w0 ≤ epoch_of (readings_of (w.store d.state.peon.leader))
+      low : epoch_of w0 ≤ epoch_of (readings_of (w.store d.by.state.peon.leader))
       low =
-          let c : Core = core_of (own_of w0) d.state in
-          let F : FollowsIn I.g i c = subst (InPhase n I.g i c) (peon_is_peon d.state.phase H.peon) K in
-          (I.mine d.state.peon.leader).disk.kept.roles (epoch_of w0) d.state.peon.leader d.state.peon.quorum (I.glob.roles.lead i (epoch_of w0) d.state.peon.leader d.state.peon.quorum F.role)
+          let c : Core = core_of (own_of w0) d.by.state in
+          let F : FollowsIn I.g i c = subst (InPhase n I.g i c) (peon_is_peon d.by.state.phase H.peon) K in
+          (I.mine d.by.state.peon.leader).disk.kept.roles (epoch_of w0) d.by.state.peon.leader d.by.state.peon.quorum (I.glob.roles.lead i (epoch_of w0) d.by.state.peon.leader d.by.state.peon.quorum F.role)
 
   pub leaves : Leaves
   leaves = by outcome
     where
-      by : Outcome self d.at w0 d.state Source Asks Settled d.came d.y → Leaves
+      by : Outcome self d.by.at w0 d.by.state Source Asks Settled d.by.came d.y → Leaves
       by (inl N) = idle_leaves N
       by (inr (inl H)) = takes_leaves H
       by (inr (inr H)) = hands_leaves H

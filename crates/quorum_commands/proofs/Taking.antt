@@ -50,8 +50,8 @@ use Rattle.mon_wire.specs.declared.request.Request.{Request}
 use Rattle.mon_wire.specs.declared.request.Session.{Session}
 use Rattle.quorum_agreement.proofs.Accepting.{then_map}
 use Rattle.quorum_agreement.proofs.Lone.{active_is}
-use Rattle.quorum_commands.proofs.Idle.{AllFair, BodyReturns, Heard, Idle, Returns, idles, says}
-use Rattle.quorum_commands.proofs.Sends.{AllOther, IsOther}
+use Rattle.quorum_commands.proofs.Idle.{BodyReturns, Heard, Idle, Returns, idles, says}
+use Rattle.quorum_commands.proofs.Sends.{AllFair, IsFair, Nobody}
 use Rattle.quorum_history.proofs.Phases.{any_leads, no}
 use Rattle.quorum_history.proofs.Rows.{body_brings, brings, timer_brings}
 use Rattle.std.proofs.Common.{Bool, Err, List, Ok, Option, Result, Some, [], ap, eqb, false, inl, inr, leb, length, ltb, not, refl, subst, suc, sym, true, ℕ, ◌&&◌, ◌++◌, ◌<◌, ◌∙◌, ◌∷◌, ◌≡◌, ◌⊎◌}
@@ -92,12 +92,12 @@ module _ (me : Me) (now : ℕ) (w : Readings) (s : State) (Source : Command → 
   pub record IsQueued (c : Command) (o : Origin) (others : List Waiting) (y : Course) : Type 0 where
     pub queue : y.state.clients.queue ≡ others ++ record { command = c; origin = o } ∷ []
     pub writes : WritesNone y
-    pub out : AllOther y.out
+    pub out : AllFair Nobody y.out
 
   pub record HasBegun (c : Command) (o : Origin) (others : List Waiting) (y : Course) : Type 0 where
     pub queue : y.state.clients.queue ≡ others
     pub begins : Begins c o y
-    pub out : AllOther y.out
+    pub out : AllFair Nobody y.out
 
   abbrev pub Becomes : Command → Origin → List Waiting → Course → Type 0
   Becomes c o others y = IsRefused o others y ⊎ (IsQueued c o others y ⊎ HasBegun c o others y)
@@ -138,7 +138,7 @@ module _ (me : Me) (now : ℕ) (w : Readings) (s : State) (Source : Command → 
   abbrev x0 : Course
   x0 = at_rest w s
 
-  done_other : (e v : ℕ) (o : Origin) → AllOther (answer_to me e o (reply.Done v) ∷ [])
+  done_other : (e v : ℕ) (o : Origin) → AllFair Nobody (answer_to me e o (reply.Done v) ∷ [])
   done_other e v (origin.Session t) = ((λ u. u), tt)
   done_other e v (origin.Forwarded f seq) = ((λ u. u), tt)
 
@@ -160,7 +160,7 @@ module _ (me : Me) (now : ℕ) (w : Readings) (s : State) (Source : Command → 
           becomes = inr (inr (record {
             queue = ap (λ (q : State). q.clients.queue) K.state;
             begins = record { ops = ops; made = e; how = inr (K.changes, K.last) };
-            out = subst (λ (out : List Sent). AllOther (out ++ answer_to me (epoch_of y.readings) o (reply.Done (suc w.last)) ∷ [])) (sym K.out) (done_other (epoch_of y.readings) (suc w.last) o);
+            out = subst (λ (out : List Sent). AllFair Nobody (out ++ answer_to me (epoch_of y.readings) o (reply.Done (suc w.last)) ∷ [])) (sym K.out) (done_other (epoch_of y.readings) (suc w.last) o);
           }));
         }
 
@@ -178,7 +178,7 @@ module _ (me : Me) (now : ℕ) (w : Readings) (s : State) (Source : Command → 
               becomes = inr (inr (record {
                 queue = refl;
                 begins = record { ops = ops; made = e; how = inl (z.leader.pn, refl, refl) };
-                out = all_of IsOther (message_to me (epoch_of w) (body.Begin z.leader.pn (suc w.last) ops)) (λ to. tt) (members me z.leader.quorum);
+                out = all_of (IsFair Nobody) (message_to me (epoch_of w) (body.Begin z.leader.pn (suc w.last) ops)) (λ to. tt) (members me z.leader.quorum);
               }));
             })))
         by (Err e) q = done (record {
@@ -222,7 +222,7 @@ module _ (me : Me) (now : ℕ) (w : Readings) (s : State) (Source : Command → 
   -- ---- what brings a command
 
   -- nothing is done but what is said
-  resting : (came : Input) (sends : List Sent) → AllFair me now w s Settled sends → Then (Outcome came) (Ok (record x0 { out = sends }))
+  resting : (came : Input) (sends : List Sent) → AllFair Settled sends → Then (Outcome came) (Ok (record x0 { out = sends }))
   resting came sends O = done (inl (record { idle = says me now w s Settled sends O; stays = λ t. refl }))
 
   -- what brings none takes none

@@ -14,12 +14,13 @@ use Rattle.quorum_laws.proofs.Events as laws
 use Rattle.quorum_laws.proofs.Invariant.{Further, InvOf}
 use Rattle.quorum_model.specs.Clients.{messages_of, replies_of, with_asked}
 use Rattle.quorum_model.specs.Events.{AllFit, PlainFits}
-use Rattle.quorum_model.specs.Happens.{Stop, happens, kept_only, lost, moved, unmoved}
+use Rattle.quorum_model.proofs.Happening.{of_next, run_keeps}
+use Rattle.quorum_model.specs.Happens.{happens, kept_only, lost, moved, unmoved}
 use Rattle.quorum_model.specs.Monitors.{Monitors}
-use Rattle.quorum_model.specs.Runs.{goes_on as goes_on_from, ran_from, run, run_from}
+use Rattle.quorum_model.specs.Runs.{run}
 use Rattle.quorum_model.specs.World.{Asked, Event, Plain, Replied, World, first_world, plain_of}
 use Rattle.quorum_walk.proofs.Lists.{all_append, all_map}
-use Rattle.std.proofs.Common.{Err, List, Ok, Result, [], ap, arith, length, suc, sym, ℕ, ◌<◌, ◌∙◌, ◌∷◌, ◌≡◌}
+use Rattle.std.proofs.Common.{List, ap, arith, length, suc, sym, ℕ, ◌<◌, ◌∙◌, ◌≡◌}
 use Rattle.std.specs.Prelude.{IfOk}
 
 -- of the requests of a world, and of those that were answered
@@ -65,7 +66,7 @@ module _ (ms : Monitors) (D : Basis ms) where
       abbrev Becoming : Ghost → Type 0
       Becoming h = Becomes ms w p I K.places K.tickets K.answers d (D.one w B) (D.whole w B) h (suc w.events) (next ms w I p d) d.y.out
 
-      keeps : Next (kept_only w p d.rank (reaction_of d.y))
+      keeps : Next (kept_only w p d.by.rank (reaction_of d.y))
       unfolding kept_only
       keeps f h F =
           let S = may_answer ms w p I K.places K.tickets K.answers d in
@@ -73,7 +74,7 @@ module _ (ms : Monitors) (D : Basis ms) where
           let T = falls ms D w p B I K.places K.tickets d _ S f in
           (E.after, T.0, silent h F E.after E.settled)
 
-      moves : Next (moved w p d.rank (reaction_of d.y))
+      moves : Next (moved w p d.by.rank (reaction_of d.y))
       unfolding moved
       moves f h F =
           let S = may_answer ms w p I K.places K.tickets K.answers d in
@@ -84,7 +85,7 @@ module _ (ms : Monitors) (D : Basis ms) where
             C.tickets _ _ _ _ _ T.0,
             record {
               back = all_append (Back h asked C.after) w.messages (messages_of d.y.out) old.back C.back;
-              known = all_append (IsKnown asked C.after) w.replied (replies_of (suc w.events) d.rank (next ms w I p d) d.y.out) old.known C.known;
+              known = all_append (IsKnown asked C.after) w.replied (replies_of (suc w.events) d.by.rank (next ms w I p d) d.y.out) old.known C.known;
             },
           )
 
@@ -96,23 +97,18 @@ module _ (ms : Monitors) (D : Basis ms) where
       (follows ms D (λ w next. (h : Ghost) → Further K.inv.g h → KeptWith ms next h) w e F B
       (each_event ms w (λ (next : World). Follows ms D w next → (h : Ghost) → Further K.inv.g h → KeptWith ms next h) e F (unmoves w p B K) (forgets w p B K) (moves w p B K) (keeps w p B K))) (laws.event_holds ms w e F K.inv)
 
-  -- ---- runs
+  abbrev Stands : World → Type 0
+  Stands w = D.holds w × Kept ms w
 
-  run_kept : (w : World) (es : List Event) → AllFit ms.count es → D.holds w → Kept ms w → Kept ms (run_from ms w es)
-  unfolding ran_from
-  run_kept w [] F B K = K
-  run_kept w (e ∷ es) F B K = by (happens ms w e) (event w e F.0 B K) (λ next. run_kept next es F.1)
-    where
-      by : (r : Result World Stop) → IfOk r (λ next. D.holds next × Kept ms next) → ((next : World) → D.holds next → Kept ms next → Kept ms (run_from ms next es)) → Kept ms (goes_on_from w (λ next. ran_from ms next es) r).world
-      by (Ok next) k ih = ih next k.0 k.1
-      by (Err stop) k ih = K
+  run_kept : (events : List Event) → AllFit ms.count events → Stands (run ms events)
+  run_kept events F = run_keeps ms (λ e. PlainFits ms.count (plain_of e)) Stands (λ w e fits h next q. of_next Stands (happens ms w e) next q (event w e fits h.0 h.1)) first_world events F (D.first, first_kept ms)
 
 module _ (ms : Monitors) (events : List Event) (F : AllFit ms.count events) where
   abbrev now : World
   now = run ms events
 
   K : Kept ms now
-  K = let D = basis ms in run_kept ms D first_world events F D.first (first_kept ms)
+  K = (run_kept ms (basis ms) events F).1
 
   logged : (v : ℕ) → v < length now.log → LoggedAt ms.count now.asked now.log K.places v
   logged v lt = K.tickets.logged v lt

@@ -170,13 +170,13 @@ asked_more n places store state txs messages asked more log short values still l
 -- ---- a monitor goes on, or goes down once it kept what it writes
 
 module _ (ms : Monitors) (w : World) (p : Plain) (I : InvOf ms w) (L : OneLog ms w) (W : ms.count ≡ 1 → (i : ℕ) → i < ms.count → IsWhole w.log (w.store i)) (places : Places)
-    (T : Tickets ms.count places w.store w.state w.transactions w.messages w.asked w.log) (d : Does ms w p) (Settled : Session → Type 0) (S0 : SettledBy ms w p I places T d Settled d.came) (now : Option State) (rises : epoch_of (readings_of (w.store d.rank)) ≤ epoch_of (readings_of (next ms w I p d)))
+    (T : Tickets ms.count places w.store w.state w.transactions w.messages w.asked w.log) (d : Does ms w p) (Settled : Session → Type 0) (S0 : SettledBy ms w p I places T d Settled d.by.came) (now : Option State) (rises : epoch_of (readings_of (w.store d.by.rank)) ≤ epoch_of (readings_of (next ms w I p d)))
     (up : (s : State) → now ≡ Some s → (d.y.state ≡ s) × Here ms w p I L W places T d Settled S0) where
   abbrev n : ℕ
   n = ms.count
 
   abbrev i : ℕ
-  i = d.rank
+  i = d.by.rank
 
   abbrev asked : List Asked
   asked = with_asked p w.asked
@@ -276,7 +276,7 @@ module _ (ms : Monitors) (w : World) (p : Plain) (I : InvOf ms w) (L : OneLog ms
     -- one that is alone grows the log by what it commits at once
     module _ (one : n ≡ 1) (bytes : List ℕ) (is : newer ≡ w.log ++ bytes ∷ []) where
       below : i < n
-      below = ltb-true d.rank ms.count d.lt
+      below = ltb-true d.by.rank ms.count d.by.lt
 
       before : IsWhole w.log (w.store i)
       before = W one i below
@@ -347,7 +347,7 @@ module _ (ms : Monitors) (w : World) (p : Plain) (I : InvOf ms w) (L : OneLog ms
         by : (1 ≡ n) ⊎ ((1 < n) ⊎ (n < 1)) → (k : ℕ) × (E.after k ≡ Begun (suc (length w.log)) (entry newer (suc (length w.log))))
         by (inl e) = new_alone (sym e) bytes is
         by (inr (inl several)) = among several
-        by (inr (inr none)) = absurd (let b = ltb-true d.rank ms.count d.lt in omega arith)
+        by (inr (inr none)) = absurd (let b = ltb-true d.by.rank ms.count d.by.lt in omega arith)
 
     pub goes_last : Lasts n w.asked asked w.log newer places E.after
     goes_last = logged_lasts n w.asked asked still w.log newer L.short L.values grows places E.after E.from i E.at E.moves
