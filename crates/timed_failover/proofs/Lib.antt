@@ -1,4 +1,9 @@
 pub mod Deserting
 pub mod Led
 pub mod Owned
+pub mod SettledAtOnce
+pub mod Settlers
+pub mod SettlersCome
+pub mod SettlersCount
+pub mod SettlersHear
 pub mod WholeLog

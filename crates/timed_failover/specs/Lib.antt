@@ -1,3 +1,4 @@
 pub mod Failover
 pub mod Newest
 pub mod Reached
+pub mod Settling

@@ -1,17 +1,20 @@
-ghost use Rattle.std.specs.Prelude.{ℕ, ◌+◌, ◌<◌, ◌^◌, ◌≡◌, ◌≤◌, Bool, List, Some, length, suc};
+ghost use Rattle.std.specs.Prelude.{ℕ, ◌+◌, ◌<◌, ◌^◌, ◌≡◌, ◌≤◌, Bool, List, Some, length, suc, ◌*◌};
 ghost use Rattle.mon_msg.specs.Protocol.State.{State};
+ghost use Rattle.mon_tx.specs.declared.op.Op.{Op};
 ghost use Rattle.quorum_laws.specs.Accepting.{readings_at};
 ghost use Rattle.quorum_model.specs.Events.{AllFit};
 ghost use Rattle.quorum_model.specs.Monitors.{Monitors};
 ghost use Rattle.quorum_model.specs.Runs.{run};
 ghost use Rattle.quorum_model.specs.World.{Event};
+ghost use Rattle.quorum_stays.specs.Reading.{ClocksGoOn};
 ghost use Rattle.quorum_stays.specs.Steady.{Reign, Round, Steady};
-ghost use Rattle.quorum_timed.specs.Begins.{Begins};
-ghost use Rattle.quorum_timed.specs.Timed.{Pace, Timed};
+ghost use Rattle.quorum_timed.specs.Begins.{Begins, IsQuick};
+ghost use Rattle.quorum_timed.specs.Timed.{Leads, Pace, Timed};
 ghost use Rattle.timed_election.specs.Joining.{Deserted};
 ghost use Rattle.timed_failover.specs.Failover.{IsWithout, NobodyCalls, from_time};
 ghost use Rattle.timed_failover.specs.Newest.{IsNewest};
 ghost use Rattle.timed_failover.specs.Reached.{IsAsLed, Reached};
+ghost use Rattle.timed_failover.specs.Settling.{IsSettledBy, Opens, Settles, Settling, opening};
 
 /// A leader that serves under the newest number has the whole log. Its number is the newest if a majority of which all
 /// are in its quorum promised no greater one. This holds after every run of two or more monitors under any rule, crashes
@@ -37,4 +40,22 @@ pub fn law_lost_leader_deserts()
         → Reached ms t.world → Steady ms full (from_time earlier pace) reign r t → IsWithout full q reign.leader
         → Begins ms q pace t → NobodyCalls q t → suc reign.epoch ≤ 2 ^ 62
         → Deserted q pace reign.epoch (pace.since + 10000) t }
+{}
+
+/// A value that a new leader found is committed within two delays after it is begun, if the leader began it within four
+/// delays after its victory. From then on the quorum is led (`Steady`), and its last version has that value. Clients may
+/// ask what they want meanwhile.
+pub fn law_found_value_is_committed()
+    ensures { (ms : Monitors) (q : List Bool) (pace : Pace) (reign : Reign) (x : Settling) (t last : Timed)
+        (more : List (ℕ × Event)) → IsQuick pace → 4 * pace.delay ≤ 3000 → Settles ms q pace reign x t
+        → Leads ms q pace t more last → ClocksGoOn q pace last.time → x.found.at + 2 * pace.delay < last.time
+        → IsSettledBy ms q pace reign x t more (x.found.at + 2 * pace.delay) }
+{}
+
+/// A new leader that found nothing leads its quorum as soon as it gave the first leases, if that is within four delays
+/// after its victory. A member may lack the last version, if that is under way to it.
+pub fn law_first_leases_lead()
+    ensures { (ms : Monitors) (q : List Bool) (pace : Pace) (reign : Reign) (version : ℕ) (value : List Op) (won : ℕ)
+        (t : Timed) → 4 * pace.delay ≤ 3000 → Opens ms q pace reign version value won t
+        → Steady ms q pace reign (opening version value won t.time) t }
 {}
