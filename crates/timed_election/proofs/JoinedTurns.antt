@@ -18,7 +18,6 @@ use Rattle.mon_msg.specs.declared.view.Me.{Me}
 use Rattle.mon_types.specs.Ranks.{has, is_majority, no_ranks, with_rank}
 use Rattle.mon_wire.specs.declared.body.Body.TheVariants as body
 use Rattle.mon_wire.specs.declared.message.Message.{Message}
-use Rattle.mon_wire.specs.declared.phase.Phase.TheVariants as phase
 use Rattle.mon_wire.specs.declared.phase.Timer.TheVariants as timer
 use Rattle.mon_wire.specs.declared.phase.Timer.{Timer}
 use Rattle.quorum_agreement.proofs.Others.{others as has_others}
@@ -43,15 +42,14 @@ use Rattle.std.specs.List.{AllByRecursion}
 use Rattle.std.specs.Prelude.{IsSomeAnd, slice_get}
 use Rattle.timed_election.proofs.Coming.{Handled, How, again, asks, came_or_left, fires, first as first_, left_same, new_at}
 use Rattle.timed_election.proofs.Counting.{not_whole, several}
-use Rattle.timed_election.proofs.Joining.{Beginning, Begun, First, Goes, HeardIn, IsIn, Joining, Missed, Standing, Stock, Takes, call, election, joined}
+use Rattle.timed_election.proofs.Joining.{Beginning, First, Goes, HeardIn, IsIn, Joining, Missed, Stock, Takes, election, joined}
 use Rattle.timed_election.proofs.JoiningFrame.{IsMute, Said, Turned, acks_on, all_left, missed_on, others_same, under}
-use Rattle.timed_election.proofs.JoiningTurns.{Known, begun_on, called_on, calls_mute, calls_said, heard_on, known, quiet_mute, quiet_said, takes_on, time_is}
+use Rattle.timed_election.proofs.JoiningTurns.{Known, begun_on, called_on, calls_mute, calls_said, heard_on, known, quiet_mute, quiet_said, takes_on}
 use Rattle.timed_election.proofs.Lists.{arrives_last, at_place, closed, letter_is, message_in, one, opened}
-use Rattle.timed_election.proofs.Outcomes.{Heard as Came, IsLow, Outcome, Stays, ack_taken, calls, calls_again, counts, defers, reacted, rests, says, wins}
-use Rattle.timed_election.proofs.Quiet.{IsQuiet}
+use Rattle.timed_election.proofs.Outcomes.{Heard as Came, IsLow, Outcome, Stays, ack_taken, calls, calls_again, counts, defers, reacted, rests, wins}
 use Rattle.timed_election.proofs.Ranking.{nobody_better, not_itself}
 use Rattle.timed_election.specs.Election.{ArrivesBy, CanElect, Defers, Election, Heard, IsAck, Stands, TakesPart, in_election}
-use Rattle.timed_election.specs.Joining.{IsNear, IsNearIn}
+use Rattle.timed_election.specs.Joining.{IsNear}
 
 module _ (ms : Monitors) (q : List Bool) (pace : Pace) (short : 2 * pace.delay < 2000) (B : Beginning) (C : CanElect ms q B.best) (early : pace.since ≤ B.by)
     (near : (i j : ℕ) → has q i ≡ true → has q j ≡ true → IsNear (B.last i) (B.first j) (B.last j)) where

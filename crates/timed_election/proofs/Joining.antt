@@ -1,6 +1,5 @@
 -- What holds while the members join an election one by one.
 use Rattle.mon_msg.specs.Protocol.Readings.{Readings, epoch_of, readings_of}
-use Rattle.mon_msg.specs.Protocol.State.{State}
 use Rattle.mon_msg.specs.Protocol.Timers.{end_of}
 use Rattle.mon_types.specs.Ranks.{has}
 use Rattle.mon_wire.specs.declared.body.Body.TheVariants as body
@@ -11,12 +10,11 @@ use Rattle.quorum_model.specs.Monitors.{Monitors}
 use Rattle.quorum_model.specs.World.{Envelope, World}
 use Rattle.quorum_timed.specs.Calls.{IsCall}
 use Rattle.quorum_timed.specs.Timed.{MayBe, Owed, Pace, Timed}
-use Rattle.std.proofs.Common.{Bool, List, None, Option, Some, [], arith, false, inl, inr, min, refl, subst, suc, sym, true, ℕ, ◌*◌, ◌+◌, ◌<◌, ◌∷◌, ◌≡◌, ◌≤◌, ◌⊎◌}
+use Rattle.std.proofs.Common.{Bool, List, None, Option, Some, [], arith, false, min, refl, suc, true, ℕ, ◌*◌, ◌+◌, ◌∷◌, ◌≡◌, ◌≤◌, ◌⊎◌}
 use Rattle.std.specs.List.{AllByRecursion}
 use Rattle.std.specs.Prelude.{IsSomeAnd}
-use Rattle.timed_election.proofs.Lists.{opened}
-use Rattle.timed_election.specs.Election.{ArrivesBy, CanElect, Election, Heard, IsAck, Stands, TakesPart}
-use Rattle.timed_election.specs.Joining.{FollowsLost, IsNear, IsNearIn}
+use Rattle.timed_election.specs.Election.{ArrivesBy, Election, Heard, IsAck, Stands, TakesPart}
+use Rattle.timed_election.specs.Joining.{FollowsLost, IsNearIn}
 use Rattle.timed_election.specs.Probing.{IsAnswer, IsProbe, IsProbing}
 
 -- a message under way arrives by then

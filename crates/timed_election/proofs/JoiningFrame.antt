@@ -1,17 +1,12 @@
 -- What an event at one member leaves of the others, while they join an election.
 use Rattle.log_model.proofs.Lists.{all_both, all_map}
-use Rattle.mon_msg.specs.Protocol.Course.{Course}
-use Rattle.mon_msg.specs.Protocol.Entering.{is_even}
 use Rattle.mon_msg.specs.Protocol.Phases.{same_phase}
-use Rattle.mon_msg.specs.Protocol.Readings.{Readings, epoch_of, readings_of}
+use Rattle.mon_msg.specs.Protocol.Readings.{epoch_of, readings_of}
 use Rattle.mon_msg.specs.Protocol.State.{State}
 use Rattle.mon_msg.specs.Protocol.Timers.{end_of}
-use Rattle.mon_msg.specs.declared.input.Input.TheVariants as input
-use Rattle.mon_msg.specs.declared.input.Input.{Input}
 use Rattle.mon_tx.specs.Map.{Store}
 use Rattle.mon_types.specs.Ranks.{has}
 use Rattle.mon_wire.specs.declared.body.Body.TheVariants as body
-use Rattle.mon_wire.specs.declared.message.Message.{Message}
 use Rattle.mon_wire.specs.declared.phase.Phase.TheVariants as phase
 use Rattle.mon_wire.specs.declared.phase.Phase.{Phase}
 use Rattle.mon_wire.specs.declared.phase.Timer.TheVariants as timer
@@ -21,20 +16,19 @@ use Rattle.quorum_model.specs.Monitors.{Monitors}
 use Rattle.quorum_model.specs.World.{Envelope, Event}
 use Rattle.quorum_stays.proofs.Onward.{one_state}
 use Rattle.quorum_stays.proofs.UnderWay.{numbers}
-use Rattle.quorum_stays.specs.Reading.{ClocksGoOn}
-use Rattle.quorum_timed.specs.Begins.{IsBetween, IsQuick}
+use Rattle.quorum_timed.specs.Begins.{IsBetween}
 use Rattle.quorum_timed.specs.Calls.{IsCall}
 use Rattle.quorum_timed.specs.Timed.{MayBe, Owed, Pace, Timed, owed_by}
-use Rattle.std.proofs.Common.{Bool, List, None, Option, Some, [], ap, arith, false, inl, inr, length, ltb, refl, subst, suc, sym, true, ℕ, ◌*◌, ◌++◌, ◌+◌, ◌<◌, ◌^◌, ◌∙◌, ◌∷◌, ◌≡◌, ◌≤◌, ◌⊎◌}
-use Rattle.std.proofs.lemmas.Bool.{cases_eq, false≢true, lt-ltb}
+use Rattle.std.proofs.Common.{Bool, List, None, Some, ap, arith, false, inl, inr, length, refl, subst, suc, sym, true, ℕ, ◌*◌, ◌++◌, ◌+◌, ◌<◌, ◌∙◌, ◌≡◌, ◌≤◌, ◌⊎◌}
+use Rattle.std.proofs.lemmas.Bool.{cases_eq, false≢true}
 use Rattle.std.specs.List.{AllByRecursion}
 use Rattle.std.specs.Prelude.{IsSomeAnd, slice_get}
 use Rattle.timed_election.proofs.Coming.{Handled, left_all, left_same, new_at, next_all, on_state, same_there, still, time_is, under_now}
 use Rattle.timed_election.proofs.Joining.{Beginning, Begun, Called, First, Goes, HeardIn, IsIn, Joining, Missed, Prober, Since, Standing, Stock, Takes, arrives_by, call, election, joined, peon, prober, top}
 use Rattle.timed_election.proofs.Lists.{arrives_more, at_place, closed, old_or_new, opened}
 use Rattle.timed_election.proofs.Probing.{goes, still_by}
-use Rattle.timed_election.specs.Election.{ArrivesBy, CanElect, Heard, IsAck, Stands, TakesPart, in_election}
-use Rattle.timed_election.specs.Joining.{FollowsLost, IsNear, IsNearIn}
+use Rattle.timed_election.specs.Election.{ArrivesBy, CanElect, IsAck, in_election}
+use Rattle.timed_election.specs.Joining.{FollowsLost, IsNearIn}
 use Rattle.timed_election.specs.Probing.{CanAnswer, IsProbing, Probes}
 
 module _ (ms : Monitors) (q : List Bool) (pace : Pace) (short : 2 * pace.delay < 2000) (B : Beginning) (C : CanElect ms q B.best) (early : pace.since ≤ B.by) where

@@ -1,36 +1,31 @@
 -- The members join the election, event by event, until all take part.
 use Rattle.log_model.proofs.Lists.{all_map}
-use Rattle.mon_msg.specs.Protocol.Entering.{is_even, scores_count}
+use Rattle.mon_msg.specs.Protocol.Entering.{is_even}
 use Rattle.mon_msg.specs.Protocol.Readings.{epoch_of, readings_of}
 use Rattle.mon_msg.specs.Protocol.State.{State}
 use Rattle.mon_types.specs.Ranks.{has}
 use Rattle.mon_wire.specs.declared.body.Body.TheVariants as body
 use Rattle.mon_wire.specs.declared.body.Body.{Body}
-use Rattle.mon_wire.specs.declared.message.Message.{Message}
-use Rattle.quorum_model.specs.Meets.{message_at}
 use Rattle.quorum_model.specs.Monitors.{Monitors}
 use Rattle.quorum_model.specs.World.{Envelope, Event}
-use Rattle.quorum_stays.proofs.Onward.{one_state}
 use Rattle.quorum_stays.proofs.Staying.{goes_on, time_of_next}
 use Rattle.quorum_stays.proofs.SteppingDown.{here}
 use Rattle.quorum_stays.specs.Reading.{ClocksGoOn}
 use Rattle.quorum_stays.specs.Steady.{Reign}
 use Rattle.quorum_timed.specs.Begins.{IsQuick}
 use Rattle.quorum_timed.specs.Calls.{IsCall}
-use Rattle.quorum_timed.specs.Timed.{Comes, Leads, MayBe, Owed, Pace, Timed, at_time}
+use Rattle.quorum_timed.specs.Timed.{Comes, Leads, MayBe, Pace, Timed, at_time}
 use Rattle.quorum_walk.proofs.Parity.{odd_of_even}
-use Rattle.std.proofs.Common.{Bool, List, None, Option, Some, [], ap, arith, false, inl, inr, min, refl, subst, suc, sym, true, zero, ℕ, ◌*◌, ◌+◌, ◌<◌, ◌^◌, ◌∙◌, ◌∷◌, ◌≡◌, ◌≤◌, ◌⊎◌}
+use Rattle.std.proofs.Common.{Bool, List, None, Some, [], ap, arith, false, inl, inr, refl, subst, suc, sym, true, zero, ℕ, ◌*◌, ◌+◌, ◌<◌, ◌^◌, ◌∙◌, ◌∷◌, ◌≡◌, ◌≤◌, ◌⊎◌}
 use Rattle.std.proofs.lemmas.Bool.{false≢true}
-use Rattle.std.specs.List.{AllByRecursion}
-use Rattle.std.specs.Prelude.{IsSomeAnd}
 use Rattle.timed_election.proofs.Coming.{Handled, handled}
 use Rattle.timed_election.proofs.JoinedTurns.{in_turn}
-use Rattle.timed_election.proofs.Joining.{Beginning, Begun, First, Goes, HeardIn, IsIn, Joining, Missed, Standing, Stock, Takes, call, election, joined, peon, prober, top}
+use Rattle.timed_election.proofs.Joining.{Beginning, First, Goes, IsIn, Joining, Standing, Takes, election, joined, peon, prober, top}
 use Rattle.timed_election.proofs.JoiningFrame.{Soon, Turned, between, joining_next, out_by, time_now, ups}
 use Rattle.timed_election.proofs.JoiningTurns.{first_of, peon_turn, prober_turn}
 use Rattle.timed_election.proofs.Lists.{closed, opened}
-use Rattle.timed_election.specs.Election.{CanElect, Election, Elects, Heard, IsAck, IsOfElection, Stands, TakesPart, Unheard, in_election}
-use Rattle.timed_election.specs.Joining.{Deserted, FollowsLost, IsNear, IsNearIn, IsOld, IsOther, JoinBy}
+use Rattle.timed_election.specs.Election.{CanElect, Election, Elects, IsAck, IsOfElection, Stands, TakesPart, in_election}
+use Rattle.timed_election.specs.Joining.{Deserted, IsNear, IsNearIn, IsOld, IsOther, JoinBy}
 
 -- one of two things holds of each member: the first of all, or the second of one
 pub all_or_one : (q : List Bool) (P Q : ℕ → Type 0) → ((i : ℕ) → has q i ≡ true → P i ⊎ Q i) → ((i : ℕ) → has q i ≡ true → P i) ⊎ ((i : ℕ) × (has q i ≡ true) × Q i)

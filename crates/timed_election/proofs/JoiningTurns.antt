@@ -2,20 +2,18 @@
 use Rattle.election_rules.specs.Ranking.{allows, outranks}
 use Rattle.mon_bytes.specs.declared.entry.Entry.{Entry}
 use Rattle.mon_msg.specs.Protocol.Changes.{Change, Epoch}
-use Rattle.mon_msg.specs.Protocol.Course.{Course}
 use Rattle.mon_msg.specs.Protocol.Elections.{is_allowed, stands_before}
-use Rattle.mon_msg.specs.Protocol.Entering.{elect, is_even, scores_count}
+use Rattle.mon_msg.specs.Protocol.Entering.{is_even, scores_count}
 use Rattle.mon_msg.specs.Protocol.Phases.{same_phase, votes}
 use Rattle.mon_msg.specs.Protocol.Played.{Fits, played}
 use Rattle.mon_msg.specs.Protocol.Readings.{Readings, epoch_of, readings_of, shared_entries}
 use Rattle.mon_msg.specs.Protocol.Sending.{message_to, others}
 use Rattle.mon_msg.specs.Protocol.Sets.{only}
 use Rattle.mon_msg.specs.Protocol.State.{State}
-use Rattle.mon_msg.specs.Protocol.Table.{at_rest, react}
+use Rattle.mon_msg.specs.Protocol.Table.{react}
 use Rattle.mon_msg.specs.Protocol.Timers.{end_of}
 use Rattle.mon_msg.specs.declared.input.Input.TheVariants as input
 use Rattle.mon_msg.specs.declared.input.Input.{Input}
-use Rattle.mon_msg.specs.declared.plan.Sent.TheVariants as sent
 use Rattle.mon_msg.specs.declared.plan.Sent.{Sent}
 use Rattle.mon_msg.specs.declared.view.Me.{Me}
 use Rattle.mon_types.specs.Ranks.{count_of, has, is_majority, no_ranks}
@@ -25,7 +23,6 @@ use Rattle.mon_wire.specs.declared.message.Message.{Message}
 use Rattle.mon_wire.specs.declared.phase.Phase.TheVariants as phase
 use Rattle.mon_wire.specs.declared.phase.Phase.{Phase}
 use Rattle.mon_wire.specs.declared.phase.Timer.TheVariants as timer
-use Rattle.mon_wire.specs.declared.phase.Timer.{Timer}
 use Rattle.quorum_elects.proofs.Standing.{among_map, among_others}
 use Rattle.quorum_model.proofs.Members.{member_of}
 use Rattle.quorum_model.specs.Clients.{messages_of}
@@ -34,15 +31,13 @@ use Rattle.quorum_model.specs.Monitors.{Monitors}
 use Rattle.quorum_model.specs.World.{Envelope, Event}
 use Rattle.quorum_stays.proofs.Onward.{one_state}
 use Rattle.quorum_stays.proofs.UnderWay.{numbers}
-use Rattle.quorum_stays.specs.Reading.{ClocksGoOn}
-use Rattle.quorum_timed.specs.Begins.{IsQuick}
 use Rattle.quorum_timed.specs.Calls.{IsCall, IsCandidate}
 use Rattle.quorum_timed.specs.Timed.{MayBe, Owed, Pace, Timed, owed_by}
 use Rattle.quorum_walk.proofs.Lists.{Among as AmongE}
 use Rattle.quorum_walk.proofs.Parity.{odd_of_even}
 use Rattle.quorum_walk.proofs.Ranks.{has_only, has_only_is, nobody}
 use Rattle.quorum_walk.proofs.Walk.{Then}
-use Rattle.std.proofs.Common.{Bool, List, None, Ok, Option, Some, [], ap, arith, false, inl, inr, length, ltb, map, max, not, refl, subst, suc, sym, true, ℕ, ◌&&◌, ◌*◌, ◌++◌, ◌+◌, ◌<◌, ◌^◌, ◌∙◌, ◌∷◌, ◌≡◌, ◌≤◌, ◌⊎◌}
+use Rattle.std.proofs.Common.{Bool, List, None, Option, Some, [], ap, arith, false, inl, inr, length, ltb, map, not, refl, subst, suc, sym, true, ℕ, ◌&&◌, ◌*◌, ◌++◌, ◌+◌, ◌<◌, ◌^◌, ◌∙◌, ◌∷◌, ◌≡◌, ◌≤◌, ◌⊎◌}
 use Rattle.std.proofs.lemmas.Bool.{cases_eq, eq-eqb, false≢true, le-ltb, lt-ltb}
 use Rattle.std.proofs.lemmas.List.{length-set}
 use Rattle.std.specs.List.{AllByRecursion}
@@ -53,18 +48,18 @@ use Rattle.table_rows.proofs.Electing.{later_propose_row}
 use Rattle.timed_election.proofs.Coming.{Handled, How, again, asks, came_or_left, fires, first as first_, new_at}
 use Rattle.timed_election.proofs.Counting.{several}
 use Rattle.timed_election.proofs.Entering.{Calls, IsFresh, Joined, Joins, called as called_row, calls, defers, proposed}
-use Rattle.timed_election.proofs.FollowingRows.{Begins, Follows, IsOfMember, followed, joins, probes as begins, stays}
-use Rattle.timed_election.proofs.Joining.{Beginning, Begun, Called, First, Goes, HeardIn, IsIn, Joining, Missed, Prober, Since, Standing, Stock, Takes, arrives_by, call, election, joined, peon, prober, top}
+use Rattle.timed_election.proofs.FollowingRows.{Follows, IsOfMember, followed, joins, probes as begins, stays}
+use Rattle.timed_election.proofs.Joining.{Beginning, Begun, Called, First, Goes, HeardIn, IsIn, Joining, Missed, Prober, Since, Standing, Stock, Takes, call, election, joined, peon, prober, top}
 use Rattle.timed_election.proofs.JoiningFrame.{IsMute, Said, Soon, Turned, acks_on, all_left, called_by, missed_on, on, others_same, out_by, peon_by, probes, ready, same_left, there_still, time_now, under}
-use Rattle.timed_election.proofs.Lists.{all_sent, among_sent, arrives_after, arrives_last, arrives_new, at_place, closed, letter_is, message_in, one, opened, place_of}
+use Rattle.timed_election.proofs.Lists.{all_sent, among_sent, arrives_after, arrives_last, arrives_new, at_place, closed, message_in, one, opened, place_of}
 use Rattle.timed_election.proofs.Outcomes.{Heard as Came}
 use Rattle.timed_election.proofs.Probing.{goes, probed_so}
-use Rattle.timed_election.proofs.ProbingRows.{IsFar, Keeps, Probed, copies, elects, keeps}
+use Rattle.timed_election.proofs.ProbingRows.{IsFar, Probed, copies, elects, keeps}
 use Rattle.timed_election.proofs.Quiet.{IsPlain, IsQuiet, no_ack, no_call}
 use Rattle.timed_election.proofs.Ranking.{nobody_better, not_itself}
 use Rattle.timed_election.specs.Election.{ArrivesBy, CanElect, Defers, Heard, IsAck, Stands, TakesPart, in_election}
 use Rattle.timed_election.specs.Joining.{FollowsLost, IsNear, IsNearIn}
-use Rattle.timed_election.specs.Probing.{IsAnswer, IsProbe, IsProbing, Probes}
+use Rattle.timed_election.specs.Probing.{IsProbe, IsProbing, Probes}
 
 module _ (ms : Monitors) (q : List Bool) (pace : Pace) (short : 2 * pace.delay < 2000) (B : Beginning) (C : CanElect ms q B.best) (early : pace.since ≤ B.by)
     (near : (i j : ℕ) → has q i ≡ true → has q j ≡ true → IsNear (B.last i) (B.first j) (B.last j)) where
