@@ -1,13 +1,11 @@
 -- A run that rests goes on with every list of commands.
-use Rattle.std.proofs.Common.{ℕ, suc, ◌+◌, ◌<◌, ◌≤◌, List, [], ◌∷◌, ◌++◌, length, sym, subst, append-nil, append_assoc, arith}
-use Rattle.std.specs.List.{AllByRecursion}
-use Rattle.log_model.proofs.Lists.{length_push}
-use Rattle.log_model.specs.LogOfValues.{IsCommand}
-use Rattle.quorum_model.specs.CalmSchedule.{Order, asks_all, orders, starts}
-use Rattle.quorum_model.specs.Monitors.{Monitors}
-use Rattle.quorum_model.specs.World.{Event}
-use Rattle.calm_command.specs.Resting.{IsResting}
 use Rattle.calm_command.proofs.OneCommand.{next_rests}
+use Rattle.calm_command.specs.Resting.{IsResting}
+use Rattle.law_names.proofs.Runs.{Event, IsCommand, Monitors, Order, orders, starts}
+use Rattle.law_names.proofs.Table.{AllByRecursion}
+use Rattle.log_model.proofs.Lists.{length_push}
+use Rattle.quorum_model.specs.CalmSchedule.{asks_all}
+use Rattle.std.proofs.Common.{List, [], append-nil, append_assoc, arith, length, subst, suc, sym, ℕ, ◌++◌, ◌+◌, ◌<◌, ◌∷◌, ◌≤◌}
 
 abbrev MayCome : ℕ → Order → Type 0
 MayCome n c = (c.0 < n) × IsCommand c.1

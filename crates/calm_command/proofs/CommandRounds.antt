@@ -1,44 +1,22 @@
 -- A command comes, of whichever monitor it is asked.
-use Rattle.log_copies.specs.Versions.{HasVersions}
-use Rattle.log_model.specs.LogOfValues.{AllValues}
-use Rattle.mon_bytes.specs.declared.command.Command.{Command}
-use Rattle.mon_bytes.specs.declared.command.CommandRefused.{CommandRefused}
-use Rattle.mon_msg.specs.Protocol.Commands.{is_too_long, too_long}
-use Rattle.mon_msg.specs.Protocol.Proposing.{refusal}
-use Rattle.mon_msg.specs.Protocol.Readings.{readings_of}
-use Rattle.mon_msg.specs.Protocol.State.{State}
-use Rattle.mon_msg.specs.Protocol.Value.{value}
-use Rattle.mon_msg.specs.declared.clients.Asked.{Asked}
-use Rattle.mon_msg.specs.declared.input.Input.TheVariants as input
-use Rattle.mon_msg.specs.declared.input.Input.{Input}
-use Rattle.mon_msg.specs.declared.plan.Origin.TheVariants as origin
-use Rattle.mon_msg.specs.declared.plan.Origin.{Origin}
-use Rattle.mon_tx.specs.Map.{Store}
-use Rattle.mon_tx.specs.Text.{text}
-use Rattle.mon_tx.specs.declared.op.Op.{Op}
-use Rattle.mon_wire.specs.declared.body.Body.TheVariants as body
-use Rattle.mon_wire.specs.declared.reply.Reply.TheVariants as reply
-use Rattle.mon_wire.specs.declared.reply.Reply.{Reply}
-use Rattle.mon_wire.specs.declared.request.Request.{Request}
-use Rattle.mon_wire.specs.declared.request.Session.{Session}
-use Rattle.quorum_model.specs.CalmRun.{Answer}
-use Rattle.quorum_model.specs.CalmSchedule.{request_of}
-use Rattle.quorum_model.specs.Happens.{happens}
-use Rattle.quorum_model.specs.Monitors.{Monitors}
-use Rattle.quorum_model.specs.World.{Client, Arrives, Envelope, Plain, World}
-use Rattle.std.proofs.Common.{Bool, Err, List, Ok, [], ap, append-nil, arith, cond, eqb, false, length, ltb, refl, subst, suc, sym, true, zero, ℕ, ◌+◌, ◌-◌, ◌++◌, ◌<◌, ◌^◌, ◌∙◌, ◌∷◌, ◌≡◌, ◌≤◌}
-use Rattle.std.proofs.lemmas.Bool.{eq-eqb, ne_eqb}
-use Rattle.std.specs.List.{range_with_len}
-use Rattle.std.specs.Prelude.{slice_index_or, slice_set}
 use Rattle.calm_command.proofs.Quiet.{Quietly, asks_lead, forward_comes, forwards, long_lead, long_peon, refused, routes}
 use Rattle.calm_command.proofs.Roles.{Following, Holds, Leading, Role, Voting, to_each}
-use Rattle.calm_command.proofs.Values.{commits_alone, proposes}
 use Rattle.calm_command.proofs.Rounds.{Hears, Later, Standing, crew, leader_hears, one_hears, restand, to_rank}
-use Rattle.calm_command.proofs.States.{said}
 use Rattle.calm_command.proofs.Sets.{firsts}
-use Rattle.calm_command.proofs.ValueRounds.{peons, settles}
+use Rattle.calm_command.proofs.States.{said}
 use Rattle.calm_command.proofs.Stores.{Makes, long, longer, short, values}
+use Rattle.calm_command.proofs.ValueRounds.{peons, settles}
+use Rattle.calm_command.proofs.Values.{commits_alone, proposes}
 use Rattle.calm_command.proofs.Worlds.{After, Does, Is, Moves, One, and_then, at_once, moves}
+use Rattle.law_names.proofs.Runs.{AllValues, Answer, Arrives, Client, Envelope, Monitors, Plain, World, happens, request_of}
+use Rattle.law_names.proofs.Table.{Asked, Command, CommandRefused, Input, Op, Origin, Reply, Request, Session, State, Store, is_too_long, range_with_len, readings_of, refusal, text, too_long, value}
+use Rattle.log_copies.specs.Versions.{HasVersions}
+use Rattle.mon_msg.specs.declared.input.Input.TheVariants as input
+use Rattle.mon_msg.specs.declared.plan.Origin.TheVariants as origin
+use Rattle.mon_wire.specs.declared.body.Body.TheVariants as body
+use Rattle.mon_wire.specs.declared.reply.Reply.TheVariants as reply
+use Rattle.std.proofs.Common.{Bool, Err, List, Ok, [], ap, append-nil, arith, cond, eqb, false, length, ltb, refl, slice_index_or, slice_set, subst, suc, sym, true, zero, ℕ, ◌++◌, ◌+◌, ◌-◌, ◌<◌, ◌^◌, ◌∙◌, ◌∷◌, ◌≡◌, ◌≤◌}
+use Rattle.std.proofs.lemmas.Bool.{eq-eqb, ne_eqb}
 
 -- nobody waits
 abbrev pub nobody : ℕ → List Asked

@@ -1,19 +1,9 @@
 -- How a monitor that runs takes a client's command.
+use Rattle.law_names.proofs.Runs.{request_of}
+use Rattle.law_names.proofs.Table.{Command, Course, Entry, Me, Readings, Session, State, ask, at_rest, hear_client, react, same_phase}
 use Rattle.mon_bytes.specs.declared.command.Command.TheVariants as command
-use Rattle.mon_bytes.specs.declared.command.Command.{Command}
-use Rattle.mon_bytes.specs.declared.entry.Entry.{Entry}
-use Rattle.mon_msg.specs.Protocol.Commands.{ask}
-use Rattle.mon_msg.specs.Protocol.Course.{Course}
-use Rattle.mon_msg.specs.Protocol.Hearing.{hear_client}
-use Rattle.mon_msg.specs.Protocol.Phases.{same_phase}
-use Rattle.mon_msg.specs.Protocol.Readings.{Readings}
-use Rattle.mon_msg.specs.Protocol.State.{State}
-use Rattle.mon_msg.specs.Protocol.Table.{at_rest, react}
 use Rattle.mon_msg.specs.declared.input.Input.TheVariants as input
-use Rattle.mon_msg.specs.declared.view.Me.{Me}
 use Rattle.mon_wire.specs.declared.phase.Phase.TheVariants as phase
-use Rattle.mon_wire.specs.declared.request.Session.{Session}
-use Rattle.quorum_model.specs.CalmSchedule.{request_of}
 use Rattle.std.proofs.Common.{List, false, refl, ℕ, ◌∙◌, ◌≡◌}
 use Rattle.table_rows.proofs.Hearing.{asked}
 

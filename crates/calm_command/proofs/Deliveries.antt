@@ -1,14 +1,10 @@
 -- The events that deliver what waits, and their run.
-use Rattle.quorum_model.specs.CalmSchedule.{deliveries, numbers_delivered}
-use Rattle.quorum_model.specs.Happens.{Stop}
-use Rattle.quorum_model.specs.Monitors.{Monitors}
-use Rattle.quorum_model.specs.Runs.{Ran, goes_on, ran_from, run_from}
-use Rattle.quorum_model.specs.World.{Arrives, Deliver, Event, World}
-use Rattle.std.proofs.Common.{List, Result, [], ap, arith, cond, length, refl, suc, sym, zero, ℕ, ◌+◌, ◌-◌, ◌≤◌, ◌∙◌, ◌∷◌, ◌≡◌}
-use Rattle.std.proofs.lemmas.Bool.{le-leb, lt-leb}
-use Rattle.std.specs.List.{range_with_len}
 use Rattle.calm_command.proofs.Worlds.{Drains, delivered, finished}
+use Rattle.law_names.proofs.Runs.{Arrives, Deliver, Event, Monitors, Ran, Stop, World, deliveries, goes_on, numbers_delivered, ran_from, run_from}
+use Rattle.law_names.proofs.Table.{range_with_len}
 use Rattle.quorum_model.proofs.Continuing.{at, ran_one}
+use Rattle.std.proofs.Common.{List, Result, [], ap, arith, cond, length, refl, suc, sym, zero, ℕ, ◌+◌, ◌-◌, ◌∙◌, ◌∷◌, ◌≡◌, ◌≤◌}
+use Rattle.std.proofs.lemmas.Bool.{le-leb, lt-leb}
 
 pub drains_up : (ms : Monitors) (k : ℕ) (w : World) (j : ℕ) (last : World) → Drains ms k w j last → k ≤ j
 drains_up ms _ _ _ _ (finished k w) = omega arith

@@ -1,37 +1,23 @@
 -- A run that rests goes on with one more command, and rests again.
-use Rattle.log_copies.proofs.Matching.{monitor_keeps, read_last}
-use Rattle.log_copies.specs.Versions.{HasVersions}
-use Rattle.log_model.proofs.Committed.{value_told}
-use Rattle.log_model.proofs.Lists.{length_push}
-use Rattle.log_model.specs.LogOfValues.{AllValues, IsCommand}
-use Rattle.mon_bytes.specs.declared.command.Command.{Command}
-use Rattle.mon_bytes.specs.declared.command.CommandRefused.{CommandRefused}
-use Rattle.mon_msg.specs.Protocol.Commands.{is_too_long}
-use Rattle.mon_msg.specs.Protocol.Proposing.{refusal}
-use Rattle.mon_msg.specs.Protocol.Readings.{readings_of}
-use Rattle.mon_msg.specs.Protocol.Value.{value}
-use Rattle.mon_tx.specs.Map.{Store}
-use Rattle.mon_tx.specs.Text.{text}
-use Rattle.mon_tx.specs.declared.op.Op.{Op}
-use Rattle.mon_wire.specs.declared.reply.Reply.TheVariants as reply
-use Rattle.mon_wire.specs.declared.reply.Reply.{Reply}
-use Rattle.quorum_model.specs.CalmRun.{Answer, answers_of, log_of, reply_over, value_over, with_value}
-use Rattle.quorum_model.specs.CalmSchedule.{Order, asks, request_of, session, then_delivered}
-use Rattle.quorum_model.specs.Monitors.{Monitors}
-use Rattle.quorum_model.specs.Runs.{run}
-use Rattle.quorum_model.specs.World.{Client, Event}
-use Rattle.std.proofs.Common.{Bool, Err, List, Ok, Result, [], ap, arith, cond, eqb, false, inl, inr, length, refl, subst, suc, sym, true, zero, ℕ, ◌+◌, ◌-◌, ◌++◌, ◌<◌, ◌^◌, ◌∙◌, ◌∷◌, ◌≡◌, ◌≤◌, ◌⊎◌}
-use Rattle.std.proofs.Math.ListN.{length-set}
-use Rattle.std.proofs.lemmas.Bool.{cases_eq, cases_order, eq-eqb, ne_eqb}
-use Rattle.std.proofs.lemmas.Grind.{get_or-set_at}
-use Rattle.std.proofs.lemmas.List.{get_or-set_other}
-use Rattle.std.specs.Prelude.{slice_index_or, slice_set}
 use Rattle.calm_command.proofs.CommandRounds.{Goes, alone, long_at_leader, long_at_peon, of_leader, of_peon, one_up, refused_at_leader, refused_at_peon}
 use Rattle.calm_command.proofs.Resting.{At, Comes_to, all_stand, answers_push, comes_to, log_push, long_refused, rests_at}
 use Rattle.calm_command.proofs.Roles.{Holds, Role}
 use Rattle.calm_command.proofs.Rounds.{Standing}
 use Rattle.calm_command.proofs.Stores.{Makes, values}
 use Rattle.calm_command.specs.Resting.{IsResting}
+use Rattle.law_names.proofs.Runs.{AllValues, Answer, Client, Event, IsCommand, Monitors, Order, answers_of, asks, log_of, reply_over, request_of, run, session, value_over, with_value}
+use Rattle.law_names.proofs.Table.{Command, CommandRefused, Op, Reply, Store, is_too_long, readings_of, refusal, text, value}
+use Rattle.log_copies.proofs.Matching.{monitor_keeps, read_last}
+use Rattle.log_copies.specs.Versions.{HasVersions}
+use Rattle.log_model.proofs.Committed.{value_told}
+use Rattle.log_model.proofs.Lists.{length_push}
+use Rattle.mon_wire.specs.declared.reply.Reply.TheVariants as reply
+use Rattle.quorum_model.specs.CalmSchedule.{then_delivered}
+use Rattle.std.proofs.Common.{Bool, Err, List, Ok, Result, [], ap, arith, cond, eqb, false, inl, inr, length, refl, slice_index_or, slice_set, subst, suc, sym, true, zero, ℕ, ◌++◌, ◌+◌, ◌-◌, ◌<◌, ◌^◌, ◌∙◌, ◌∷◌, ◌≡◌, ◌≤◌, ◌⊎◌}
+use Rattle.std.proofs.Math.ListN.{length-set}
+use Rattle.std.proofs.lemmas.Bool.{cases_eq, cases_order, eq-eqb, ne_eqb}
+use Rattle.std.proofs.lemmas.Grind.{get_or-set_at}
+use Rattle.std.proofs.lemmas.List.{get_or-set_other}
 
 module _ (ms : Monitors) where
   abbrev n : ℕ

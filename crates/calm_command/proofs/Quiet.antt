@@ -1,46 +1,24 @@
 -- What monitors do at messages and commands that write nothing.
-use Rattle.log_copies.specs.Versions.{HasVersions, store_after}
-use Rattle.log_model.specs.LogOfValues.{AllValues}
-use Rattle.mon_bytes.specs.declared.command.Command.{Command}
-use Rattle.mon_bytes.specs.declared.command.CommandRefused.{CommandRefused}
-use Rattle.mon_lease.specs.Lease.{stands}
-use Rattle.mon_msg.specs.Protocol.Commands.{ask, at_leader, is_too_long, too_long}
-use Rattle.mon_msg.specs.Protocol.Course.{Course, clients_are, ◌▸◌}
-use Rattle.mon_msg.specs.Protocol.Proposing.{asked_of, refusal}
-use Rattle.mon_msg.specs.Protocol.Readings.{Readings, readings_of, shared_entries}
-use Rattle.mon_msg.specs.Protocol.Sending.{reply_to}
-use Rattle.mon_msg.specs.Protocol.State.{State}
-use Rattle.mon_msg.specs.Protocol.Table.{at_rest, react}
-use Rattle.mon_msg.specs.Protocol.Value.{service_of, value}
-use Rattle.mon_msg.specs.declared.clients.Asked.{Asked}
-use Rattle.mon_msg.specs.declared.input.Input.TheVariants as input
-use Rattle.mon_msg.specs.declared.input.Input.{Input}
-use Rattle.mon_msg.specs.declared.plan.Origin.TheVariants as origin
-use Rattle.mon_msg.specs.declared.plan.Origin.{Origin}
-use Rattle.mon_tx.specs.Map.{Store}
-use Rattle.mon_wire.specs.declared.body.Body.TheVariants as body
-use Rattle.mon_wire.specs.declared.reply.Reply.{Reply}
-use Rattle.mon_wire.specs.declared.request.Session.{Session}
-use Rattle.quorum_model.proofs.Members.{member_of}
-use Rattle.quorum_agreement.proofs.Grown.{grown_none}
-use Rattle.log_copies.proofs.Matching.{read_last}
-use Rattle.quorum_model.specs.CalmRun.{Answer}
-use Rattle.quorum_model.specs.CalmSchedule.{request_of}
-use Rattle.quorum_model.specs.Growth.{grown}
-use Rattle.quorum_model.specs.Monitors.{Monitors}
-use Rattle.quorum_model.specs.World.{Envelope}
-use Rattle.std.proofs.Common.{Bool, Err, List, Ok, [], ap, arith, false, length, ltb, refl, subst, suc, sym, true, ℕ, ◌-◌, ◌<◌, ◌^◌, ◌∙◌, ◌∷◌, ◌≡◌, ◌≤◌, ◌&&◌}
-use Rattle.table_rows.proofs.Serving as rows
-use Rattle.std.proofs.lemmas.Bool.{eq-eqb, lt-ltb}
-use Rattle.std.specs.Prelude.{slice_index_or, slice_set}
 use Rattle.calm_command.proofs.CommandRows.{comes}
+use Rattle.calm_command.proofs.Roles.{Following, Holds, Leading, Role, as_seen, asked_rank, one_sent, one_told, rank_of, replied, routed, standing}
 use Rattle.calm_command.proofs.Rounds.{to_rank}
 use Rattle.calm_command.proofs.Sets.{has_firsts}
 use Rattle.calm_command.proofs.States.{active, following, is_active, is_following, led, led_by, reads, said}
 use Rattle.calm_command.proofs.Stores.{Stored, is_read, long, nothing_written, service_fits, short}
 use Rattle.calm_command.proofs.Worlds.{Does}
 use Rattle.calm_sizes.proofs.Stores.{not_full}
-use Rattle.calm_command.proofs.Roles.{Following, Holds, Leading, Role, as_seen, asked_rank, one_sent, one_told, rank_of, replied, routed, standing}
+use Rattle.law_names.proofs.Runs.{AllValues, Answer, Envelope, Monitors, grown, request_of}
+use Rattle.law_names.proofs.Table.{Asked, Command, CommandRefused, Course, Input, Origin, Readings, Reply, Session, State, Store, ask, asked_of, at_leader, at_rest, clients_are, is_too_long, react, readings_of, refusal, reply_to, service_of, shared_entries, stands, too_long, value, ◌▸◌}
+use Rattle.log_copies.proofs.Matching.{read_last}
+use Rattle.log_copies.specs.Versions.{HasVersions, store_after}
+use Rattle.mon_msg.specs.declared.input.Input.TheVariants as input
+use Rattle.mon_msg.specs.declared.plan.Origin.TheVariants as origin
+use Rattle.mon_wire.specs.declared.body.Body.TheVariants as body
+use Rattle.quorum_agreement.proofs.Grown.{grown_none}
+use Rattle.quorum_model.proofs.Members.{member_of}
+use Rattle.std.proofs.Common.{Bool, Err, List, Ok, [], ap, arith, false, length, ltb, refl, slice_index_or, slice_set, subst, suc, sym, true, ℕ, ◌&&◌, ◌-◌, ◌<◌, ◌^◌, ◌∙◌, ◌∷◌, ◌≡◌, ◌≤◌}
+use Rattle.std.proofs.lemmas.Bool.{eq-eqb, lt-ltb}
+use Rattle.table_rows.proofs.Serving as rows
 
 module _ (ms : Monitors) where
   abbrev n : ℕ

@@ -1,39 +1,26 @@
 -- A run that rests, and one more command.
-use Rattle.log_model.proofs.Committed.{holds}
-use Rattle.log_model.proofs.FoldWindows.{keeps_view}
-use Rattle.log_model.proofs.RowReadings.{map_is}
-use Rattle.log_model.proofs.Windows.{row_of}
-use Rattle.log_model.specs.LogOfValues.{AllValues, view_at}
-use Rattle.mon_bytes.specs.declared.command.Command.TheVariants as command
-use Rattle.mon_bytes.specs.declared.command.Command.{Command}
-use Rattle.mon_bytes.specs.declared.command.CommandRefused.TheVariants as refused
-use Rattle.mon_msg.specs.Fold.{incrementals, map_after}
-use Rattle.mon_msg.specs.Protocol.Commands.{is_too_long, most_text, text_length}
-use Rattle.mon_msg.specs.Protocol.Services.{read_map}
-use Rattle.mon_msg.specs.Protocol.Value.{made, value, value_if_made}
-use Rattle.mon_wire.specs.declared.reply.ShownMap.{ShownMap}
-use Rattle.mon_wire.specs.declared.request.Service.TheVariants as service
-use Rattle.mon_wire.specs.declared.request.Service.{Service}
-use Rattle.quorum_model.specs.CalmRun.{Answer, answers_of, log_of, reply_over, value_over, with_value}
-use Rattle.quorum_model.specs.CalmSchedule.{Order, asks, deliveries, most_sent, number_delivered, numbers_delivered, request_of, session, then_delivered}
-use Rattle.quorum_model.specs.Monitors.{Monitors}
-use Rattle.quorum_model.specs.Runs.{Ran, ran, ran_from, run}
-use Rattle.quorum_model.specs.World.{Client, Arrives, Envelope, Event, World, first_world}
-use Rattle.std.proofs.Common.{Err, List, None, Option, [], ap, append-nil, arith, length, refl, subst, suc, sym, true, zero, ℕ, ◌+◌, ◌-◌, ◌++◌, ◌^◌, ◌∙◌, ◌∷◌, ◌≡◌, ◌≤◌}
-use Rattle.std.proofs.lemmas.List.Elements.{filter_map-append}
-use Rattle.std.proofs.lemmas.List.FromFn.{length-range_with_len}
-use Rattle.std.specs.List.{range_with_len}
 use Rattle.calm_command.proofs.CommandRounds.{Goes, nobody}
 use Rattle.calm_command.proofs.Deliveries.{Ends, drains_up, ends}
-use Rattle.quorum_model.proofs.Continuing.{at, ran_on, ran_one}
 use Rattle.calm_command.proofs.Roles.{Holds, Leading, Role}
 use Rattle.calm_command.proofs.Rounds.{Standing, crew}
 use Rattle.calm_command.proofs.Sets.{firsts}
 use Rattle.calm_command.proofs.ValueRounds.{peons}
-use Rattle.calm_command.specs.Resting.{IsResting, RestsAt}
 use Rattle.calm_command.proofs.Worlds.{Is}
-use Rattle.mon_msg.specs.Protocol.State.{State}
-use Rattle.mon_tx.specs.Map.{Store}
+use Rattle.calm_command.specs.Resting.{IsResting, RestsAt}
+use Rattle.law_names.proofs.Runs.{AllValues, Answer, Arrives, Client, Envelope, Event, Monitors, Order, Ran, World, answers_of, asks, deliveries, first_world, log_of, numbers_delivered, ran, ran_from, reply_over, request_of, run, session, value_over, view_at, with_value}
+use Rattle.law_names.proofs.Table.{Command, Service, ShownMap, State, Store, incrementals, is_too_long, made, map_after, most_text, range_with_len, read_map, text_length, value, value_if_made}
+use Rattle.log_model.proofs.Committed.{holds}
+use Rattle.log_model.proofs.FoldWindows.{keeps_view}
+use Rattle.log_model.proofs.RowReadings.{map_is}
+use Rattle.log_model.proofs.Windows.{row_of}
+use Rattle.mon_bytes.specs.declared.command.Command.TheVariants as command
+use Rattle.mon_bytes.specs.declared.command.CommandRefused.TheVariants as refused
+use Rattle.mon_wire.specs.declared.request.Service.TheVariants as service
+use Rattle.quorum_model.proofs.Continuing.{at, ran_on, ran_one}
+use Rattle.quorum_model.specs.CalmSchedule.{most_sent, number_delivered, then_delivered}
+use Rattle.std.proofs.Common.{Err, List, None, Option, [], ap, append-nil, arith, length, refl, subst, suc, sym, true, zero, ℕ, ◌++◌, ◌+◌, ◌-◌, ◌^◌, ◌∙◌, ◌∷◌, ◌≡◌, ◌≤◌}
+use Rattle.std.proofs.lemmas.List.Elements.{filter_map-append}
+use Rattle.std.proofs.lemmas.List.FromFn.{length-range_with_len}
 
 -- ---- commands in a row
 

@@ -1,28 +1,16 @@
 -- A run that rests is calm.
-use Rattle.log_model.proofs.Lists.{length_push}
-use Rattle.mon_bytes.specs.declared.command.CommandRefused.TheVariants as refused
-use Rattle.mon_bytes.specs.declared.command.CommandRefused.{CommandRefused}
-use Rattle.mon_kv.specs.Readers.{pending}
-use Rattle.mon_msg.specs.Protocol.Proposing.{refusal}
-use Rattle.mon_msg.specs.Protocol.Readings.{epoch_or_first, or_zero, readings_of}
-use Rattle.mon_tx.specs.Keys.{number}
-use Rattle.mon_tx.specs.Map.{Store}
-use Rattle.mon_tx.specs.declared.key.Area.TheVariants as area
-use Rattle.mon_tx.specs.declared.key.Key.TheVariants as key
-use Rattle.mon_tx.specs.Text.{text}
-use Rattle.mon_tx.specs.declared.op.Op.{Op}
-use Rattle.mon_types.specs.Ranks.{has}
-use Rattle.quorum_model.specs.CalmRun.{Answer, AreAll, HasAll, IsCalm, IsCalmAt, answers_of, is_done, log_of, reply_over, value_over, with_value}
-use Rattle.quorum_model.specs.CalmSchedule.{Order, session}
-use Rattle.quorum_model.specs.Monitors.{Monitors}
-use Rattle.quorum_model.specs.Runs.{run}
-use Rattle.quorum_model.specs.World.{Event, Replied, World}
-use Rattle.std.proofs.Common.{Bool, Err, List, Ok, Result, [], ap, arith, cond, false, length, map, refl, subst, suc, sym, true, zero, ℕ, ◌+◌, ◌++◌, ◌<◌, ◌∙◌, ◌∷◌, ◌≡◌}
-use Rattle.std.proofs.lemmas.Bool.{ne_eqb}
-use Rattle.std.specs.List.{filter}
-use Rattle.std.specs.Prelude.{slice_index_or}
 use Rattle.calm_command.proofs.Sets.{firsts, has_firsts}
 use Rattle.calm_command.specs.Resting.{IsResting, RestsAt, Stored}
+use Rattle.law_names.proofs.Runs.{Answer, Event, HasAll, IsCalm, Monitors, Order, Replied, World, answers_of, log_of, reply_over, run, session, value_over, with_value}
+use Rattle.law_names.proofs.Table.{CommandRefused, Op, Store, epoch_or_first, has, number, or_zero, readings_of, refusal, text}
+use Rattle.log_model.proofs.Lists.{length_push}
+use Rattle.mon_bytes.specs.declared.command.CommandRefused.TheVariants as refused
+use Rattle.mon_kv.specs.Readers.{pending}
+use Rattle.mon_tx.specs.declared.key.Area.TheVariants as area
+use Rattle.mon_tx.specs.declared.key.Key.TheVariants as key
+use Rattle.quorum_model.specs.CalmRun.{AreAll, IsCalmAt, is_done}
+use Rattle.std.proofs.Common.{Bool, Err, List, Ok, Result, [], ap, arith, cond, false, filter, length, map, refl, slice_index_or, subst, suc, sym, true, zero, ℕ, ◌++◌, ◌+◌, ◌<◌, ◌∙◌, ◌∷◌, ◌≡◌}
+use Rattle.std.proofs.lemmas.Bool.{ne_eqb}
 
 -- ---- how many are done
 

@@ -1,39 +1,17 @@
 -- How each monitor stands during a command.
-use Rattle.mon_bytes.specs.declared.entry.Entry.{Entry}
-use Rattle.mon_lease.specs.Lease.{stands}
-use Rattle.mon_msg.specs.Protocol.Course.{Course}
-use Rattle.mon_msg.specs.Protocol.Proposing.{asked_of}
-use Rattle.mon_msg.specs.Protocol.Readings.{Readings}
-use Rattle.mon_msg.specs.Protocol.Sending.{answer_to, answers_to, members, message_to}
-use Rattle.mon_msg.specs.Protocol.State.{State}
-use Rattle.mon_msg.specs.Protocol.Table.{react}
-use Rattle.mon_msg.specs.declared.clients.Asked.{Asked}
-use Rattle.mon_msg.specs.declared.input.Input.{Input}
-use Rattle.mon_msg.specs.declared.plan.Origin.TheVariants as origin
-use Rattle.mon_msg.specs.declared.plan.Origin.{Origin}
-use Rattle.mon_msg.specs.declared.plan.Sent.{Sent}
-use Rattle.mon_msg.specs.declared.view.Me.{Me}
-use Rattle.mon_tx.specs.Map.{Store}
-use Rattle.mon_tx.specs.declared.op.Op.{Op}
-use Rattle.mon_types.specs.declared.names.Which.{Which}
-use Rattle.mon_wire.specs.declared.body.Body.TheVariants as body
-use Rattle.mon_wire.specs.declared.body.Body.{Body}
-use Rattle.mon_wire.specs.declared.reply.Reply.{Reply}
-use Rattle.mon_wire.specs.declared.request.Session.{Session}
-use Rattle.quorum_model.proofs.Members.{member_of}
-use Rattle.quorum_model.specs.CalmRun.{Answer}
-use Rattle.quorum_model.specs.Clients.{envelope_of, messages_of}
-use Rattle.quorum_model.specs.Monitors.{Monitors}
-use Rattle.quorum_model.specs.World.{Envelope}
-use Rattle.std.proofs.Common.{Bool, List, Result, Some, [], ap, append_assoc, eqb, ltb, map, refl, suc, true, ℕ, ◌-◌, ◌++◌, ◌∙◌, ◌∷◌, ◌≡◌, ◌||◌}
-use Rattle.std.proofs.lemmas.Bool.{ltb-true, or_right}
-use Rattle.std.proofs.lemmas.List.Elements.{filter_map-append}
-use Rattle.std.specs.List.{range_with_len}
 use Rattle.calm_command.proofs.Rounds.{to_rank}
 use Rattle.calm_command.proofs.Sets.{firsts, others_are}
 use Rattle.calm_command.proofs.States.{Follows, Leads, Updates, said}
 use Rattle.calm_command.proofs.Stores.{Stored}
 use Rattle.calm_command.proofs.Worlds.{answer_in, answers_in}
+use Rattle.law_names.proofs.Runs.{Answer, Envelope, Monitors, envelope_of, messages_of}
+use Rattle.law_names.proofs.Table.{Asked, Body, Course, Entry, Input, Me, Op, Origin, Readings, Reply, Sent, Session, State, Store, Which, answer_to, answers_to, asked_of, members, message_to, range_with_len, react, stands}
+use Rattle.mon_msg.specs.declared.plan.Origin.TheVariants as origin
+use Rattle.mon_wire.specs.declared.body.Body.TheVariants as body
+use Rattle.quorum_model.proofs.Members.{member_of}
+use Rattle.std.proofs.Common.{Bool, List, Result, Some, [], ap, append_assoc, eqb, ltb, map, refl, suc, true, ℕ, ◌++◌, ◌-◌, ◌||◌, ◌∙◌, ◌∷◌, ◌≡◌}
+use Rattle.std.proofs.lemmas.Bool.{ltb-true, or_right}
+use Rattle.std.proofs.lemmas.List.Elements.{filter_map-append}
 
 pub data Role : Type 0 where
   -- an active leader of v versions, whose lease these took

@@ -1,15 +1,10 @@
 -- Rounds of a leader of rank 0 and the others.
-use Rattle.mon_msg.specs.Protocol.State.{State}
-use Rattle.mon_msg.specs.declared.input.Input.TheVariants as input
-use Rattle.mon_tx.specs.Map.{Store}
-use Rattle.mon_wire.specs.declared.message.Message.{Message}
-use Rattle.quorum_model.specs.CalmRun.{Answer}
-use Rattle.quorum_model.specs.Monitors.{Monitors}
-use Rattle.quorum_model.specs.World.{Envelope, World}
-use Rattle.std.proofs.Common.{List, [], ap, append-nil, arith, cond, inl, inr, ltb, map, refl, subst, suc, sym, true, zero, ℕ, ◌+◌, ◌-◌, ◌++◌, ◌<◌, ◌≤◌, ◌∙◌, ◌∷◌, ◌≡◌, ◌⊎◌}
-use Rattle.std.proofs.lemmas.Bool.{cases_order, le-ltb, lt-ltb}
-use Rattle.std.specs.List.{flat_map, range_with_len}
 use Rattle.calm_command.proofs.Worlds.{After, Does, Is, One, Stands, one_more, round}
+use Rattle.law_names.proofs.Runs.{Answer, Envelope, Monitors, World}
+use Rattle.law_names.proofs.Table.{Message, State, Store, flat_map, range_with_len}
+use Rattle.mon_msg.specs.declared.input.Input.TheVariants as input
+use Rattle.std.proofs.Common.{List, [], ap, append-nil, arith, cond, inl, inr, ltb, map, refl, subst, suc, sym, true, zero, ℕ, ◌++◌, ◌+◌, ◌-◌, ◌<◌, ◌∙◌, ◌∷◌, ◌≡◌, ◌≤◌, ◌⊎◌}
+use Rattle.std.proofs.lemmas.Bool.{cases_order, le-ltb, lt-ltb}
 
 -- the leader, and the others
 abbrev pub crew : {D : Type 0} → D → (ℕ → D) → ℕ → D

@@ -1,15 +1,13 @@
 -- The set of the first n ranks.
-use Rattle.mon_msg.specs.Protocol.Sets.{are_within, only}
-use Rattle.mon_types.specs.Ranks.{has, with_rank}
-use Rattle.quorum_walk.proofs.Ranks.{nobody}
-use Rattle.calm_quorum.proofs.Sets.{within_all, within_not}
 unfoldable pub use Rattle.calm_command.specs.Resting.{firsts}
-use Rattle.std.proofs.Common.{Bool, arith, eqb, false, inl, inr, length, ltb, not, refl, suc, sym, true, zero, ℕ, ◌&&◌, ◌+◌, ◌-◌, ◌<◌, ◌≤◌, ◌∙◌, ◌≡◌, ◌⊎◌}
+use Rattle.calm_quorum.proofs.Sets.{within_all, within_not}
+use Rattle.law_names.proofs.Table.{are_within, has, only, range_with_len, with_rank}
+use Rattle.quorum_walk.proofs.Ranks.{nobody}
+use Rattle.std.proofs.Common.{Bool, arith, eqb, false, filter, inl, inr, length, ltb, not, refl, suc, sym, true, zero, ℕ, ◌&&◌, ◌+◌, ◌-◌, ◌<◌, ◌∙◌, ◌≡◌, ◌≤◌, ◌⊎◌}
 use Rattle.std.proofs.Math.ListN.{length-set}
 use Rattle.std.proofs.lemmas.Bool.{cases_order, le-ltb, lt-ltb, ne_eqb}
 use Rattle.std.proofs.lemmas.Grind.{get_or-set_at}
 use Rattle.std.proofs.lemmas.List.{get_or-set_other}
-use Rattle.std.specs.List.{filter, range_with_len}
 
 pub one_more : (k : ℕ) → with_rank (firsts k) k ≡ firsts (suc k)
 unfolding firsts

@@ -1,18 +1,11 @@
 -- What the monitors remember during a command.
-use Rattle.mon_msg.specs.Protocol.Readings.{Readings}
-use Rattle.mon_msg.specs.Protocol.State.{State}
-use Rattle.mon_msg.specs.declared.clients.Asked.{Asked}
-use Rattle.mon_msg.specs.declared.plan.Origin.{Origin}
-use Rattle.mon_tx.specs.declared.op.Op.{Op}
-use Rattle.mon_types.specs.Ranks.{has}
-use Rattle.mon_wire.specs.declared.body.Body.{Body}
-use Rattle.mon_wire.specs.declared.message.Message.{Message}
+pub use Rattle.calm_command.specs.Resting.{Follows, Leads, firsts}
+use Rattle.law_names.proofs.Runs.{Monitors}
+use Rattle.law_names.proofs.Table.{Asked, Body, Message, Op, Origin, Readings, State, has}
 use Rattle.mon_wire.specs.declared.phase.Phase.TheVariants as phase
 use Rattle.quorum_model.proofs.Members.{member_of}
-use Rattle.quorum_model.specs.Monitors.{Monitors}
 use Rattle.std.proofs.Common.{Bool, List, Some, [], false, ltb, refl, true, ℕ, ◌≡◌}
 use Rattle.table_rows.proofs.Hearing.{IsLeader, IsMember}
-pub use Rattle.calm_command.specs.Resting.{Follows, Leads, firsts}
 
 -- an active leader of all n
 abbrev pub active : (n : ℕ) (acks : List Bool) (taken : List ℕ) → State → State

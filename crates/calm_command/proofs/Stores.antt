@@ -1,11 +1,17 @@
 -- What the stores hold during a command.
+pub use Rattle.calm_command.specs.Resting.{Stored}
+use Rattle.calm_command.proofs.States.{reads}
+use Rattle.calm_sizes.proofs.Stores.{short_behind}
+use Rattle.calm_sizes.specs.Sizes.{longest}
+use Rattle.law_names.proofs.Runs.{AllValues, IsCommand, IsValue, Keeps, grown, log_from, view_at}
+use Rattle.law_names.proofs.Table.{Command, Last, Learn, Op, Readings, Service, Store, Vote, entry, incrementals, joined, learn_changes, played, readings_of, service_last, text, value}
 use Rattle.log_copies.proofs.Growing as growing
-use Rattle.log_copies.proofs.Leaving.{still_has}
 use Rattle.log_copies.proofs.Learning as learning
+use Rattle.log_copies.proofs.Leaving.{still_has}
 use Rattle.log_copies.proofs.Matching.{monitor_keeps, read_last, record_there}
 use Rattle.log_copies.specs.Versions.{HasVersions, store_after}
 use Rattle.log_model.proofs.AnyValue.{value_spares}
-use Rattle.log_model.proofs.Committed.{shorts, holds, value_told}
+use Rattle.log_model.proofs.Committed.{holds, shorts, value_told}
 use Rattle.log_model.proofs.FoldWindows.{keeps_view, view_last}
 use Rattle.log_model.proofs.Lists.{length_push}
 use Rattle.log_model.proofs.Logs.{entry_push, fold_stays, log_prefix_push}
@@ -15,30 +21,10 @@ use Rattle.log_model.proofs.RowReadings as rows
 use Rattle.log_model.proofs.RowReadings.{read_some}
 use Rattle.log_model.proofs.RuleCells.{log_high}
 use Rattle.log_model.proofs.Windows.{row_of}
-use Rattle.log_model.specs.LogOfValues.{AllValues, IsCommand, IsValue, view_at}
-use Rattle.log_model.specs.Windows.{Keeps, log_from}
-use Rattle.mon_bytes.specs.declared.command.Command.{Command}
 use Rattle.mon_msg.proofs.Changed.{readings-joined}
-use Rattle.mon_msg.specs.Fold.{entry, incrementals}
-use Rattle.mon_msg.specs.Joined.{joined}
-use Rattle.mon_msg.specs.Protocol.Changes.{Last, Learn, Vote}
-use Rattle.mon_msg.specs.Protocol.Learning.{learn_changes}
-use Rattle.mon_msg.specs.Protocol.Played.{played}
-use Rattle.mon_msg.specs.Protocol.Readings.{Readings, readings_of}
-use Rattle.mon_msg.specs.Protocol.Services.{service_last}
-use Rattle.mon_msg.specs.Protocol.Value.{value}
-use Rattle.mon_tx.specs.Map.{Store}
-use Rattle.mon_tx.specs.Text.{text}
-use Rattle.mon_tx.specs.declared.op.Op.{Op}
-use Rattle.mon_wire.specs.declared.request.Service.{Service}
 use Rattle.quorum_agreement.proofs.Grown.{first_is, grown_none, grown_one}
-use Rattle.quorum_model.specs.Growth.{grown}
 use Rattle.quorum_walk.proofs.Sparing.{Own, learned_own, own_of}
 use Rattle.std.proofs.Common.{List, Ok, [], ap, arith, length, refl, subst, suc, sym, ℕ, ◌++◌, ◌<◌, ◌^◌, ◌∙◌, ◌∷◌, ◌≡◌, ◌≤◌}
-pub use Rattle.calm_command.specs.Resting.{Stored}
-use Rattle.calm_command.proofs.States.{reads}
-use Rattle.calm_sizes.specs.Sizes.{longest}
-use Rattle.calm_sizes.proofs.Stores.{short_behind}
 
 -- no change
 pub nothing_written : (m : Store) → store_after [] m ≡ m

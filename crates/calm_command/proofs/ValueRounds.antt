@@ -1,28 +1,18 @@
 -- The rounds of a value: it is accepted, committed and leased.
-use Rattle.mon_msg.specs.Protocol.State.{State}
-use Rattle.mon_msg.specs.declared.clients.Asked.{Asked}
-use Rattle.mon_msg.specs.declared.plan.Origin.{Origin}
-use Rattle.mon_tx.specs.Map.{Store}
-use Rattle.mon_tx.specs.Text.{text}
-use Rattle.mon_tx.specs.declared.op.Op.{Op}
+use Rattle.calm_command.proofs.Roles.{Following, Holds, Leading, Role, Voting, replied, routed, to_each}
+use Rattle.calm_command.proofs.Rounds.{Later, Standing, crew, gather, leader_hears, nothing_sent, spread, to_rank}
+use Rattle.calm_command.proofs.Sets.{firsts}
+use Rattle.calm_command.proofs.States.{said}
+use Rattle.calm_command.proofs.Stores.{Makes}
+use Rattle.calm_command.proofs.Values.{accepts, begins, commits, completes, counts, leases}
+use Rattle.calm_command.proofs.Worlds.{and_then}
+use Rattle.law_names.proofs.Runs.{Answer, Envelope, Monitors, World}
+use Rattle.law_names.proofs.Table.{Asked, Message, Op, Origin, Reply, State, Store, range_with_len, text}
 use Rattle.mon_wire.specs.declared.body.Body.TheVariants as body
-use Rattle.mon_wire.specs.declared.message.Message.{Message}
 use Rattle.mon_wire.specs.declared.reply.Reply.TheVariants as reply
-use Rattle.mon_wire.specs.declared.reply.Reply.{Reply}
-use Rattle.quorum_model.specs.CalmRun.{Answer}
-use Rattle.quorum_model.specs.Monitors.{Monitors}
-use Rattle.quorum_model.specs.World.{Envelope, World}
-use Rattle.std.proofs.Common.{Bool, List, [], ap, append-nil, arith, false, length, map, subst, suc, sym, true, ℕ, ◌+◌, ◌-◌, ◌++◌, ◌<◌, ◌∙◌, ◌∷◌, ◌≡◌}
+use Rattle.std.proofs.Common.{Bool, List, [], ap, append-nil, arith, false, length, map, subst, suc, sym, true, ℕ, ◌++◌, ◌+◌, ◌-◌, ◌<◌, ◌∙◌, ◌∷◌, ◌≡◌}
 use Rattle.std.proofs.lemmas.List.Concat.{flat_map_single}
 use Rattle.std.proofs.lemmas.List.FromFn.{map-range_with_len_more}
-use Rattle.std.specs.List.{range_with_len}
-use Rattle.calm_command.proofs.Roles.{Following, Holds, Leading, Role, Voting, replied, routed, to_each}
-use Rattle.calm_command.proofs.Values.{accepts, begins, commits, completes, counts, leases}
-use Rattle.calm_command.proofs.Rounds.{Later, Standing, crew, gather, leader_hears, nothing_sent, spread, to_rank}
-use Rattle.calm_command.proofs.States.{said}
-use Rattle.calm_command.proofs.Sets.{firsts}
-use Rattle.calm_command.proofs.Stores.{Makes}
-use Rattle.calm_command.proofs.Worlds.{and_then}
 
 -- the peons, with the sessions that wait at each
 abbrev pub peons : (v p : ℕ) → Bool → (sessions : ℕ → List Asked) → (seq : ℕ → ℕ) → ℕ → Role

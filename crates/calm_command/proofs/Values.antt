@@ -1,53 +1,26 @@
 -- What monitors do with one more value.
-use Rattle.log_copies.specs.Versions.{HasVersions, store_after}
-use Rattle.log_model.proofs.AnyValue.{value_spares}
-use Rattle.log_model.specs.LogOfValues.{view_at}
-use Rattle.mon_bytes.specs.declared.command.Command.{Command}
-use Rattle.mon_kv.specs.Readers.{most_size, size_of}
-use Rattle.mon_msg.specs.Protocol.Changes.{Last, Learn, Vote, ops_of}
-use Rattle.mon_msg.specs.Protocol.Commands.{at_leader, is_too_long}
-use Rattle.mon_msg.specs.Protocol.Leading.{be_active, begin_with, extend}
-use Rattle.mon_msg.specs.Protocol.Proposing.{asked_of, begin_made}
-use Rattle.mon_msg.specs.Protocol.Services.{service_last}
-use Rattle.mon_msg.specs.Protocol.Readings.{Readings, after, epoch_of, epoch_or_first, readings_of, shared_entries}
-use Rattle.mon_msg.specs.Protocol.Sending.{answer_to, members, message_to}
-use Rattle.mon_msg.specs.Protocol.Sets.{are_within, is_empty}
-use Rattle.mon_msg.specs.Protocol.State.{State}
-use Rattle.mon_lease.specs.Lease.{stands}
-use Rattle.mon_msg.specs.Protocol.Course.{Course}
-use Rattle.mon_msg.specs.Protocol.Table.{at_rest}
-use Rattle.mon_msg.specs.Protocol.Value.{service_of, value}
-use Rattle.mon_msg.specs.declared.paxos.LeaderStage.TheVariants as stage
-use Rattle.mon_msg.specs.declared.clients.Asked.{Asked}
-use Rattle.mon_msg.specs.declared.input.Input.{Input}
-use Rattle.mon_msg.specs.declared.plan.Origin.{Origin}
-use Rattle.mon_tx.specs.Map.{Store}
-use Rattle.mon_tx.specs.Text.{text}
-use Rattle.mon_tx.specs.declared.op.Op.{Op}
-use Rattle.mon_types.specs.Ranks.{has}
-use Rattle.mon_wire.specs.declared.body.Body.TheVariants as body
-use Rattle.mon_wire.specs.declared.message.Message.{Message}
-use Rattle.mon_wire.specs.declared.reply.Reply.TheVariants as reply
-use Rattle.quorum_model.proofs.Members.{member_of}
-use Rattle.quorum_model.specs.CalmRun.{Answer}
-use Rattle.quorum_model.specs.Clients.{messages_of}
-use Rattle.quorum_model.specs.Growth.{grown}
-use Rattle.quorum_model.specs.Monitors.{Monitors}
-use Rattle.quorum_model.specs.World.{Envelope}
-use Rattle.quorum_walk.proofs.Sparing.{Own, learned_own}
-use Rattle.std.proofs.Common.{Bool, List, Ok, Some, [], ap, arith, false, inr, is_some, length, ltb, map, refl, subst, suc, sym, true, zero, ℕ, ◌-◌, ◌++◌, ◌<◌, ◌^◌, ◌∙◌, ◌∷◌, ◌≡◌, ◌≤◌, ◌&&◌}
-use Rattle.std.proofs.lemmas.Bool.{lt-ltb}
-use Rattle.std.specs.List.{range_with_len}
-use Rattle.table_rows.proofs.Serving as rows
+use Rattle.calm_command.proofs.Quiet.{Leads_to}
+use Rattle.calm_command.proofs.Roles.{Following, Holds, Leading, Role, Voting, all_are_sent, all_are_told, as_seen, asked_rank, one_sent, one_told, rank_of, replied, routed, sent_to_each, standing, tells_none, to_each}
 use Rattle.calm_command.proofs.Rounds.{Hears, to_rank}
 use Rattle.calm_command.proofs.Sets.{covers_all, covers_not, firsts, has_firsts, one_more, only_first, others_are}
 use Rattle.calm_command.proofs.States.{active, is_active, is_following, is_updating, led, led_by, led_in_update, reads, said}
 use Rattle.calm_command.proofs.Stores.{Makes, Stored, adds_none, adds_one, is_read, long, more, nothing_written, service_fits, short, stored_learned, stored_voted, value_is, values}
 use Rattle.calm_command.proofs.Worlds.{Does}
-use Rattle.calm_sizes.specs.Sizes.{AllShort, longest}
 use Rattle.calm_sizes.proofs.Stores.{not_full}
-use Rattle.calm_command.proofs.Roles.{Following, Holds, Leading, Role, Voting, all_are_sent, all_are_told, as_seen, asked_rank, one_sent, one_told, rank_of, replied, routed, sent_to_each, standing, tells_none, to_each}
-use Rattle.calm_command.proofs.Quiet.{Leads_to}
+use Rattle.calm_sizes.specs.Sizes.{AllShort, longest}
+use Rattle.law_names.proofs.Runs.{Answer, Envelope, Monitors, grown, messages_of, most_size, size_of, view_at}
+use Rattle.law_names.proofs.Table.{Asked, Command, Course, Input, Last, Learn, Message, Op, Origin, Readings, State, Store, Vote, answer_to, are_within, asked_of, at_leader, at_rest, be_active, begin_made, begin_with, epoch_of, epoch_or_first, extend, has, is_empty, is_too_long, members, message_to, ops_of, range_with_len, readings_of, service_last, service_of, shared_entries, stands, text, value}
+use Rattle.log_copies.specs.Versions.{HasVersions, store_after}
+use Rattle.log_model.proofs.AnyValue.{value_spares}
+use Rattle.mon_msg.specs.Protocol.Readings.{after}
+use Rattle.mon_msg.specs.declared.paxos.LeaderStage.TheVariants as stage
+use Rattle.mon_wire.specs.declared.body.Body.TheVariants as body
+use Rattle.mon_wire.specs.declared.reply.Reply.TheVariants as reply
+use Rattle.quorum_model.proofs.Members.{member_of}
+use Rattle.quorum_walk.proofs.Sparing.{Own, learned_own}
+use Rattle.std.proofs.Common.{Bool, List, Ok, Some, [], ap, arith, false, inr, is_some, length, ltb, map, refl, subst, suc, sym, true, zero, ℕ, ◌&&◌, ◌++◌, ◌-◌, ◌<◌, ◌^◌, ◌∙◌, ◌∷◌, ◌≡◌, ◌≤◌}
+use Rattle.std.proofs.lemmas.Bool.{lt-ltb}
+use Rattle.table_rows.proofs.Serving as rows
 
 module _ (ms : Monitors) where
   abbrev n : ℕ

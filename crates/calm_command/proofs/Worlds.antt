@@ -1,33 +1,12 @@
 -- Monitors each of whose states is known, and messages that are delivered in order.
-use Rattle.mon_kv.specs.Readers.{most_size, size_of}
-use Rattle.mon_msg.specs.Joined.{joined}
-use Rattle.mon_msg.specs.Protocol.Changes.{encoded}
-use Rattle.mon_msg.specs.Protocol.Course.{Course}
-use Rattle.mon_msg.specs.Protocol.Reaction.{any_reaction, reaction_of}
-use Rattle.mon_msg.specs.Protocol.Readings.{readings_of, shared_entries}
-use Rattle.mon_msg.specs.Protocol.State.{State}
-use Rattle.mon_msg.specs.Protocol.Table.{react}
+use Rattle.law_names.proofs.Runs.{Answer, Arrival, Arrives, Deliver, Envelope, Full, Monitors, Plain, Replied, World, after_meeting, answers, arrival, grown, happens, in_world, meeting, meeting_at, messages_of, most_size, moved, put_at, replies_of, size_of, state_at, unless_stopped}
+use Rattle.law_names.proofs.Table.{Course, Input, Me, Sent, State, Store, Which, any_reaction, apply, encoded, filter_map, flat_map, joined, range_with_len, react, reaction_of, readings_of, shared_entries}
 use Rattle.mon_msg.specs.declared.input.Input.TheVariants as input
-use Rattle.mon_msg.specs.declared.input.Input.{Input}
 use Rattle.mon_msg.specs.declared.plan.Sent.TheVariants as sent
-use Rattle.mon_msg.specs.declared.plan.Sent.{Sent}
-use Rattle.mon_msg.specs.declared.view.Me.{Me}
-use Rattle.mon_tx.specs.Map.{Store, apply}
-use Rattle.mon_types.specs.declared.names.Which.{Which}
 use Rattle.quorum_model.proofs.Members.{me_is, member_of}
-use Rattle.quorum_model.specs.CalmRun.{Answer, answers}
-use Rattle.quorum_model.specs.Clients.{messages_of, replies_of}
-use Rattle.quorum_model.specs.Growth.{grown}
-use Rattle.quorum_model.specs.Happens.{Full, after_meeting, happens, in_world, moved, put_at, unless_stopped}
-use Rattle.quorum_model.specs.Meets.{Arrival, arrival, meeting, meeting_at, state_at}
-use Rattle.quorum_model.specs.Monitors.{Monitors}
-use Rattle.quorum_model.specs.World.{Arrives, Deliver, Envelope, Plain, Replied, World}
-use Rattle.std.proofs.Common.{Err, List, None, Ok, Option, Result, Some, [], ap, append-nil, append_assoc, arith, cond, false, inl, inr, length, length-append, ltb, map, refl, subst, suc, sym, true, zero, ℕ, ◌+◌, ◌++◌, ◌<◌, ◌≤◌, ◌∙◌, ◌∷◌, ◌≡◌, ◌⊎◌}
+use Rattle.std.proofs.Common.{Err, List, None, Ok, Option, Result, Some, [], ap, append-nil, append_assoc, arith, cond, false, inl, inr, length, length-append, ltb, map, option_map, refl, slice_get, subst, suc, sym, true, zero, ℕ, ◌++◌, ◌+◌, ◌<◌, ◌∙◌, ◌∷◌, ◌≡◌, ◌≤◌, ◌⊎◌}
 use Rattle.std.proofs.lemmas.Bool.{cases_eq, eq-eqb, lt-ltb, ne_eqb}
 use Rattle.std.proofs.lemmas.List.{map-append}
-use Rattle.std.specs.List.{filter_map, flat_map, range_with_len}
-use Rattle.std.specs.Option.{option_map}
-use Rattle.std.specs.Prelude.{slice_get}
 
 -- ---- what is replied
 

@@ -1,45 +1,25 @@
 -- The first calm run.
-use Rattle.std.proofs.Common.{◌≡◌, ℕ, zero, suc, ◌+◌, ◌*◌, ◌<◌, ◌≤◌, Bool, not, eqb, List, [], ◌∷◌, ◌++◌, length, map, Option, Some, None, Ok, refl, sym, ap, subst, ◌∙◌, ◌⊎◌, inl, inr, arith, length-append}
-use Rattle.std.proofs.lemmas.Bool.{cases_eq, lt-ltb, le-ltb}
-use Rattle.std.proofs.lemmas.List.Elements.{filter_map-append}
-use Rattle.std.specs.List.{filter, range_with_len}
-use Rattle.std.specs.Prelude.{slice_index_or, replicate}
-use Rattle.mon_tx.specs.Map.{Store}
-use Rattle.mon_bytes.specs.declared.entry.Entry.{Entry}
-use Rattle.mon_msg.specs.Protocol.Changes.{Boot, Epoch, Numbers}
-use Rattle.mon_msg.specs.Protocol.Collecting.{settle, collect, collect_with, reign}
-use Rattle.mon_msg.specs.Protocol.Entering.{bootstrap}
-use Rattle.mon_msg.specs.Protocol.Leading.{extend, be_active}
-use Rattle.mon_msg.specs.Protocol.Reaction.{any_reaction}
-use Rattle.mon_msg.specs.Protocol.Records.{pending_of}
-use Rattle.mon_msg.specs.Protocol.Sending.{message_to, others}
-use Rattle.mon_msg.specs.Protocol.Sets.{only}
-use Rattle.mon_msg.specs.Protocol.State.{State, booting, start_leader, no_clients}
-use Rattle.mon_msg.specs.Protocol.Table.{start, react}
-use Rattle.mon_lease.specs.Lease.{stands}
-use Rattle.mon_msg.specs.declared.clients.Clients.{Clients}
+use Rattle.calm_quorum.proofs.Blocks.{everyone, from_each, length_each, length_flat, length_from, none_told, sent_each, to_each}
+use Rattle.calm_quorum.proofs.Election.{all, collects, defers, follows, heard, idle, last0, leased, leases, probes, proposals, round_a, round_b, round_c, round_d, round_ef, round_g, round_h, round_i, victory}
+use Rattle.calm_quorum.proofs.Handling.{Place, Settles, Shows, Told, comes, place, settled_is, settles_more, takes}
+use Rattle.calm_quorum.proofs.Hearing.{takes_is}
+use Rattle.calm_quorum.proofs.Rounds.{at_other, at_team, crew, did, first_of_them, flat, mixed_more, mixed_none}
+use Rattle.calm_quorum.proofs.Rows.{start_row}
+use Rattle.calm_quorum.proofs.Sets.{all_in, chosen}
+use Rattle.calm_quorum.proofs.States.{acked, alone, alone_is, born, born_is, following, leasing, me_at, promised, reacts, unacked}
+use Rattle.calm_quorum.proofs.Stores.{IsFirst, alone_first, alone_small, alone_told, born_small, born_told, empty_told, led_first, no_version, promised_first, unborn}
+use Rattle.law_names.proofs.Runs.{Arrival, Arrives, Envelope, Event, HasAll, IsCalm, Monitors, Ran, Replied, Start, World, answers, answers_of, classic, deliveries, first_world, goes_on, log_of, numbers_delivered, orders, put_at, ran, ran_from, run, starts}
+use Rattle.law_names.proofs.Table.{Boot, Clients, Entry, Epoch, Numbers, State, Store, any_reaction, be_active, booting, bootstrap, collect, collect_with, extend, has, message_to, no_clients, no_ranks, only, others, pending_of, range_with_len, react, reign, settle, stands, start, start_leader}
 use Rattle.mon_msg.specs.declared.input.Input.TheVariants as input
 use Rattle.mon_msg.specs.declared.paxos.LeaderStage.TheVariants as stage
-use Rattle.mon_types.specs.Ranks.{no_ranks, has}
 use Rattle.mon_wire.specs.declared.body.Body.TheVariants as body
 use Rattle.mon_wire.specs.declared.phase.Phase.TheVariants as phase
-use Rattle.quorum_model.specs.CalmRun.{AreAll, ServesCalmly, HasAll, IsCalm, IsCalmAt, log_of, answers, answers_of, is_done}
-use Rattle.quorum_model.specs.CalmSchedule.{deliveries, numbers_delivered, number_delivered, starts, orders, asks_all}
-use Rattle.quorum_model.specs.Happens.{put_at}
-use Rattle.quorum_model.specs.Meets.{Arrival}
-use Rattle.quorum_model.specs.Monitors.{Monitors, classic}
-use Rattle.quorum_model.specs.Runs.{Ran, ran_from, ran, run, goes_on}
-use Rattle.quorum_model.specs.World.{World, Start, Event, Arrives, Envelope, Replied, first_world}
-use Rattle.calm_quorum.proofs.Rounds.{did, flat, first_of_them, mixed_none, mixed_more, crew, at_team, at_other}
-use Rattle.calm_quorum.proofs.Sets.{chosen, all_in}
-use Rattle.calm_quorum.proofs.States.{me_at, reacts, leasing, following, acked, unacked, born, promised, alone, born_is, alone_is}
-use Rattle.calm_quorum.proofs.Stores.{unborn, empty_told, born_told, born_small, alone_told, alone_small, no_version, IsFirst, led_first, promised_first, alone_first}
-use Rattle.calm_quorum.proofs.Handling.{Place, place, Told, takes, Shows, comes, Settles, settled_is, settles_more}
-use Rattle.calm_quorum.proofs.Hearing.{takes_is}
-use Rattle.calm_quorum.proofs.Blocks.{to_each, everyone, from_each, sent_each, none_told, length_flat, length_each, length_from}
-use Rattle.calm_quorum.proofs.Rows.{start_row}
-use Rattle.calm_quorum.proofs.Election.{idle, all, heard, probes, defers, collects, follows, leases, proposals, victory, last0, leased, round_a, round_b, round_c, round_d, round_ef, round_g, round_h, round_i}
 use Rattle.quorum_model.proofs.Continuing.{ran_next, ran_on}
+use Rattle.quorum_model.specs.CalmRun.{AreAll, IsCalmAt, ServesCalmly, is_done}
+use Rattle.quorum_model.specs.CalmSchedule.{asks_all, number_delivered}
+use Rattle.std.proofs.Common.{Bool, List, None, Ok, Option, Some, [], ap, arith, eqb, filter, inl, inr, length, length-append, map, not, refl, replicate, slice_index_or, subst, suc, sym, zero, ℕ, ◌*◌, ◌++◌, ◌+◌, ◌<◌, ◌∙◌, ◌∷◌, ◌≡◌, ◌≤◌, ◌⊎◌}
+use Rattle.std.proofs.lemmas.Bool.{cases_eq, le-ltb, lt-ltb}
+use Rattle.std.proofs.lemmas.List.Elements.{filter_map-append}
 
 -- ---- how the monitors stand
 

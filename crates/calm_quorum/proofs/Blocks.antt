@@ -1,15 +1,11 @@
 -- What is sent to each monitor, as blocks of messages.
-use Rattle.std.proofs.Common.{◌≡◌, ℕ, zero, suc, ◌+◌, ◌*◌, ◌<◌, ◌≤◌, Bool, true, false, cond, not, ◌&&◌, eqb, List, [], ◌∷◌, ◌++◌, length, map, refl, sym, ap, ◌∙◌, arith, append_assoc, append-nil, length-append}
-use Rattle.std.proofs.Math.Nat.{suc-mul}
-use Rattle.std.specs.List.{filter, filter_map, range_with_len}
-use Rattle.mon_msg.specs.Protocol.Sending.{message_to}
-use Rattle.mon_msg.specs.declared.view.Me.{Me}
-use Rattle.mon_wire.specs.declared.body.Body.{Body}
-use Rattle.quorum_model.specs.Clients.{messages_of}
-use Rattle.quorum_model.specs.World.{Envelope}
-use Rattle.calm_quorum.proofs.Rounds.{flat}
 use Rattle.calm_quorum.proofs.Handling.{tell}
+use Rattle.calm_quorum.proofs.Rounds.{flat}
 use Rattle.calm_quorum.proofs.States.{says}
+use Rattle.law_names.proofs.Runs.{Envelope, messages_of}
+use Rattle.law_names.proofs.Table.{Body, Me, filter_map, message_to, range_with_len}
+use Rattle.std.proofs.Common.{Bool, List, [], ap, append-nil, append_assoc, arith, cond, eqb, false, filter, length, length-append, map, not, refl, suc, sym, true, zero, ℕ, ◌&&◌, ◌*◌, ◌++◌, ◌+◌, ◌<◌, ◌∙◌, ◌∷◌, ◌≡◌, ◌≤◌}
+use Rattle.std.proofs.Math.Nat.{suc-mul}
 
 -- the lists b a to b (a + n - 1) joined, from the first one on
 abbrev front : {A : Type 0} → ℕ → ℕ → (ℕ → List A) → List A

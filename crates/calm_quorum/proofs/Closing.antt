@@ -1,43 +1,26 @@
 -- The closing shows: from a calm world, with any log of values, each monitor shows both maps of the log.
-use Rattle.std.proofs.Common.{◌≡◌, ℕ, zero, suc, ◌+◌, ◌^◌, ◌<◌, ◌≤◌, true, false, cond, ◌||◌, eqb, ltb, List, [], ◌∷◌, ◌++◌, length, map, Option, Some, None, Ok, refl, sym, ap, subst, ◌∙◌, inl, inr, arith, append-nil, append_assoc}
-use Rattle.std.proofs.lemmas.Bool.{cases_lt, lt-ltb, le-ltb, or_right}
-use Rattle.std.proofs.lemmas.List.{map-append}
-use Rattle.std.specs.List.{filter_map, flat_map, range_with_len}
-use Rattle.std.specs.Prelude.{nat_lt}
-use Rattle.mon_lease.specs.Lease as lease
-use Rattle.mon_tx.specs.Map.{Store}
-use Rattle.mon_bytes.specs.declared.entry.Entry.{Entry}
-use Rattle.mon_msg.specs.Protocol.Hearing.{hear_client}
-use Rattle.mon_msg.specs.Protocol.Phases.{same_phase, is_member}
-use Rattle.mon_msg.specs.Protocol.Reaction.{any_reaction}
-use Rattle.mon_msg.specs.Protocol.Reads.{shown}
-use Rattle.mon_msg.specs.Protocol.Readings.{Readings, readings_of, shared_entries}
-use Rattle.mon_msg.specs.Protocol.State.{State, lease_of}
-use Rattle.mon_msg.specs.Protocol.Table.{react}
-use Rattle.mon_msg.specs.declared.input.Input.TheVariants as input
-use Rattle.mon_msg.specs.declared.plan.Sent.TheVariants as sent
-use Rattle.mon_wire.specs.declared.phase.Phase.TheVariants as phase
-use Rattle.mon_wire.specs.declared.reply.Reply.{Reply}
-use Rattle.mon_wire.specs.declared.reply.Reply.TheVariants as reply
-use Rattle.mon_wire.specs.declared.request.Request.TheVariants as request
-use Rattle.mon_wire.specs.declared.request.Service.{Service}
-use Rattle.mon_wire.specs.declared.request.Service.TheVariants as service
-use Rattle.mon_wire.specs.declared.request.Session.{Session}
-use Rattle.log_model.specs.LogOfValues.{AllValues}
-use Rattle.log_model.proofs.Committed.{shown_shared}
-use Rattle.quorum_model.specs.CalmRun.{Answer, ServesCalmly, HasAll, IsCalm, EndsCalmly, log_of, answers, answers_shown, shown_of}
-use Rattle.quorum_model.specs.CalmSchedule.{Order, session, asks, shows, orders, calm_schedule}
-use Rattle.quorum_model.specs.Meets.{Arrival}
-use Rattle.quorum_model.specs.Monitors.{Monitors, classic}
-use Rattle.quorum_model.specs.Runs.{Ran, ran_from, ran, run}
-use Rattle.quorum_model.specs.World.{World, Client, Event, Envelope, first_world}
+use Rattle.calm_quorum.proofs.Handling.{Place, Said, Shows, Told, comes, grew, place, takes}
+use Rattle.calm_quorum.proofs.Hearing.{unchanged}
 use Rattle.calm_quorum.proofs.Rounds.{did, put_same}
 use Rattle.calm_quorum.proofs.States.{me_at, reacts, with_changes}
 use Rattle.calm_quorum.proofs.Stores.{IsSmall}
-use Rattle.calm_quorum.proofs.Handling.{Place, place, Said, Told, grew, takes, Shows, comes}
-use Rattle.calm_quorum.proofs.Hearing.{unchanged}
+use Rattle.law_names.proofs.Runs.{AllValues, Answer, Arrival, Client, Envelope, Event, HasAll, IsCalm, Monitors, Order, Ran, World, answers, asks, classic, first_world, log_of, orders, ran, ran_from, run, session}
+use Rattle.law_names.proofs.Table.{Entry, Readings, Reply, Service, Session, State, Store, any_reaction, filter_map, flat_map, hear_client, is_member, lease_of, range_with_len, react, readings_of, same_phase, shared_entries, shown}
+use Rattle.log_model.proofs.Committed.{shown_shared}
+use Rattle.mon_lease.specs.Lease as lease
+use Rattle.mon_msg.specs.declared.input.Input.TheVariants as input
+use Rattle.mon_msg.specs.declared.plan.Sent.TheVariants as sent
+use Rattle.mon_wire.specs.declared.phase.Phase.TheVariants as phase
+use Rattle.mon_wire.specs.declared.reply.Reply.TheVariants as reply
+use Rattle.mon_wire.specs.declared.request.Request.TheVariants as request
+use Rattle.mon_wire.specs.declared.request.Service.TheVariants as service
 use Rattle.quorum_model.proofs.Continuing.{ran_next, ran_on}
 use Rattle.quorum_model.proofs.Members.{me_is}
+use Rattle.quorum_model.specs.CalmRun.{EndsCalmly, ServesCalmly, answers_shown, shown_of}
+use Rattle.quorum_model.specs.CalmSchedule.{calm_schedule, shows}
+use Rattle.std.proofs.Common.{List, None, Ok, Option, Some, [], ap, append-nil, append_assoc, arith, cond, eqb, false, inl, inr, length, ltb, map, nat_lt, refl, subst, suc, sym, true, zero, ℕ, ◌++◌, ◌+◌, ◌<◌, ◌^◌, ◌||◌, ◌∙◌, ◌∷◌, ◌≡◌, ◌≤◌}
+use Rattle.std.proofs.lemmas.Bool.{cases_lt, le-ltb, lt-ltb, or_right}
+use Rattle.std.proofs.lemmas.List.{map-append}
 
 -- ---- one request
 

@@ -1,28 +1,18 @@
 -- The rounds from the starts to the calm.
-use Rattle.std.proofs.Common.{◌≡◌, ℕ, zero, suc, ◌<◌, ◌≤◌, Bool, true, false, cond, not, ◌&&◌, eqb, ltb, List, [], ◌∷◌, ◌++◌, map, Option, Some, None, refl, sym, ap, subst, ◌∙◌, ◌⊎◌, inl, inr, arith}
-use Rattle.std.proofs.lemmas.Bool.{ltb-true, ltb-false, cases_eq, eq-eqb, ne_eqb, eqb-false, lt-ltb, not-true}
-use Rattle.std.proofs.lemmas.List.Elements.{filter_map-append}
-use Rattle.std.specs.FinMap.{empty}
-use Rattle.std.specs.Prelude.{nat_lt}
-use Rattle.mon_tx.specs.Map.{Store}
-use Rattle.mon_msg.specs.Protocol.Changes.{Epoch, Numbers, Promise}
-use Rattle.mon_msg.specs.Protocol.Sending.{message_to, members, others}
-use Rattle.mon_msg.specs.Protocol.Sets.{only}
-use Rattle.mon_types.specs.Ranks.{no_ranks, has, is_majority, with_rank}
-use Rattle.mon_wire.specs.declared.body.Body.{Body}
-use Rattle.mon_wire.specs.declared.body.Body.TheVariants as body
-use Rattle.quorum_model.specs.Clients.{envelope_of}
-use Rattle.quorum_model.specs.Growth.{last_of}
-use Rattle.quorum_model.specs.Monitors.{classic}
-use Rattle.quorum_model.specs.World.{Envelope}
-use Rattle.calm_quorum.proofs.Rounds.{Took, did, all_of, all_of-append, turn, all_flat, single, round, threshold, flat_none, team, crew, all_take, leader_gathers, others_take, crew_self, goes_to, if_sent, dropped, flat, flat_nones}
-use Rattle.calm_quorum.proofs.Sets.{met, chosen, met_self, in_met, outside, is_enough, few_met, rises, settled}
-use Rattle.calm_quorum.proofs.States.{me_at, probing, electing, collecting, leasing, following, acked, unacked, born, led, served, promised, led_is, served_is, promised_is}
-use Rattle.calm_quorum.proofs.Stores.{born_told, led_told, served_told, promised_told, born_small, led_small, served_small, promised_small, no_version}
-use Rattle.calm_quorum.proofs.Handling.{Place, place, Said, tell, hears, generation}
+use Rattle.calm_quorum.proofs.Blocks.{env, everyone, from_each, none_told, sent_each, to_each}
+use Rattle.calm_quorum.proofs.Handling.{Place, Said, generation, hears, place, tell}
 use Rattle.calm_quorum.proofs.Hearing.{hears_is, unchanged}
-use Rattle.calm_quorum.proofs.Blocks.{env, to_each, everyone, from_each, sent_each, none_told}
-use Rattle.calm_quorum.proofs.Rows.{probe_row, reply_more, reply_enough, reply_late, propose_row, propose_first, propose_late, ack_more, ack_last, victory_row, collect_row, last_more, last_last, lease_row, lease_ack_more, lease_ack_last}
+use Rattle.calm_quorum.proofs.Rounds.{Took, all_flat, all_of, all_of-append, all_take, crew, crew_self, did, dropped, flat, flat_none, flat_nones, goes_to, if_sent, leader_gathers, others_take, round, single, team, threshold, turn}
+use Rattle.calm_quorum.proofs.Rows.{ack_last, ack_more, collect_row, last_last, last_more, lease_ack_last, lease_ack_more, lease_row, probe_row, propose_first, propose_late, propose_row, reply_enough, reply_late, reply_more, victory_row}
+use Rattle.calm_quorum.proofs.Sets.{chosen, few_met, in_met, is_enough, met, met_self, outside, rises, settled}
+use Rattle.calm_quorum.proofs.States.{acked, born, collecting, electing, following, leasing, led, led_is, me_at, probing, promised, promised_is, served, served_is, unacked}
+use Rattle.calm_quorum.proofs.Stores.{born_small, born_told, led_small, led_told, no_version, promised_small, promised_told, served_small, served_told}
+use Rattle.law_names.proofs.Runs.{Envelope, classic, envelope_of, last_of}
+use Rattle.law_names.proofs.Table.{Body, Epoch, Numbers, Promise, Store, empty, has, is_majority, members, message_to, no_ranks, only, others, with_rank}
+use Rattle.mon_wire.specs.declared.body.Body.TheVariants as body
+use Rattle.std.proofs.Common.{Bool, List, None, Option, Some, [], ap, arith, cond, eqb, false, inl, inr, ltb, map, nat_lt, not, refl, subst, suc, sym, true, zero, ℕ, ◌&&◌, ◌++◌, ◌<◌, ◌∙◌, ◌∷◌, ◌≡◌, ◌≤◌, ◌⊎◌}
+use Rattle.std.proofs.lemmas.Bool.{cases_eq, eq-eqb, eqb-false, lt-ltb, ltb-false, ltb-true, ne_eqb, not-true}
+use Rattle.std.proofs.lemmas.List.Elements.{filter_map-append}
 
 module _ (n : ℕ) (most : n ≤ 15) where
   abbrev pub react : ℕ → Place → Envelope → Took Place Envelope Said

@@ -1,28 +1,14 @@
 -- What deliveries make of the world, block by block.
-use Rattle.std.proofs.Common.{◌≡◌, ℕ, zero, suc, ◌+◌, ◌-◌, ◌<◌, ◌≤◌, Bool, true, false, cond, eqb, ltb, List, [], ◌∷◌, ◌++◌, length, map, Option, Some, None, Result, Ok, Err, refl, sym, ap, ◌∙◌, arith, append_assoc, append-nil, length-append}
-use Rattle.std.proofs.lemmas.Bool.{le-ltb, le-leb, lt-leb, ltb-false}
-use Rattle.std.proofs.lemmas.List.{map-append}
-use Rattle.std.specs.List.{AllByRecursion, filter_map, range_with_len, slice_get}
-use Rattle.mon_tx.specs.Map.{Store, apply}
-use Rattle.mon_kv.specs.Readers.{is_marked}
-use Rattle.mon_msg.specs.Protocol.Reaction.{Reaction, reaction}
-use Rattle.mon_msg.specs.Protocol.State.{State}
-use Rattle.mon_msg.specs.declared.input.Input.TheVariants as input
-use Rattle.mon_msg.specs.declared.plan.Sent.{Sent}
-use Rattle.mon_msg.specs.declared.plan.Sent.TheVariants as sent
-use Rattle.mon_msg.specs.declared.view.Me.{Me}
+use Rattle.calm_quorum.proofs.Rounds.{Took, all_of, did, turn}
+use Rattle.law_names.proofs.Runs.{Answer, Arrival, Arrives, Deliver, Down, Envelope, Event, Meeting, Monitors, NoMessage, Plain, Ran, Reacts, Replied, Stop, World, after_meeting, answers, arrival, deliveries, grown, happens, in_world, is_marked, last_of, me_of, meeting, meeting_at, messages_of, moved, numbers_delivered, put_at, ran_from, records_after, replies_of, run_from, state_at, unless_stopped}
+use Rattle.law_names.proofs.Table.{AllByRecursion, Me, Reaction, Sent, State, Store, apply, filter_map, range_with_len, reaction}
 use Rattle.log_model.proofs.Lists.{all_front}
-use Rattle.quorum_model.specs.CalmRun.{Answer, answers}
-use Rattle.quorum_model.specs.CalmSchedule.{deliveries, numbers_delivered}
-use Rattle.quorum_model.specs.Clients.{messages_of, replies_of}
-use Rattle.quorum_model.specs.Growth.{grown, last_of, records_after}
-use Rattle.quorum_model.specs.Happens.{Stop, put_at, moved, unless_stopped, in_world, happens, after_meeting}
-use Rattle.quorum_model.specs.Meets.{Arrival, Meeting, NoMessage, Down, Reacts, meeting, meeting_at, arrival, state_at}
-use Rattle.quorum_model.specs.Monitors.{Monitors, me_of}
-use Rattle.quorum_model.specs.Runs.{Ran, ran_from, run_from}
-use Rattle.quorum_model.specs.World.{World, Plain, Deliver, Event, Arrives, Envelope, Replied}
-use Rattle.calm_quorum.proofs.Rounds.{Took, did, all_of, turn}
+use Rattle.mon_msg.specs.declared.input.Input.TheVariants as input
+use Rattle.mon_msg.specs.declared.plan.Sent.TheVariants as sent
 use Rattle.quorum_model.proofs.Continuing.{ran_next}
+use Rattle.std.proofs.Common.{Bool, Err, List, None, Ok, Option, Result, Some, [], ap, append-nil, append_assoc, arith, cond, eqb, false, length, length-append, ltb, map, refl, slice_get, suc, sym, true, zero, ℕ, ◌++◌, ◌+◌, ◌-◌, ◌<◌, ◌∙◌, ◌∷◌, ◌≡◌, ◌≤◌}
+use Rattle.std.proofs.lemmas.Bool.{le-leb, le-ltb, lt-leb, ltb-false}
+use Rattle.std.proofs.lemmas.List.{map-append}
 
 -- ---- one monitor
 

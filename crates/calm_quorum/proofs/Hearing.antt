@@ -1,27 +1,13 @@
 -- The rows as what a monitor makes of a message.
-use Rattle.std.proofs.Common.{◌≡◌, ℕ, ◌≤◌, true, List, [], ◌++◌, Some, Ok, refl, ap, ◌∙◌}
-use Rattle.std.specs.List.{filter_map}
-use Rattle.std.specs.Prelude.{nat_lt}
-use Rattle.mon_bytes.specs.declared.entry.Entry.{Entry}
-use Rattle.mon_tx.specs.Map.{Store}
-use Rattle.mon_msg.specs.Joined.{joined}
-use Rattle.mon_msg.specs.Protocol.Changes.{Change}
-use Rattle.mon_msg.specs.Protocol.Reaction.{any_reaction}
-use Rattle.mon_msg.specs.Protocol.Readings.{Readings, readings_of, shared_entries}
-use Rattle.mon_msg.specs.Protocol.State.{State}
-use Rattle.mon_msg.specs.Protocol.Table.{react}
-use Rattle.mon_msg.specs.declared.input.Input.TheVariants as input
-use Rattle.mon_msg.specs.declared.plan.Sent.{Sent}
-use Rattle.quorum_model.specs.Clients.{messages_of}
-use Rattle.quorum_model.specs.Growth.{last_of}
-use Rattle.quorum_model.specs.Meets.{Arrival, state_at}
-use Rattle.quorum_model.specs.Monitors.{classic}
-use Rattle.quorum_model.specs.World.{Envelope}
+use Rattle.calm_quorum.proofs.Handling.{Place, Said, grew, hears, place, takes, tell}
 use Rattle.calm_quorum.proofs.Rounds.{did}
-use Rattle.calm_quorum.proofs.Handling.{Place, place, Said, tell, grew, takes, hears}
 use Rattle.calm_quorum.proofs.States.{me_at, reacts, with_changes}
 use Rattle.calm_quorum.proofs.Stores.{IsSmall}
+use Rattle.law_names.proofs.Runs.{Arrival, Envelope, classic, last_of, messages_of, state_at}
+use Rattle.law_names.proofs.Table.{Change, Entry, Readings, Sent, State, Store, any_reaction, filter_map, joined, react, readings_of, shared_entries}
+use Rattle.mon_msg.specs.declared.input.Input.TheVariants as input
 use Rattle.quorum_model.proofs.Members.{me_is}
+use Rattle.std.proofs.Common.{List, Ok, Some, [], ap, nat_lt, refl, true, ℕ, ◌++◌, ◌∙◌, ◌≡◌, ◌≤◌}
 
 -- a reaction as what the monitor at a place makes of what arrives
 none_said : (m : Store) (i : ℕ) (out : List Sent) → last_of m ≡ 0 → filter_map (tell i) out ≡ []

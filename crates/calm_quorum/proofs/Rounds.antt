@@ -1,9 +1,9 @@
 -- Rounds of messages: for any machine whose monitors take one message at a time.
-use Rattle.std.proofs.Common.{◌≡◌, ℕ, zero, suc, ◌<◌, Bool, true, false, cond, not, ◌&&◌, eqb, ltb, leb, List, [], ◌∷◌, ◌++◌, refl, sym, ap, subst, ◌∙◌, ◌⊎◌, inl, inr, arith, append_assoc, append-nil}
-use Rattle.std.proofs.lemmas.Bool.{false≢true, eqb-true, cases_eq, cases_lt, cases_order, cond_both, eq-eqb, ne_eqb, lt-ltb, le-ltb, le-leb, lt-leb, leb-true}
-use Rattle.quorum_model.specs.Happens.{put_at}
-use Rattle.std.specs.List.{AllByRecursion}
+use Rattle.law_names.proofs.Runs.{put_at}
+use Rattle.law_names.proofs.Table.{AllByRecursion}
 use Rattle.log_model.proofs.Lists.{all_append}
+use Rattle.std.proofs.Common.{Bool, List, [], ap, append-nil, append_assoc, arith, cond, eqb, false, inl, inr, leb, ltb, not, refl, subst, suc, sym, true, zero, ℕ, ◌&&◌, ◌++◌, ◌<◌, ◌∙◌, ◌∷◌, ◌≡◌, ◌⊎◌}
+use Rattle.std.proofs.lemmas.Bool.{cases_eq, cases_lt, cases_order, cond_both, eq-eqb, eqb-true, false≢true, le-leb, le-ltb, leb-true, lt-leb, lt-ltb, ne_eqb}
 
 -- b 0 to b (k - 1), joined
 abbrev pub flat : {A : Type 0} → ℕ → (ℕ → List A) → List A

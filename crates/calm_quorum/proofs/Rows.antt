@@ -1,34 +1,17 @@
 -- The rows, each at the states that it meets.
-use Rattle.mon_bytes.specs.declared.entry.Entry.{Entry}
-use Rattle.mon_msg.specs.Protocol.Answers.{answer_of}
-use Rattle.mon_msg.specs.Protocol.Changes.{Boot, Epoch, Numbers, Promise}
-use Rattle.mon_msg.specs.Protocol.Collecting.{collect_with, commits_to, settle}
-use Rattle.mon_msg.specs.Protocol.Course.{Course, change}
-use Rattle.mon_msg.specs.Protocol.Leading.{be_active, extend}
-use Rattle.mon_msg.specs.Protocol.Learning.{learn}
-use Rattle.mon_msg.specs.Protocol.Reaction.{any_reaction}
-use Rattle.mon_msg.specs.Protocol.Readings.{Readings}
-use Rattle.mon_msg.specs.Protocol.Records.{pending_of, run_of}
-use Rattle.mon_msg.specs.Protocol.Sending.{members, message_to, others}
-use Rattle.mon_msg.specs.Protocol.Sets.{only}
-use Rattle.mon_msg.specs.Protocol.State.{booting}
-use Rattle.mon_msg.specs.Protocol.Table.{at_rest, react}
+use Rattle.calm_quorum.proofs.Sets.{chosen, count_after, in_met, is_most, met, not_alone, not_in_met, within_all, within_not}
+use Rattle.calm_quorum.proofs.States.{acked, collecting, electing, following, leasing, me_at, probing, reacts, says, tells, unacked}
+use Rattle.law_names.proofs.Table.{Boot, Course, Entry, Epoch, Me, Numbers, Promise, Readings, answer_of, any_reaction, at_rest, be_active, booting, change, collect_with, commits_to, count_of, extend, flat_map, is_majority, learn, members, message_to, no_ranks, only, others, pending_of, react, run_of, settle, with_rank}
 use Rattle.mon_msg.specs.declared.input.Input.TheVariants as input
-use Rattle.mon_msg.specs.declared.view.Me.{Me}
-use Rattle.mon_types.specs.Ranks.{count_of, is_majority, no_ranks, with_rank}
 use Rattle.mon_wire.specs.declared.body.Body.TheVariants as body
 use Rattle.mon_wire.specs.declared.phase.Phase.TheVariants as phase
-use Rattle.std.proofs.Common.{Bool, List, None, Ok, Option, Some, [], ap, arith, eqb, false, inl, inr, ltb, map, refl, suc, sym, true, zero, ℕ, ◌&&◌, ◌++◌, ◌<◌, ◌∙◌, ◌∷◌, ◌≡◌, ◌≤◌}
+use Rattle.std.proofs.Common.{Bool, List, None, Ok, Option, Some, [], ap, arith, eqb, false, inl, inr, ltb, map, nat_lt, refl, replicate, slice_index_or, slice_set, suc, sym, true, zero, ℕ, ◌&&◌, ◌++◌, ◌<◌, ◌∙◌, ◌∷◌, ◌≡◌, ◌≤◌}
 use Rattle.std.proofs.lemmas.Bool.{cases_lt, eq-eqb, le-ltb, lt-ltb, ne_eqb}
-use Rattle.std.specs.List.{flat_map}
-use Rattle.std.specs.Prelude.{nat_lt, replicate, slice_index_or, slice_set}
 use Rattle.table_rows.proofs.Electing as elections
 use Rattle.table_rows.proofs.Electing.{ack_row, collects, counted, elects_now, last_row, late_reply_row, near_reply_row, probes, reigning, wins}
 use Rattle.table_rows.proofs.Hearing.{IsLeader, IsMember, another}
 use Rattle.table_rows.proofs.Serving as values
 use Rattle.table_rows.proofs.Serving.{lease_ack_row}
-use Rattle.calm_quorum.proofs.Sets.{met, chosen, in_met, not_in_met, within_all, within_not, not_alone, is_most, count_after}
-use Rattle.calm_quorum.proofs.States.{me_at, says, tells, reacts, probing, electing, collecting, leasing, following, acked, unacked}
 
 module _ (n : ℕ) (most : n ≤ 15) (shared : List Entry) where
   abbrev at : (i : ℕ) → nat_lt i n ≡ true → Me

@@ -1,15 +1,12 @@
 -- Sets that grow by one rank at a time.
-use Rattle.mon_msg.specs.Protocol.Sets.{are_within, is_empty, only}
-use Rattle.mon_types.specs.Ranks.{count_of, has, no_ranks, with_rank, is_majority}
-use Rattle.std.specs.Prelude.{nat_lt}
-use Rattle.std.proofs.Common.{Bool, List, arith, cond, eqb, false, inl, inr, length, not, refl, subst, suc, sym, true, zero, ap, ℕ, ◌&&◌, ◌*◌, ◌+◌, ◌<◌, ◌||◌, ◌∙◌, ◌≡◌, ◌≤◌, ◌⊎◌}
+use Rattle.calm_quorum.proofs.Rounds.{Rises}
+use Rattle.law_names.proofs.Table.{are_within, count_of, has, is_empty, is_majority, list_all, no_ranks, only, range_with_len, with_rank}
+use Rattle.quorum_walk.proofs.Ranks.{has_with, nobody}
+use Rattle.std.proofs.Common.{Bool, List, ap, arith, cond, eqb, false, filter, inl, inr, length, nat_lt, not, refl, subst, suc, sym, true, zero, ℕ, ◌&&◌, ◌*◌, ◌+◌, ◌<◌, ◌||◌, ◌∙◌, ◌≡◌, ◌≤◌, ◌⊎◌}
 use Rattle.std.proofs.lemmas.Bool.{and_left, and_right, cases_eq, cases_lt, false≢true, le-ltb, lt-ltb}
 use Rattle.std.proofs.lemmas.Grind.{get_or-set_at}
 use Rattle.std.proofs.lemmas.List.Sums.{sum_by-set}
 use Rattle.std.proofs.lemmas.List.{get_or-set_other, get_or-set_same, length-set, set-get_or}
-use Rattle.std.specs.List.{filter, list_all, range_with_len}
-use Rattle.quorum_walk.proofs.Ranks.{has_with, nobody}
-use Rattle.calm_quorum.proofs.Rounds.{Rises}
 
 -- i, and the first k; one more rank is one more step
 abbrev pub met : ℕ → ℕ → List Bool

@@ -1,25 +1,12 @@
 -- The states and stores of the monitors in the first calm run.
-use Rattle.std.specs.Prelude.{ℕ, ◌≤◌, nat_lt, ◌≡◌, Bool, true, false, List, [], ◌∷◌, Option, Some, None, refl}
-use Rattle.std.specs.FinMap.{empty}
-use Rattle.mon_msg.specs.Joined.{joined}
-use Rattle.mon_msg.specs.Protocol.Changes.{Change, Boot, Epoch, Numbers, Promise, encoded}
-use Rattle.mon_msg.specs.Protocol.Reaction.{Reaction}
-use Rattle.mon_msg.specs.Protocol.Readings.{Readings}
-use Rattle.mon_msg.specs.Protocol.State.{State, booting, start_leader, start_elector}
-use Rattle.mon_msg.specs.Protocol.Timers.{armed, unarmed}
-use Rattle.mon_msg.specs.declared.paxos.Leader.{Leader}
-use Rattle.mon_msg.specs.declared.plan.Sent.{Sent}
-use Rattle.mon_msg.specs.declared.view.Me.{Me}
-use Rattle.mon_wire.specs.declared.body.Body.{Body}
-use Rattle.mon_wire.specs.declared.message.Message.{Message}
+use Rattle.calm_quorum.proofs.Sets.{chosen}
+use Rattle.law_names.proofs.Runs.{classic}
+use Rattle.law_names.proofs.Table.{Body, Boot, Change, Epoch, Leader, Me, Message, Numbers, Promise, Reaction, Readings, Sent, State, Store, apply, armed, booting, empty, encoded, joined, no_ranks, start_elector, start_leader, unarmed}
+use Rattle.mon_msg.specs.declared.paxos.LeaderStage.TheVariants as stage
 use Rattle.mon_wire.specs.declared.phase.Phase.TheVariants as phase
 use Rattle.mon_wire.specs.declared.phase.Timer.TheVariants as timer
-use Rattle.mon_tx.specs.Map.{Store, apply}
-use Rattle.mon_msg.specs.declared.paxos.LeaderStage.TheVariants as stage
-use Rattle.mon_types.specs.Ranks.{no_ranks}
-use Rattle.calm_quorum.proofs.Sets.{chosen}
 use Rattle.quorum_model.proofs.Members.{member_of}
-use Rattle.quorum_model.specs.Monitors.{classic}
+use Rattle.std.proofs.Common.{Bool, List, None, Option, Some, [], false, nat_lt, refl, true, ℕ, ◌∷◌, ◌≡◌, ◌≤◌}
 
 abbrev pub me_at : (n i : ℕ) → n ≤ 15 → nat_lt i n ≡ true → Me
 me_at n i most e = member_of (classic n most) i e

@@ -1,29 +1,17 @@
 -- The stores of the first calm run: what their readers return, how large they are, and that they share nothing yet.
-use Rattle.std.proofs.Common.{◌≡◌, ℕ, ◌≤◌, ◌^◌, Bool, true, false, cond, lit≤, List, [], ◌∷◌, length, Option, Some, None, refl, sym, ap, ◌∙◌, arith}
-use Rattle.std.specs.Prelude.{nat_lt}
-use Rattle.std.specs.List.{AllByRecursion}
-use Rattle.std.specs.FinMap.{empty, get, entries, insert, retain_keys, put, get-empty, entries-insert, len-empty, len-entries, same_map}
-use Rattle.mon_kv.specs.Readers.{size_of, most_size, pending}
-use Rattle.mon_msg.specs.Fold.{fold}
-use Rattle.mon_msg.specs.Protocol.Changes.{Change, Boot, Epoch, Numbers, Promise, encoded}
-use Rattle.mon_msg.specs.Protocol.Played.{played}
-use Rattle.mon_msg.specs.Protocol.Readings.{Readings, readings_of, number_if_there, marks, epoch_of, promise_of}
-use Rattle.mon_msg.specs.Puts.{area_of}
+use Rattle.calm_quorum.proofs.States.{alone, born, led, promised, served, tells, with_changes}
+use Rattle.law_names.proofs.Runs.{HasAll, last_of, most_size, size_of}
+use Rattle.law_names.proofs.Table.{AllByRecursion, Area, Boot, Change, Epoch, Erase, ErasePrefix, EraseRange, Key, Numbers, Op, Promise, Put, Readings, Store, apply, area_of, cell, empty, encoded, entries, epoch_of, fold, get, insert, marks, number, number_bytes, number_if_there, number_in, place, place_cmp, played, promise_of, readings_of, retain_keys, same_map}
+use Rattle.log_model.proofs.Places.{get_kept, is_shared, lost_put, shared_is}
+use Rattle.mon_kv.specs.Readers.{pending}
 use Rattle.mon_msg.proofs.Changed.{readings-joined}
 use Rattle.mon_msg.proofs.Joining.{apply-joined}
-use Rattle.mon_tx.specs.Keys.{place, cell, number}
-use Rattle.mon_tx.specs.Map.{Place, place_cmp, Store, apply, number_in, number_bytes}
-use Rattle.mon_tx.specs.declared.key.Area.{Area}
+use Rattle.mon_tx.proofs.Places.{exact_places, places_total}
+use Rattle.mon_tx.specs.Map.{Place}
 use Rattle.mon_tx.specs.declared.key.Area.TheVariants as area
-use Rattle.mon_tx.specs.declared.key.Key.{Key}
 use Rattle.mon_tx.specs.declared.key.Key.TheVariants as key
-use Rattle.mon_tx.specs.declared.op.Op.{Op}
-use Rattle.mon_tx.specs.declared.op.Op.TheVariants.{Put, Erase, ErasePrefix, EraseRange}
-use Rattle.mon_tx.proofs.Places.{places_total, exact_places}
-use Rattle.log_model.proofs.Places.{is_shared, shared_is, lost_put, get_kept}
-use Rattle.quorum_model.specs.CalmRun.{HasAll}
-use Rattle.quorum_model.specs.Growth.{last_of}
-use Rattle.calm_quorum.proofs.States.{tells, with_changes, born, led, served, promised, alone}
+use Rattle.std.proofs.Common.{Bool, List, None, Option, Some, [], ap, arith, cond, false, length, lit≤, nat_lt, refl, sym, true, ℕ, ◌^◌, ◌∙◌, ◌∷◌, ◌≡◌, ◌≤◌}
+use Rattle.std.specs.FinMap.{entries-insert, get-empty, len-empty, len-entries, put}
 
 -- ---- what is replied
 

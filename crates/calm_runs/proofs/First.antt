@@ -1,28 +1,15 @@
 -- Before any command the run rests.
-use Rattle.std.proofs.Common.{◌≡◌, ℕ, zero, suc, ◌+◌, ◌≤◌, Bool, true, List, [], ◌∷◌, length, Option, refl, sym, ap, subst, ◌∙◌, arith}
-use Rattle.std.specs.FinMap.{empty}
-use Rattle.std.specs.List.{AllByRecursion, range_with_len}
-use Rattle.std.specs.Prelude.{slice_index_or, replicate}
-use Rattle.mon_lease.specs.Lease.{stands}
-use Rattle.mon_msg.specs.Protocol.Changes.{Change, Boot, Epoch, Numbers, Promise, Vote, Record, Learn, Last, Copy, Mark, Unmark}
-use Rattle.mon_msg.specs.Protocol.Readings.{Readings}
-use Rattle.mon_msg.specs.Protocol.State.{State}
-use Rattle.mon_msg.specs.declared.clients.Clients.{Clients}
-use Rattle.mon_tx.specs.Map.{Store}
-use Rattle.mon_types.specs.Ranks.{with_rank}
-use Rattle.quorum_model.specs.CalmRun.{log_of, answers, answers_of}
-use Rattle.quorum_model.specs.CalmSchedule.{starts}
-use Rattle.quorum_model.specs.Monitors.{Monitors, classic}
-use Rattle.quorum_model.specs.Runs.{Ran, run}
-use Rattle.quorum_model.specs.World.{World}
-use Rattle.calm_sizes.specs.Sizes.{AllShort, longest}
 use Rattle.calm_command.specs.Resting.{Follows, IsResting, Leads, RestsAt, Stored, firsts}
+use Rattle.calm_quorum.proofs.Beginning.{FollowsFirst, IsFirstPlace, LeadsFirst, begins_calmly}
+use Rattle.calm_quorum.proofs.Sets.{chosen, met}
+use Rattle.calm_quorum.proofs.States.{with_changes}
+use Rattle.calm_quorum.proofs.Stores.{AllEarly, IsEarly, IsFirst, all_changed}
 use Rattle.calm_sizes.proofs.Shorts.{empty_short}
 use Rattle.calm_sizes.proofs.Stores.{ChangeShort, short_behind}
-use Rattle.calm_quorum.proofs.Sets.{met, chosen}
-use Rattle.calm_quorum.proofs.States.{with_changes}
-use Rattle.calm_quorum.proofs.Stores.{IsFirst, IsEarly, AllEarly, all_changed}
-use Rattle.calm_quorum.proofs.Beginning.{IsFirstPlace, LeadsFirst, FollowsFirst, begins_calmly}
+use Rattle.calm_sizes.specs.Sizes.{AllShort, longest}
+use Rattle.law_names.proofs.Runs.{Monitors, Ran, World, answers, answers_of, classic, log_of, run, starts}
+use Rattle.law_names.proofs.Table.{AllByRecursion, Boot, Change, Clients, Copy, Epoch, Last, Learn, Mark, Numbers, Promise, Readings, Record, State, Store, Unmark, Vote, empty, range_with_len, stands, with_rank}
+use Rattle.std.proofs.Common.{Bool, List, Option, [], ap, arith, length, refl, replicate, slice_index_or, subst, suc, sym, true, zero, ℕ, ◌+◌, ◌∙◌, ◌∷◌, ◌≡◌, ◌≤◌}
 
 -- ---- sets
 

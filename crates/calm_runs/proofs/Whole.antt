@@ -1,16 +1,15 @@
 -- Every calm schedule leads to a run that rests, and ends calmly.
-use Rattle.std.proofs.Common.{ℕ, ◌^◌, ◌<◌, ◌≤◌, List, [], length, arith}
-use Rattle.quorum_model.specs.CalmRun.{EndsCalmly, log_of}
-use Rattle.quorum_model.specs.CalmSchedule.{Order, OrdersFit, orders}
-use Rattle.quorum_model.specs.Monitors.{classic}
-use Rattle.quorum_model.specs.Runs.{run}
-use Rattle.calm_sizes.proofs.Stores.{not_full}
-use Rattle.calm_command.specs.Resting.{IsResting}
-use Rattle.calm_command.proofs.RestsCalm.{is_calm}
 use Rattle.calm_command.proofs.AllCommands.{all_rest}
+use Rattle.calm_command.proofs.RestsCalm.{is_calm}
+use Rattle.calm_command.specs.Resting.{IsResting}
 use Rattle.calm_quorum.proofs.Closing.{ends_calmly}
 use Rattle.calm_quorum.proofs.Stores.{IsSmall}
 use Rattle.calm_runs.proofs.First.{rests_first}
+use Rattle.calm_sizes.proofs.Stores.{not_full}
+use Rattle.law_names.proofs.Runs.{Order, classic, log_of, orders, run}
+use Rattle.quorum_model.specs.CalmRun.{EndsCalmly}
+use Rattle.quorum_model.specs.CalmSchedule.{OrdersFit}
+use Rattle.std.proofs.Common.{List, [], arith, length, ℕ, ◌<◌, ◌^◌, ◌≤◌}
 
 module _ (n : ℕ) (most : n ≤ 15) (cs : List Order) (O : OrdersFit n cs) where
   pub rests : IsResting (classic n most) cs (orders (classic n most) cs)

@@ -1,20 +1,10 @@
 -- In every run of any monitors, a store that copies nothing and has no long value of its own has room for the next
 -- event.
-use Rattle.std.proofs.Common.{◌≡◌, ℕ, ◌≤◌, ◌<◌, ◌^◌, Bool, true, false, cond, ltb, List, length, Some, Result, Ok, Err, ◌⊎◌, inl, inr, refl, sym, ap, subst, ◌∙◌, arith}
-use Rattle.std.proofs.lemmas.Bool.{cases_order, eq-eqb, false≢true, le-ltb, ltb-true}
-use Rattle.mon_kv.specs.Readers.{size_of, most_size}
-use Rattle.mon_msg.specs.Protocol.Course.{Course}
-use Rattle.mon_msg.specs.Protocol.Reaction.{Reaction, reaction_of, any_reaction}
-use Rattle.mon_msg.specs.Protocol.Readings.{readings_of, shared_entries}
-use Rattle.mon_msg.specs.Protocol.State.{State}
-use Rattle.mon_msg.specs.Protocol.Table.{react}
-use Rattle.mon_msg.specs.declared.input.Input.{Input}
-use Rattle.mon_tx.specs.Keys.{shared}
-use Rattle.mon_tx.specs.Map.{Store, apply}
-use Rattle.mon_msg.specs.Fold.{fold}
-use Rattle.mon_types.specs.declared.names.Which.{Which}
+use Rattle.calm_sizes.proofs.Weights.{never_full}
+use Rattle.calm_sizes.specs.Sizes.{OwnShort, longest}
+use Rattle.law_names.proofs.Runs.{AllFit, AllValues, Arrives, Event, Meeting, Monitors, Plain, PlainFits, Reacts, World, after_meeting, happens, in_world, meets, most_size, moved, run, size_of, unless_stopped, with_asked}
+use Rattle.law_names.proofs.Table.{Course, Input, Reaction, State, Store, Which, any_reaction, apply, fold, react, reaction_of, readings_of, shared, shared_entries}
 use Rattle.log_copies.proofs.Standing.{Agrees}
-use Rattle.log_model.specs.LogOfValues.{AllValues}
 use Rattle.quorum_agreement.proofs.Invariant.{EnvelopeMatches, remembers}
 use Rattle.quorum_agreement.proofs.LoneWorlds.{LoneFollows, lone_asking, lone_follows}
 use Rattle.quorum_agreement.proofs.Result.{OneLog, lone_log, several_log}
@@ -23,16 +13,9 @@ use Rattle.quorum_agreement.proofs.Step.{copy_marked}
 use Rattle.quorum_agreement.proofs.Worlds.{Follows, all_follow, asking}
 use Rattle.quorum_laws.proofs.Events.{Arriving, Keeps, member_of}
 use Rattle.quorum_laws.proofs.Invariant.{InvWith}
-use Rattle.quorum_model.specs.Clients.{with_asked}
-use Rattle.quorum_model.specs.Events.{AllFit, PlainFits}
-use Rattle.quorum_model.specs.Happens.{happens, after_meeting, in_world, moved, unless_stopped}
-use Rattle.quorum_model.specs.Meets.{Meeting, Reacts, meets}
-use Rattle.quorum_model.specs.Monitors.{Monitors}
-use Rattle.quorum_model.specs.Runs.{run}
-use Rattle.quorum_model.specs.World.{World, Event, Plain, Arrives}
-use Rattle.calm_sizes.specs.Sizes.{OwnShort, longest}
 use Rattle.quorum_laws.proofs.Meetings.{OfMeeting, each_meeting}
-use Rattle.calm_sizes.proofs.Weights.{never_full}
+use Rattle.std.proofs.Common.{Bool, Err, List, Ok, Result, Some, ap, arith, cond, false, inl, inr, length, ltb, refl, subst, sym, true, ℕ, ◌<◌, ◌^◌, ◌∙◌, ◌≡◌, ◌≤◌, ◌⊎◌}
+use Rattle.std.proofs.lemmas.Bool.{cases_order, eq-eqb, false≢true, le-ltb, ltb-true}
 
 -- a store is that of a monitor of some log
 pub record OnSomeLog (m : Store) (s : State) : Type 0 where

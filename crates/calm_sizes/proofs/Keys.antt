@@ -1,25 +1,16 @@
 -- The keys that a fold of a log of values may have, and how much a store weighs under them.
-use Rattle.std.proofs.Common.{◌≡◌, ℕ, suc, ◌+◌, ◌-◌, ◌%◌, ◌<◌, ◌≤◌, ◌^◌, Bool, true, false, cond, leb, ltb, List, ◌∷◌, ◌++◌, length, Some, None, ◌⊎◌, inl, inr, refl, sym, ap, subst, ◌∙◌, arith}
-use Rattle.std.proofs.lemmas.Bool.{cases_lt, and_parts, leb-true, ltb-true, eqb-true}
-use Rattle.std.specs.FinMap.{get}
-use Rattle.mon_tx.specs.declared.key.Area.{Area}
-use Rattle.mon_tx.specs.declared.key.Area.TheVariants as area
-use Rattle.mon_tx.specs.declared.key.Key.{Key}
-use Rattle.mon_tx.specs.declared.key.Key.TheVariants as key
-use Rattle.mon_tx.specs.Decision.{Cell}
-use Rattle.mon_tx.specs.Keys.{place, cell}
-use Rattle.mon_tx.specs.Map.{Place}
-use Rattle.mon_wire.specs.declared.request.Service.{Service}
-use Rattle.mon_wire.specs.declared.request.Service.TheVariants.{Kv, Log}
-use Rattle.mon_msg.specs.Fold.{fold, incrementals, version_of_log}
-use Rattle.mon_msg.specs.Puts.{area_of}
-use Rattle.mon_msg.specs.Protocol.Readings.{readings_of}
-use Rattle.log_model.specs.LogOfValues.{AllValues}
-use Rattle.log_model.specs.Windows.{service_from, log_from, within, is_full, is_kept_key, IsKeptKey, row_after}
+use Rattle.calm_sizes.proofs.Listed.{In, here, in_left, in_right, in_run, run, there}
+use Rattle.law_names.proofs.Runs.{AllValues, log_from, row_after, service_from, within}
+use Rattle.law_names.proofs.Table.{Area, Cell, Key, Kv, Log, Service, area_of, cell, fold, get, incrementals, place, readings_of, version_of_log}
 use Rattle.log_model.proofs.Committed.{holds}
 use Rattle.log_model.proofs.FoldKeys.{kept_is}
 use Rattle.log_model.proofs.FoldWindows.{Holds}
-use Rattle.calm_sizes.proofs.Listed.{In, here, there, in_left, in_right, run, in_run}
+use Rattle.log_model.specs.Windows.{IsKeptKey, is_full, is_kept_key}
+use Rattle.mon_tx.specs.Map.{Place}
+use Rattle.mon_tx.specs.declared.key.Area.TheVariants as area
+use Rattle.mon_tx.specs.declared.key.Key.TheVariants as key
+use Rattle.std.proofs.Common.{Bool, List, None, Some, ap, arith, cond, false, inl, inr, leb, length, ltb, refl, subst, suc, sym, true, ℕ, ◌%◌, ◌++◌, ◌+◌, ◌-◌, ◌<◌, ◌^◌, ◌∙◌, ◌∷◌, ◌≡◌, ◌≤◌, ◌⊎◌}
+use Rattle.std.proofs.lemmas.Bool.{and_parts, cases_lt, eqb-true, leb-true, ltb-true}
 
 -- ---- a service's keys
 

@@ -1,17 +1,17 @@
 -- A map weighs at most the sum over any list of keys that has all its keys.
-use Rattle.std.proofs.Common.{◌≡◌, ℕ, zero, suc, ◌+◌, ◌*◌, ◌<◌, ◌≤◌, List, [], ◌∷◌, ◌++◌, length, true, Option, Some, None, Less, T, ◌⊎◌, inl, inr, refl, ap, subst, ◌∙◌, arith}
-use Rattle.std.specs.Ordering.{is_eq}
-use Rattle.std.specs.FinMap.{get, entries, is_sorted, entries_sorted}
-use Rattle.std.specs.FinMap.Entries.{below_all}
-use Rattle.std.specs.List.{AllByRecursion, sum_by}
-use Rattle.std.specs.Cmp.{eq_by_cmp_equiv}
+use Rattle.law_names.proofs.Runs.{entry_size, size_of}
+use Rattle.law_names.proofs.Table.{AllByRecursion, Store, entries, get, is_sorted, place_cmp}
+use Rattle.log_model.proofs.SharedEntries.{Pair, below_each, entries_found}
+use Rattle.map_kv.proofs.Pairs.{first, second}
+use Rattle.mon_tx.proofs.Places.{places_total}
+use Rattle.mon_tx.specs.Map.{Place}
+use Rattle.std.proofs.Common.{Less, List, None, Option, Some, T, [], ap, arith, inl, inr, length, refl, subst, suc, sum_by, true, zero, ℕ, ◌*◌, ◌++◌, ◌+◌, ◌<◌, ◌∙◌, ◌∷◌, ◌≡◌, ◌≤◌, ◌⊎◌}
 use Rattle.std.proofs.lemmas.Bool.{cases_lt}
 use Rattle.std.proofs.lemmas.List.Sums.{sum_by-cons}
-use Rattle.map_kv.proofs.Pairs.{first, second}
-use Rattle.mon_tx.specs.Map.{Place, place_cmp, Store}
-use Rattle.mon_tx.proofs.Places.{places_total}
-use Rattle.mon_kv.specs.Readers.{entry_size, size_of}
-use Rattle.log_model.proofs.SharedEntries.{Pair, below_each, entries_found}
+use Rattle.std.specs.Cmp.{eq_by_cmp_equiv}
+use Rattle.std.specs.FinMap.Entries.{below_all}
+use Rattle.std.specs.FinMap.{entries_sorted}
+use Rattle.std.specs.Ordering.{is_eq}
 
 pub data In (q : Place) : List Place → Type 0 where
   here : {ks : List Place} → In q (q ∷ ks)

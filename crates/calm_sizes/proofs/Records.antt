@@ -1,20 +1,15 @@
 -- The records of consecutive versions of a log together: a full map is there once in 25 versions of a service.
-use Rattle.std.proofs.Common.{◌≡◌, ℕ, zero, suc, ◌+◌, ◌*◌, ◌/◌, ◌%◌, ◌<◌, ◌≤◌, ◌^◌, Bool, true, false, cond, eqb, List, [], ◌∷◌, length, refl, ap, ◌∙◌, arith, length-append}
-use Rattle.std.proofs.lemmas.Bool.{eqb-true}
-use Rattle.mon_tx.specs.Decode.{ops_in}
-use Rattle.mon_tx.specs.Keys.{same_area}
-use Rattle.mon_wire.specs.declared.request.Service.{Service}
-use Rattle.mon_wire.specs.declared.request.Service.TheVariants.{Kv, Log}
-use Rattle.mon_msg.specs.Fold.{entry, incrementals, version_of_log}
-use Rattle.mon_msg.specs.Puts.{area_of}
-use Rattle.mon_msg.specs.Protocol.Parts.{map_text}
-use Rattle.log_model.specs.LogOfValues.{view_at, AllValues, EncodesValue}
-use Rattle.log_model.specs.Windows.{service_from, log_from, first_read}
-use Rattle.log_model.proofs.Committed.{holds, encoded_text, next_at}
+use Rattle.law_names.proofs.Runs.{AllValues, first_read, log_from, service_from, view_at}
+use Rattle.law_names.proofs.Table.{Kv, Log, Service, area_of, entry, incrementals, ops_in, same_area, version_of_log}
+use Rattle.log_model.proofs.Committed.{encoded_text, holds, next_at}
 use Rattle.log_model.proofs.FoldWindows.{Holds, keeps_view, view_last}
 use Rattle.log_model.proofs.MapSteps.{fine_short}
-use Rattle.log_model.proofs.Windows.{Next, incrementals_more}
 use Rattle.log_model.proofs.TextSizes.{cost_most, full_cost, value_length}
+use Rattle.log_model.proofs.Windows.{Next, incrementals_more}
+use Rattle.log_model.specs.LogOfValues.{EncodesValue}
+use Rattle.mon_msg.specs.Protocol.Parts.{map_text}
+use Rattle.std.proofs.Common.{Bool, List, [], ap, arith, cond, eqb, false, length, length-append, refl, suc, true, zero, ℕ, ◌%◌, ◌*◌, ◌+◌, ◌/◌, ◌<◌, ◌^◌, ◌∙◌, ◌∷◌, ◌≡◌, ◌≤◌}
+use Rattle.std.proofs.lemmas.Bool.{eqb-true}
 
 -- how many full maps of both services were put
 abbrev pub fulls : List (List ℕ) → ℕ → ℕ

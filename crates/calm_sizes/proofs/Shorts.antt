@@ -1,24 +1,18 @@
 -- No value of a store is longer than what was put, and no value of a fold is long.
-use Rattle.std.proofs.Common.{◌≡◌, ℕ, zero, suc, ◌≤◌, ◌^◌, ◌&&◌, Bool, true, false, cond, List, [], ◌∷◌, length, Some, None, refl, sym, ap, subst, ◌∙◌, arith, length-append}
-use Rattle.std.specs.FinMap.{empty, get, get-empty}
-use Rattle.std.specs.List.{AllByRecursion, flat_map}
-use Rattle.std.specs.Ordering.{eq_by_cmp}
-use Rattle.std.specs.Str.{bytes_eq}
+use Rattle.calm_sizes.proofs.Records.{entry_short}
+use Rattle.calm_sizes.specs.Sizes.{AllShort}
+use Rattle.law_names.proofs.Runs.{AllValues}
+use Rattle.law_names.proofs.Table.{AllByRecursion, Cell, Decision, Erase, ErasePrefix, EraseRange, Op, Put, Store, apply, apply_op, decided, empty, entry, flat_map, fold, get, ops_in, or_before, place_cmp, put, text}
+use Rattle.log_model.proofs.Committed.{encoded_text, holds}
+use Rattle.mon_tx.proofs.After.{get-apply_op}
+use Rattle.mon_tx.specs.Map.{Place, is_within}
+use Rattle.mon_tx.specs.Text.{op_text}
 use Rattle.mon_tx.specs.declared.key.Area.TheVariants as area
 use Rattle.mon_tx.specs.declared.key.Key.TheVariants as key
-use Rattle.mon_tx.specs.declared.op.Op.{Op}
-use Rattle.mon_tx.specs.declared.op.Op.TheVariants.{Put, Erase, ErasePrefix, EraseRange}
-use Rattle.mon_tx.specs.Decision.{Cell, Decision, decided, or_before}
-use Rattle.mon_tx.specs.Decode.{ops_in}
-use Rattle.mon_tx.specs.Map.{Place, place_cmp, Store, is_within, apply_op, apply}
-use Rattle.mon_tx.specs.Text.{op_text, text}
-use Rattle.mon_tx.proofs.After.{get-apply_op}
-use Rattle.mon_msg.specs.Fold.{entry, fold}
-use Rattle.mon_msg.specs.Puts.{put}
-use Rattle.log_model.specs.LogOfValues.{AllValues}
-use Rattle.log_model.proofs.Committed.{holds, encoded_text}
-use Rattle.calm_sizes.specs.Sizes.{AllShort}
-use Rattle.calm_sizes.proofs.Records.{entry_short}
+use Rattle.std.proofs.Common.{Bool, List, None, Some, [], ap, arith, cond, false, length, length-append, refl, subst, suc, sym, true, zero, ℕ, ◌&&◌, ◌^◌, ◌∙◌, ◌∷◌, ◌≡◌, ◌≤◌}
+use Rattle.std.specs.FinMap.{get-empty}
+use Rattle.std.specs.Ordering.{eq_by_cmp}
+use Rattle.std.specs.Str.{bytes_eq}
 
 -- what a change puts isn't longer
 abbrev pub PutsShort : (limit : ℕ) → Op → Type 0

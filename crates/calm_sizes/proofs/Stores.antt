@@ -1,18 +1,14 @@
 -- A store of a log's versions without a long value stays one, and is not full.
-use Rattle.std.proofs.Common.{◌≡◌, ℕ, ◌≤◌, ◌^◌, List, [], ◌∷◌, length, sym, subst, arith, false, ltb}
-use Rattle.std.proofs.lemmas.Bool.{le-ltb}
-use Rattle.std.specs.List.{AllByRecursion}
-use Rattle.mon_tx.specs.Map.{Store, number_bytes}
-use Rattle.mon_tx.specs.Text.{text}
-use Rattle.mon_kv.specs.Readers.{size_of, most_size}
-use Rattle.mon_msg.proofs.Joining.{apply-joined}
-use Rattle.mon_msg.specs.Protocol.Changes.{Change, Boot, Epoch, Numbers, Promise, Vote, Record, Learn, Last, Copy, Mark, Unmark, ops_of, encoded}
-use Rattle.log_copies.specs.Versions.{HasVersions, store_after}
-use Rattle.log_model.proofs.Lists.{all_append}
-use Rattle.log_model.specs.LogOfValues.{AllValues}
-use Rattle.calm_sizes.specs.Sizes.{AllShort, longest}
 use Rattle.calm_sizes.proofs.Shorts.{PutsShort, puts_within, short_apply}
 use Rattle.calm_sizes.proofs.Weights.{never_full}
+use Rattle.calm_sizes.specs.Sizes.{AllShort, longest}
+use Rattle.law_names.proofs.Runs.{AllValues, most_size, size_of}
+use Rattle.law_names.proofs.Table.{AllByRecursion, Boot, Change, Copy, Epoch, Last, Learn, Mark, Numbers, Promise, Record, Store, Unmark, Vote, encoded, number_bytes, ops_of, text}
+use Rattle.log_copies.specs.Versions.{HasVersions, store_after}
+use Rattle.log_model.proofs.Lists.{all_append}
+use Rattle.mon_msg.proofs.Joining.{apply-joined}
+use Rattle.std.proofs.Common.{List, [], arith, false, length, ltb, subst, sym, ℕ, ◌^◌, ◌∷◌, ◌≡◌, ◌≤◌}
+use Rattle.std.proofs.lemmas.Bool.{le-ltb}
 
 -- ---- what an event writes
 

@@ -1,34 +1,26 @@
 -- A store whose shared part is a fold of a log of values is never full.
-use Rattle.std.proofs.Common.{◌≡◌, ℕ, zero, suc, ◌+◌, ◌-◌, ◌*◌, ◌/◌, ◌≤◌, ◌^◌, Bool, true, false, cond, not, List, [], ◌∷◌, ◌++◌, length, map, Some, None, refl, sym, ap, subst, ◌∙◌, arith}
-use Rattle.std.proofs.lemmas.Bool.{eq-eqb}
-use Rattle.std.proofs.lemmas.List.Sums.{sum_by-append, sum_by-cons}
-use Rattle.std.specs.FinMap.{get, entries, find, get-entries}
-use Rattle.std.specs.List.{AllByRecursion, sum_by}
-use Rattle.std.specs.Ordering.{eq_by_cmp}
-use Rattle.mon_tx.specs.declared.key.Area.{Area}
-use Rattle.mon_tx.specs.declared.key.Area.TheVariants as area
-use Rattle.mon_tx.specs.declared.key.Key.{Key}
-use Rattle.mon_tx.specs.declared.key.Key.TheVariants as key
-use Rattle.mon_tx.specs.Decision.{Cell}
-use Rattle.mon_tx.specs.Keys.{place, cell, number, local_places, is_local, shared}
-use Rattle.mon_tx.specs.Map.{Place, place_cmp, Store}
-use Rattle.mon_wire.specs.declared.request.Service.TheVariants.{Kv, Log}
-use Rattle.mon_kv.specs.Readers.{entry_size, size_of, most_size}
-use Rattle.mon_msg.specs.Fold.{entry, fold}
-use Rattle.mon_msg.specs.Protocol.Readings.{readings_of}
-use Rattle.mon_tx.proofs.Places.{number_in-low}
-use Rattle.log_model.specs.LogOfValues.{AllValues}
-use Rattle.log_model.specs.Windows.{log_from, within}
-use Rattle.log_model.proofs.Committed.{holds}
-use Rattle.log_model.proofs.Places.{same_place, get_kept, is_shared, shared_is, tied, local_named}
-use Rattle.log_model.proofs.SharedEntries.{Pair, entries_found}
-use Rattle.log_model.proofs.TextSizes.{KeyFits, area_length, key_length}
-use Rattle.log_model.proofs.Sharing.{of_own}
-use Rattle.calm_sizes.specs.Sizes.{OwnShort}
-use Rattle.calm_sizes.proofs.Keys.{version_at, service_keys, log_keys, kept_from, fold_keys, fold_listed}
-use Rattle.calm_sizes.proofs.Listed.{In, here, there, in_left, in_right, counted, weight, size_within, run, run_within}
+use Rattle.calm_sizes.proofs.Keys.{fold_keys, fold_listed, kept_from, log_keys, service_keys, version_at}
+use Rattle.calm_sizes.proofs.Listed.{In, counted, here, in_left, in_right, run, run_within, size_within, there, weight}
 use Rattle.calm_sizes.proofs.Records.{records_length, records_short}
 use Rattle.calm_sizes.proofs.Shorts.{fold_short}
+use Rattle.calm_sizes.specs.Sizes.{OwnShort}
+use Rattle.law_names.proofs.Runs.{AllValues, entry_size, log_from, most_size, size_of, within}
+use Rattle.law_names.proofs.Table.{AllByRecursion, Area, Cell, Key, Kv, Log, Store, cell, entries, entry, find, fold, get, is_local, number, place, place_cmp, readings_of, shared}
+use Rattle.log_model.proofs.Committed.{holds}
+use Rattle.log_model.proofs.Places.{get_kept, is_shared, local_named, same_place, shared_is, tied}
+use Rattle.log_model.proofs.SharedEntries.{Pair, entries_found}
+use Rattle.log_model.proofs.Sharing.{of_own}
+use Rattle.log_model.proofs.TextSizes.{KeyFits, area_length, key_length}
+use Rattle.mon_tx.proofs.Places.{number_in-low}
+use Rattle.mon_tx.specs.Keys.{local_places}
+use Rattle.mon_tx.specs.Map.{Place}
+use Rattle.mon_tx.specs.declared.key.Area.TheVariants as area
+use Rattle.mon_tx.specs.declared.key.Key.TheVariants as key
+use Rattle.std.proofs.Common.{Bool, List, None, Some, [], ap, arith, cond, false, length, map, not, refl, subst, suc, sum_by, sym, true, zero, ℕ, ◌*◌, ◌++◌, ◌+◌, ◌-◌, ◌/◌, ◌^◌, ◌∙◌, ◌∷◌, ◌≡◌, ◌≤◌}
+use Rattle.std.proofs.lemmas.Bool.{eq-eqb}
+use Rattle.std.proofs.lemmas.List.Sums.{sum_by-append, sum_by-cons}
+use Rattle.std.specs.FinMap.{get-entries}
+use Rattle.std.specs.Ordering.{eq_by_cmp}
 
 -- ---- one key
 

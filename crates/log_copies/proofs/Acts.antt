@@ -1,52 +1,28 @@
 -- The acts of a monitor that isn't marked leave it the versions of the log that it has, and those that it learns; and what it sends
 -- is the log's.
-use Rattle.std.proofs.Common.{◌≡◌, ℕ, suc, ◌+◌, ◌≤◌, ◌<◌, ◌^◌, Bool, true, false, cond, leb, List, [], ◌∷◌, ◌++◌, length, map, max, Option, Some, None, Result, Ok, Err, refl, sym, ap, subst, ◌∙◌, arith, append_assoc}
-use Rattle.std.proofs.lemmas.Bool.{cond_both, lt-ltb}
-use Rattle.std.proofs.lemmas.List.{append-nil}
-use Rattle.mon_tx.specs.declared.op.Op.{Op}
-use Rattle.mon_tx.specs.Map.{Store, apply}
-use Rattle.mon_types.specs.Proposal.{next_number}
-use Rattle.mon_types.specs.declared.names.Which.{Which}
-use Rattle.mon_types.specs.declared.names.Which.TheVariants as which
-use Rattle.mon_msg.specs.declared.paxos.Found.{Found}
-use Rattle.mon_msg.specs.declared.paxos.LeaderStage.{LeaderStage}
-use Rattle.mon_msg.specs.declared.paxos.LeaderStage.TheVariants as stage
-use Rattle.mon_msg.specs.declared.plan.Origin.{Origin}
-use Rattle.mon_msg.specs.declared.plan.Origin.TheVariants as origin
-use Rattle.mon_msg.specs.declared.plan.Sent.{Sent}
-use Rattle.mon_msg.specs.declared.plan.Sent.TheVariants as sent
-use Rattle.mon_wire.specs.declared.request.Session.{Session}
-use Rattle.mon_wire.specs.declared.body.Body.{Body}
-use Rattle.mon_wire.specs.declared.body.Body.TheVariants as body
-use Rattle.mon_wire.specs.declared.reply.Reply.{Reply}
-use Rattle.mon_wire.specs.declared.reply.Reply.TheVariants as reply
-use Rattle.log_model.specs.Windows.{Keeps}
-use Rattle.log_copies.proofs.Sending.{ReplyMatches, BodyMatches, AllMatch, more_tell, each_tells, all_commits_tell, keeps_own, keeps_noted}
-use Rattle.std.specs.Prelude.{flat_map}
-use Rattle.mon_msg.specs.declared.view.Me.{Me}
-use Rattle.mon_msg.specs.Protocol.Changes.{Change, Boot, Epoch, Numbers, Promise, Vote, Record, Learn, Last, Copy, Mark, Unmark, encoded}
-use Rattle.mon_msg.specs.Protocol.Collecting.{commits_to, begin_found, settle, collect_with, collect, reign}
-use Rattle.mon_msg.specs.Protocol.Course.{Course, ◌>>=◌, checked, change, change_if}
-use Rattle.mon_msg.specs.Protocol.Entering.{is_even, in_next_epoch, in_odd_epoch, own_table, bootstrap, elect, win, adopt}
-use Rattle.mon_msg.specs.Protocol.Leading.{extend, be_active, begin_with, begin, commit}
-use Rattle.mon_msg.specs.Protocol.Learning.{learn_changes, learn}
-use Rattle.mon_msg.specs.Protocol.Played.{play, played}
-use Rattle.mon_msg.specs.Protocol.Readings.{Readings, or_zero, promise_of, epoch_of}
-use Rattle.mon_msg.specs.Protocol.Sending.{members, others, message_to, answer_to, answers_to}
-use Rattle.mon_msg.specs.Protocol.Sets.{is_empty}
-use Rattle.mon_msg.specs.Protocol.Synchronizing.{recent_sync}
+use Rattle.law_names.proofs.Runs.{AllValues, Keeps}
+use Rattle.law_names.proofs.Table.{Body, Boot, Change, Copy, Course, Epoch, Found, Last, LeaderStage, Learn, Mark, Me, Numbers, Op, Origin, Promise, Readings, Record, Reply, Sent, Session, Store, Unmark, Vote, Which, adopt, answer_to, answers_to, apply, be_active, begin, begin_found, begin_with, bootstrap, cell, change, change_if, checked, collect, collect_with, commit, commits_to, elect, encoded, epoch_of, extend, in_next_epoch, in_odd_epoch, is_empty, is_even, learn, learn_changes, members, message_to, next_number, or_zero, others, own_table, play, played, promise_of, recent_sync, reign, settle, win, ◌>>=◌}
+use Rattle.log_copies.proofs.Learning.{learned}
+use Rattle.log_copies.proofs.Leaving.{mark_kept, mark_learned, still_has}
+use Rattle.log_copies.proofs.Matching.{versions_within}
+use Rattle.log_copies.proofs.Sending.{AllMatch, BodyMatches, ReplyMatches, all_commits_tell, each_tells, keeps_noted, keeps_own, more_tell}
+use Rattle.log_copies.proofs.Taken.{encoded_append}
+use Rattle.log_copies.specs.Versions.{HasVersions, IsOwnChange, store_after}
+use Rattle.log_model.proofs.Records.{AreVersions, IsVersion}
 use Rattle.mon_msg.proofs.Afterwards.{apply-append}
 use Rattle.mon_msg.proofs.Joining.{apply-joined}
-use Rattle.log_copies.specs.Versions.{HasVersions, store_after, IsOwnChange}
-use Rattle.log_copies.proofs.Learning.{learned}
+use Rattle.mon_msg.specs.declared.paxos.LeaderStage.TheVariants as stage
+use Rattle.mon_msg.specs.declared.plan.Origin.TheVariants as origin
+use Rattle.mon_msg.specs.declared.plan.Sent.TheVariants as sent
 use Rattle.mon_tx.specs.declared.key.Area.TheVariants as area
 use Rattle.mon_tx.specs.declared.key.Key.TheVariants as key
-use Rattle.mon_tx.specs.Keys.{cell}
-use Rattle.log_copies.proofs.Leaving.{still_has, mark_kept, mark_learned}
-use Rattle.log_copies.proofs.Taken.{encoded_append}
-use Rattle.log_copies.proofs.Matching.{versions_within}
-use Rattle.log_model.specs.LogOfValues.{AllValues}
-use Rattle.log_model.proofs.Records.{IsVersion, AreVersions}
+use Rattle.mon_types.specs.declared.names.Which.TheVariants as which
+use Rattle.mon_wire.specs.declared.body.Body.TheVariants as body
+use Rattle.mon_wire.specs.declared.reply.Reply.TheVariants as reply
+use Rattle.std.proofs.Common.{Bool, Err, List, None, Ok, Option, Result, Some, [], ap, append_assoc, arith, cond, false, leb, length, map, max, refl, subst, suc, sym, true, ℕ, ◌++◌, ◌+◌, ◌<◌, ◌^◌, ◌∙◌, ◌∷◌, ◌≡◌, ◌≤◌}
+use Rattle.std.proofs.lemmas.Bool.{cond_both, lt-ltb}
+use Rattle.std.proofs.lemmas.List.{append-nil}
+use Rattle.std.specs.Prelude.{flat_map}
 
 -- ---- where no number runs out
 

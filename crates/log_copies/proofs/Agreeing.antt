@@ -1,55 +1,23 @@
 -- An unmarked monitor that has versions of the log still has such versions after any input, or it begins a full
 -- synchronization.
-use Rattle.std.proofs.Common.{◌≡◌, ℕ, suc, ◌+◌, ◌≤◌, ◌<◌, ◌^◌, Bool, true, false, not, ◌&&◌, ◌||◌, eqb, ltb, is_some, List, [], ◌∷◌, length, map, sym, subst, ◌≤◌, Option, Some, None, Ok, ap, ◌∙◌}
-use Rattle.std.proofs.lemmas.Bool.{and_parts}
-use Rattle.std.specs.Prelude.{slice_index_or, filter}
-use Rattle.election_rules.specs.declared.scores.Scores.{Scores}
-use Rattle.mon_bytes.specs.declared.entry.Entry.{Entry}
-use Rattle.mon_lease.specs.Lease.{readable}
-use Rattle.mon_tx.specs.declared.op.Op.{Op}
-use Rattle.mon_tx.specs.Map.{Store}
-use Rattle.mon_types.specs.declared.names.Which.TheVariants as which
-use Rattle.mon_wire.specs.declared.parts.Cookie.{Cookie}
-use Rattle.mon_wire.specs.declared.parts.Place.{Place as ChunkPlace}
-use Rattle.mon_wire.specs.declared.phase.Phase.TheVariants as phase
-use Rattle.mon_wire.specs.declared.reply.Reply.{Reply}
-use Rattle.mon_wire.specs.declared.reply.Reply.TheVariants as reply
-use Rattle.mon_wire.specs.declared.body.Body.{Body}
-use Rattle.mon_wire.specs.declared.body.Body.TheVariants as body
-use Rattle.mon_msg.specs.declared.plan.Sent.TheVariants as sent
-use Rattle.mon_msg.specs.declared.clients.Asked.{Asked}
-use Rattle.log_copies.proofs.Sending.{ReplyMatches, BodyMatches, AllMatch, chunk_tells}
+use Rattle.law_names.proofs.Runs.{AllValues}
+use Rattle.law_names.proofs.Table.{Asked, Body, Cookie, Course, Entry, Me, Op, Place as ChunkPlace, Readings, Reply, Requester, Scores, Session, Store, SyncStage, ask_chunk, awaits_cookie, bootstrap, chunk, copy, epoch_of, first_place, grant, hear_chunk, hear_cookie, hear_get_chunk, hear_get_cookie_full, hear_get_cookie_recent, hear_last_chunk, hear_lease, hear_lease_ack, hear_no_cookie, hear_ping, hear_ping_reply, hear_probe, hear_route, is_after, is_cookie, is_member, is_ours, is_standing, lease_of, message_to, next_place, note_table, of_leader, of_member, of_provider, own_table, pending, quorum_of, read, readable, readings_of, replay_or_end, replay_step, reply_to, requester_is, same_cookie, same_flag, same_phase, same_place, say, shared_entries, step_in, take, takes_chunks, ◌▸◌}
+use Rattle.log_copies.proofs.Acts.{Then, and_then, done, learns, says, where_fits, within}
 use Rattle.log_copies.proofs.Given.{given}
-use Rattle.log_copies.specs.Versions.{HasVersions}
-use Rattle.mon_msg.specs.Protocol.Sending.{message_to, reply_to}
-use Rattle.mon_wire.specs.declared.request.Session.{Session}
-use Rattle.mon_msg.specs.declared.synchronization.Requester.{Requester}
-use Rattle.mon_msg.specs.declared.synchronization.SyncStage.{SyncStage}
-use Rattle.mon_msg.specs.declared.synchronization.SyncStage.TheVariants as sync
-use Rattle.mon_msg.specs.declared.view.Me.{Me}
-use Rattle.mon_msg.specs.Protocol.Chunks.{takes_chunks, is_ours, copy, next_place, take, hear_chunk, replay_or_end, hear_last_chunk}
-use Rattle.mon_msg.specs.Protocol.Commands.{hear_route}
-use Rattle.mon_msg.specs.Protocol.Copying.{awaits_cookie, first_place, of_provider, same_flag, ask_chunk, hear_cookie, hear_no_cookie}
-use Rattle.mon_msg.specs.Protocol.Course.{Course, ◌▸◌, say, requester_is}
-use Rattle.mon_msg.specs.Protocol.Entering.{own_table, bootstrap}
-use Rattle.mon_msg.specs.Protocol.Leader.{of_member, hear_lease_ack}
-use Rattle.mon_msg.specs.Protocol.Peon.{of_leader, hear_lease}
-use Rattle.mon_msg.specs.Protocol.Phases.{same_phase, is_member}
-use Rattle.mon_msg.specs.Protocol.Pings.{note_table, hear_ping, hear_ping_reply}
-use Rattle.mon_msg.specs.Protocol.Places as places
-use Rattle.mon_msg.specs.Protocol.Places.{is_after, same_place, same_cookie, is_cookie}
-use Rattle.mon_msg.specs.Protocol.Probing.{hear_probe}
-use Rattle.mon_msg.specs.Protocol.Providing.{chunk, grant, hear_get_cookie_full, hear_get_cookie_recent, hear_get_chunk}
-use Rattle.mon_msg.specs.Protocol.Readings.{Readings, epoch_of, readings_of, shared_entries}
-use Rattle.mon_msg.specs.Protocol.Reads.{is_standing, read}
-use Rattle.mon_msg.specs.Protocol.Records.{pending}
-use Rattle.mon_msg.specs.Protocol.Replay.{step_in, replay_step}
-use Rattle.mon_msg.specs.Protocol.State.{quorum_of, lease_of}
-use Rattle.log_copies.proofs.Acts.{within, says, Then, done, and_then, where_fits, learns}
-use Rattle.log_copies.proofs.Rows.{branch, OnLog, boots, sends, tells_reply}
+use Rattle.log_copies.proofs.Rows.{OnLog, boots, branch, sends, tells_reply}
+use Rattle.log_copies.proofs.Sending.{AllMatch, BodyMatches, ReplyMatches, chunk_tells}
 use Rattle.log_copies.proofs.UnderWay.{place_same}
-use Rattle.log_model.specs.LogOfValues.{AllValues}
+use Rattle.log_copies.specs.Versions.{HasVersions}
 use Rattle.log_model.proofs.Records.{AreVersions}
+use Rattle.mon_msg.specs.Protocol.Places as places
+use Rattle.mon_msg.specs.declared.plan.Sent.TheVariants as sent
+use Rattle.mon_msg.specs.declared.synchronization.SyncStage.TheVariants as sync
+use Rattle.mon_types.specs.declared.names.Which.TheVariants as which
+use Rattle.mon_wire.specs.declared.body.Body.TheVariants as body
+use Rattle.mon_wire.specs.declared.phase.Phase.TheVariants as phase
+use Rattle.mon_wire.specs.declared.reply.Reply.TheVariants as reply
+use Rattle.std.proofs.Common.{Bool, List, None, Ok, Option, Some, [], ap, eqb, false, filter, is_some, length, ltb, map, not, slice_index_or, subst, suc, sym, true, ℕ, ◌&&◌, ◌+◌, ◌<◌, ◌^◌, ◌||◌, ◌∙◌, ◌∷◌, ◌≡◌, ◌≤◌}
+use Rattle.std.proofs.lemmas.Bool.{and_parts}
 
 -- ---- a monitor that takes the versions that it lacks
 

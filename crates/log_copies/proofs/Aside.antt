@@ -1,45 +1,15 @@
 -- A marked monitor that is in no election and in no quorum: any other input leaves its store and its synchronization, or it
 -- probes again.
-use Rattle.std.proofs.Common.{◌≡◌, ℕ, ◌<◌, Bool, true, false, not, ◌&&◌, ◌||◌, cond, List, Option, Some, None, ◌⊎◌, inl, inr, Result, Ok, refl, subst}
-use Rattle.std.proofs.lemmas.Bool.{lt-ltb}
-use Rattle.election_rules.specs.declared.scores.Scores.{Scores}
+use Rattle.law_names.proofs.Table.{Body, Command, Cookie, Course, Entry, Me, Op, Phase, Place as ChunkPlace, Readings, Reply, Request, Scores, Session, Timer, Told, Which, ask, awaits_cookie, bootstrap, election_ends, hear, hear_accept, hear_ack, hear_begin, hear_client, hear_collect, hear_commit, hear_forward, hear_get_chunk, hear_get_cookie_full, hear_get_cookie_recent, hear_last, hear_lease, hear_lease_ack, hear_no_cookie, hear_ping, hear_ping_reply, hear_probe, hear_propose, hear_route, hear_victory, is_cookie, is_leading, is_peon, of_provider, ping, propose_due, read, renew, same_cookie, same_phase, shown, since, timer_comes, votes}
 use Rattle.mon_bytes.proofs.Fields.{ok_is}
-use Rattle.mon_bytes.specs.declared.command.Command.{Command}
 use Rattle.mon_bytes.specs.declared.command.Command.TheVariants as command
-use Rattle.mon_bytes.specs.declared.entry.Entry.{Entry}
-use Rattle.mon_tx.specs.declared.op.Op.{Op}
-use Rattle.mon_types.specs.declared.names.Which.{Which}
-use Rattle.mon_wire.specs.declared.body.Body.{Body}
-use Rattle.mon_wire.specs.declared.body.Body.TheVariants as body
-use Rattle.mon_wire.specs.declared.parts.Cookie.{Cookie}
-use Rattle.mon_wire.specs.declared.parts.Place.{Place as ChunkPlace}
-use Rattle.mon_wire.specs.declared.parts.Told.{Told}
-use Rattle.mon_wire.specs.declared.phase.Phase.{Phase}
-use Rattle.mon_wire.specs.declared.phase.Phase.TheVariants as phase
-use Rattle.mon_wire.specs.declared.phase.Timer.{Timer}
-use Rattle.mon_wire.specs.declared.phase.Timer.TheVariants as timer
-use Rattle.mon_wire.specs.declared.reply.Reply.{Reply}
-use Rattle.mon_wire.specs.declared.request.Request.{Request}
-use Rattle.mon_wire.specs.declared.request.Request.TheVariants as request
-use Rattle.mon_wire.specs.declared.request.Session.{Session}
-use Rattle.mon_msg.specs.declared.view.Me.{Me}
-use Rattle.mon_msg.specs.Protocol.Commands.{ask, hear_forward, hear_route, propose_due}
-use Rattle.mon_msg.specs.Protocol.Copying.{awaits_cookie, of_provider, hear_no_cookie}
-use Rattle.mon_msg.specs.Protocol.Course.{Course}
-use Rattle.mon_msg.specs.Protocol.Elections.{hear_propose, hear_ack, election_ends, hear_victory}
-use Rattle.mon_msg.specs.Protocol.Entering.{bootstrap}
-use Rattle.mon_msg.specs.Protocol.Hearing.{hear, hear_client}
-use Rattle.mon_msg.specs.Protocol.Leader.{hear_last, hear_accept, hear_lease_ack, renew}
-use Rattle.mon_msg.specs.Protocol.Peon.{hear_collect, hear_begin, hear_commit, hear_lease}
-use Rattle.mon_msg.specs.Protocol.Phases.{same_phase, is_leading, is_peon, votes}
-use Rattle.mon_msg.specs.Protocol.Pings.{hear_ping, hear_ping_reply, ping}
 use Rattle.mon_msg.specs.Protocol.Places as places
-use Rattle.mon_msg.specs.Protocol.Places.{same_cookie, is_cookie}
-use Rattle.mon_msg.specs.Protocol.Probing.{hear_probe}
-use Rattle.mon_msg.specs.Protocol.Providing.{hear_get_cookie_full, hear_get_cookie_recent, hear_get_chunk}
-use Rattle.mon_msg.specs.Protocol.Readings.{Readings}
-use Rattle.mon_msg.specs.Protocol.Reads.{shown, since, read}
-use Rattle.mon_msg.specs.Protocol.Table.{timer_comes}
+use Rattle.mon_wire.specs.declared.body.Body.TheVariants as body
+use Rattle.mon_wire.specs.declared.phase.Phase.TheVariants as phase
+use Rattle.mon_wire.specs.declared.phase.Timer.TheVariants as timer
+use Rattle.mon_wire.specs.declared.request.Request.TheVariants as request
+use Rattle.std.proofs.Common.{Bool, List, None, Ok, Option, Result, Some, cond, false, inl, inr, not, refl, subst, true, ℕ, ◌&&◌, ◌<◌, ◌||◌, ◌≡◌, ◌⊎◌}
+use Rattle.std.proofs.lemmas.Bool.{lt-ltb}
 
 -- the phases in which a monitor is in no election and in no quorum
 pub record IsAside (p : Phase) : Type 0 where

@@ -1,62 +1,22 @@
 -- A marked monitor sends others nothing of the log: it asks, and refuses clients.
-use Rattle.std.proofs.Common.{◌≡◌, ℕ, suc, ◌+◌, ◌-◌, ◌<◌, Bool, true, false, not, ◌&&◌, ◌||◌, cond, leb, ltb, is_some, List, [], ◌∷◌, ◌++◌, length, map, Option, Some, None, ◌⊎◌, inl, inr, Result, Ok, sym, subst, ◌∙◌}
-use Rattle.std.proofs.lemmas.Bool.{lt-ltb}
-use Rattle.election_rules.specs.declared.scores.Scores.{Scores}
-use Rattle.mon_bytes.specs.declared.command.Command.{Command}
-use Rattle.mon_bytes.specs.declared.command.Command.TheVariants as command
-use Rattle.mon_bytes.specs.declared.entry.Entry.{Entry}
-use Rattle.mon_tx.specs.declared.op.Op.{Op}
-use Rattle.mon_types.specs.declared.names.Which.{Which}
-use Rattle.mon_types.specs.declared.names.Which.TheVariants as which
-use Rattle.mon_wire.specs.declared.body.Body.{Body}
-use Rattle.mon_wire.specs.declared.body.Body.TheVariants as body
-use Rattle.mon_wire.specs.declared.parts.Cookie.{Cookie}
-use Rattle.mon_wire.specs.declared.parts.Place.{Place as ChunkPlace}
-use Rattle.mon_wire.specs.declared.parts.Told.{Told}
-use Rattle.mon_wire.specs.declared.phase.Phase.TheVariants as phase
-use Rattle.mon_wire.specs.declared.phase.Phase.{Phase}
-use Rattle.mon_wire.specs.declared.phase.Timer.{Timer}
-use Rattle.mon_wire.specs.declared.phase.Timer.TheVariants as timer
-use Rattle.mon_wire.specs.declared.reply.Reply.{Reply}
-use Rattle.mon_wire.specs.declared.reply.Reply.TheVariants as reply
-use Rattle.mon_wire.specs.declared.request.Request.{Request}
-use Rattle.mon_wire.specs.declared.request.Request.TheVariants as request
-use Rattle.mon_wire.specs.declared.request.Session.{Session}
-use Rattle.mon_msg.specs.declared.input.Input.{Input}
-use Rattle.mon_msg.specs.declared.input.Input.TheVariants as input
-use Rattle.mon_msg.specs.declared.plan.Sent.{Sent}
-use Rattle.mon_msg.specs.declared.plan.Sent.TheVariants as sent
-use Rattle.mon_msg.specs.declared.synchronization.SyncStage.{SyncStage}
-use Rattle.mon_msg.specs.declared.synchronization.SyncStage.TheVariants as sync
-use Rattle.mon_msg.specs.declared.view.Me.{Me}
-use Rattle.mon_msg.specs.Protocol.Chunks.{is_ours, copy, next_place, take, hear_chunk, replay_or_end, hear_last_chunk}
-use Rattle.mon_msg.specs.Protocol.Commands.{ask, hear_forward, hear_route, propose_due}
-use Rattle.mon_msg.specs.Protocol.Copying.{awaits_cookie, of_provider, same_flag, first_place, ask_chunk, hear_cookie, hear_no_cookie}
-use Rattle.mon_msg.specs.Protocol.Course.{Course, ◌▸◌, requester_is, elector_is, disarm}
-use Rattle.mon_msg.specs.Protocol.Elections.{hear_propose, hear_ack, election_ends, hear_victory}
-use Rattle.mon_msg.specs.Protocol.Entering.{own_table, bootstrap}
-use Rattle.mon_msg.specs.Protocol.Hearing.{is_heard, hear, hear_client}
-use Rattle.mon_msg.specs.Protocol.Leader.{hear_last, hear_accept, hear_lease_ack, renew}
-use Rattle.mon_msg.specs.Protocol.Learning.{learn}
-use Rattle.mon_msg.specs.Protocol.Peon.{hear_collect, hear_begin, hear_commit, hear_lease}
-use Rattle.mon_msg.specs.Protocol.Phases.{same_phase}
-use Rattle.mon_msg.specs.Protocol.Pings.{measure, note_table, hear_ping, hear_ping_reply, ping}
-use Rattle.mon_msg.specs.Protocol.Places as places
-use Rattle.mon_msg.specs.Protocol.Places.{same_cookie, is_cookie}
-use Rattle.mon_msg.specs.Protocol.Probing.{hear_probe, hear_probe_reply}
-use Rattle.mon_msg.specs.Protocol.Providing.{hear_get_cookie_full, hear_get_cookie_recent, hear_get_chunk}
-use Rattle.mon_msg.specs.Protocol.Readings.{Readings, epoch_of}
-use Rattle.mon_msg.specs.Protocol.Reads.{shown, since, read}
-use Rattle.mon_msg.specs.Protocol.Replay.{replay, replay_any, step_in, step_of, replay_step}
-use Rattle.mon_msg.specs.Protocol.Sending.{message_to, others}
-use Rattle.mon_msg.specs.Protocol.State.{State}
-use Rattle.mon_msg.specs.Protocol.Synchronizing.{full_sync}
-use Rattle.mon_msg.specs.Protocol.Table.{at_rest, start, before_start, running, timer_comes, react}
-use Rattle.mon_msg.specs.Protocol.Timers.{end_of}
-use Rattle.log_copies.proofs.Acts.{Then, done, and_then, where_fits}
+use Rattle.law_names.proofs.Table.{Body, Command, Cookie, Course, Entry, Input, Me, Op, Phase, Place as ChunkPlace, Readings, Reply, Request, Scores, Sent, Session, State, SyncStage, Timer, Told, Which, ask, ask_chunk, at_rest, awaits_cookie, before_start, bootstrap, copy, disarm, election_ends, elector_is, end_of, epoch_of, first_place, full_sync, hear, hear_accept, hear_ack, hear_begin, hear_chunk, hear_client, hear_collect, hear_commit, hear_cookie, hear_forward, hear_get_chunk, hear_get_cookie_full, hear_get_cookie_recent, hear_last, hear_last_chunk, hear_lease, hear_lease_ack, hear_no_cookie, hear_ping, hear_ping_reply, hear_probe, hear_probe_reply, hear_propose, hear_route, hear_victory, is_cookie, is_heard, is_ours, learn, measure, message_to, next_place, note_table, of_provider, others, own_table, ping, propose_due, react, read, renew, replay, replay_any, replay_or_end, replay_step, requester_is, running, same_cookie, same_flag, same_phase, shown, since, start, step_in, step_of, take, timer_comes, ◌▸◌}
+use Rattle.log_copies.proofs.Acts.{Then, and_then, done, where_fits}
 use Rattle.log_copies.proofs.Aside.{IsAside}
 use Rattle.log_copies.proofs.Rows.{branch}
-use Rattle.log_copies.proofs.Sending.{ReplyMatches, BodyMatches, AllMatch, more_tell, each_tells}
+use Rattle.log_copies.proofs.Sending.{AllMatch, BodyMatches, ReplyMatches, each_tells, more_tell}
+use Rattle.mon_bytes.specs.declared.command.Command.TheVariants as command
+use Rattle.mon_msg.specs.Protocol.Places as places
+use Rattle.mon_msg.specs.declared.input.Input.TheVariants as input
+use Rattle.mon_msg.specs.declared.plan.Sent.TheVariants as sent
+use Rattle.mon_msg.specs.declared.synchronization.SyncStage.TheVariants as sync
+use Rattle.mon_types.specs.declared.names.Which.TheVariants as which
+use Rattle.mon_wire.specs.declared.body.Body.TheVariants as body
+use Rattle.mon_wire.specs.declared.phase.Phase.TheVariants as phase
+use Rattle.mon_wire.specs.declared.phase.Timer.TheVariants as timer
+use Rattle.mon_wire.specs.declared.reply.Reply.TheVariants as reply
+use Rattle.mon_wire.specs.declared.request.Request.TheVariants as request
+use Rattle.std.proofs.Common.{Bool, List, None, Ok, Option, Result, Some, [], cond, false, inl, inr, is_some, leb, length, ltb, map, not, subst, suc, sym, true, ℕ, ◌&&◌, ◌++◌, ◌+◌, ◌-◌, ◌<◌, ◌||◌, ◌∙◌, ◌∷◌, ◌≡◌, ◌⊎◌}
+use Rattle.std.proofs.lemmas.Bool.{lt-ltb}
 
 module _ (log : List (List ℕ)) (me : Me) (several : 1 < me.member.monitors) (now : ℕ) where
   -- the parts of the log in what was sent so far are the log's

@@ -1,24 +1,14 @@
 -- What a chunk holds of a log: the values of the versions after its place, and of the fold after them what lies between its
 -- place and the one from which the next chunk goes on.
-use Rattle.std.proofs.Common.{◌≡◌, ℕ, suc, ◌+◌, ◌≤◌, Bool, true, false, not, ◌&&◌, List, length}
-use Rattle.std.specs.FinMap.{empty, retain_keys}
-use Rattle.mon_bytes.specs.declared.entry.Entry.{Entry}
-use Rattle.mon_bytes.specs.declared.entry.KeyPlace.{KeyPlace}
-use Rattle.mon_bytes.specs.declared.entry.KeyPlace.TheVariants as key_place
-use Rattle.mon_tx.specs.declared.key.Area.TheVariants as area
-use Rattle.mon_tx.specs.declared.key.Key.TheVariants as key
-use Rattle.mon_tx.specs.declared.op.Op.{Op}
-use Rattle.mon_tx.specs.Keys.{place}
-use Rattle.mon_tx.specs.Map.{Place, apply}
-use Rattle.mon_wire.specs.declared.body.Body.{Body}
-use Rattle.mon_wire.specs.declared.body.Body.TheVariants as body
-use Rattle.mon_wire.specs.declared.parts.Place.{Place as ChunkPlace}
-use Rattle.mon_msg.specs.Fold.{fold}
-use Rattle.mon_msg.specs.Protocol.Changes.{encoded}
-use Rattle.mon_msg.specs.Protocol.Chunks.{copy_changes}
-use Rattle.mon_msg.specs.Protocol.Places.{after_entries}
+use Rattle.law_names.proofs.Table.{Body, Entry, KeyPlace, Op, Place as ChunkPlace, after_entries, apply, copy_changes, empty, encoded, fold, place, retain_keys}
 use Rattle.log_copies.specs.Copies.{is_past}
 use Rattle.log_model.proofs.Records.{AreVersions}
+use Rattle.mon_bytes.specs.declared.entry.KeyPlace.TheVariants as key_place
+use Rattle.mon_tx.specs.Map.{Place}
+use Rattle.mon_tx.specs.declared.key.Area.TheVariants as area
+use Rattle.mon_tx.specs.declared.key.Key.TheVariants as key
+use Rattle.mon_wire.specs.declared.body.Body.TheVariants as body
+use Rattle.std.proofs.Common.{Bool, List, false, length, not, suc, true, ℕ, ◌&&◌, ◌+◌, ◌≡◌, ◌≤◌}
 
 -- after the one place, and at or before the other
 abbrev pub between : KeyPlace → KeyPlace → Place → Bool

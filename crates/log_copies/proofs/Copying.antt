@@ -1,53 +1,30 @@
 -- The rows by which a full synchronization begins, and by which it takes its cookie and its chunks.
-use Rattle.std.proofs.Common.{◌≡◌, ◌⊎◌, ℕ, suc, ◌+◌, ◌≤◌, ◌^◌, Bool, true, false, not, ◌&&◌, ◌||◌, cond, leb, ltb, List, [], ◌∷◌, ◌++◌, length, inl, inr, Result, Ok, Err, refl, sym, ap, subst, ◌∙◌, arith}
-use Rattle.std.proofs.lemmas.Bool.{and_parts, ltb-false, le-leb}
-use Rattle.std.specs.FinMap.{empty}
-use Rattle.mon_bytes.proofs.Fields.{ok_is}
-use Rattle.mon_bytes.specs.declared.entry.Entry.{Entry}
-use Rattle.mon_bytes.specs.declared.entry.KeyPlace.{KeyPlace}
-use Rattle.mon_bytes.specs.declared.entry.KeyPlace.TheVariants as key_place
-use Rattle.mon_tx.specs.declared.key.Area.TheVariants as area
-use Rattle.mon_tx.specs.declared.key.Key.TheVariants as key
-use Rattle.mon_tx.specs.declared.op.Op.{Op}
-use Rattle.mon_tx.specs.Keys.{place, cell}
-use Rattle.mon_tx.specs.Map.{Store, apply}
-use Rattle.mon_types.specs.declared.names.Which.{Which}
-use Rattle.mon_wire.specs.declared.body.Body.TheVariants as body
-use Rattle.mon_wire.specs.declared.parts.Cookie.{Cookie}
-use Rattle.mon_wire.specs.declared.parts.Place.{Place as ChunkPlace}
-use Rattle.mon_types.specs.declared.names.Which.TheVariants as which
-use Rattle.mon_wire.specs.declared.phase.Phase.{Phase}
-use Rattle.mon_wire.specs.declared.phase.Phase.TheVariants as phase
-use Rattle.mon_wire.specs.declared.phase.Timer.TheVariants as timer
-use Rattle.mon_msg.specs.declared.synchronization.SyncStage.{SyncStage}
-use Rattle.mon_msg.specs.declared.synchronization.SyncStage.TheVariants as sync
-use Rattle.mon_msg.specs.declared.view.Me.{Me}
-use Rattle.mon_msg.specs.Joined.{joined}
-use Rattle.mon_msg.specs.Protocol.Changes.{Change, Mark, encoded}
-use Rattle.mon_msg.specs.Protocol.Chunks.{takes_chunks, is_ours, record_changes, copy_changes, next_place, take, begin_replay, take_and_ask, hear_chunk, replay_or_end, take_last, hear_last_chunk}
-use Rattle.mon_msg.specs.Protocol.Copying.{awaits_cookie, of_provider, same_flag, first_place, ask_chunk, start_chunks, hear_cookie}
-use Rattle.mon_msg.specs.Protocol.Course.{Course, ◌▸◌, ◌>>=◌, change_all, requester_is, arm, disarm}
-use Rattle.mon_msg.specs.Protocol.Entering.{bootstrap}
-use Rattle.mon_msg.specs.Protocol.Phases.{same_phase}
-use Rattle.mon_msg.specs.Protocol.Places.{after_entries, same_place, is_cookie}
-use Rattle.mon_msg.specs.Protocol.Played.{play}
-use Rattle.mon_msg.specs.Protocol.Readings.{Readings, epoch_of, readings_of}
-use Rattle.mon_msg.specs.Protocol.State.{State}
-use Rattle.mon_msg.specs.Protocol.Synchronizing.{floor_of, full_sync}
-use Rattle.mon_msg.specs.Protocol.Table.{at_rest}
-use Rattle.mon_msg.proofs.Changed.{readings-joined}
-use Rattle.mon_msg.proofs.Joining.{apply-joined}
-use Rattle.log_copies.specs.Copies.{IsFuzzyCopy, shared_with_records}
-use Rattle.log_copies.specs.Synchronizing.{IsShaped, written, SameNumbers}
-use Rattle.log_copies.proofs.Chunks.{Continues, IsOpen, ChunkOf}
+use Rattle.law_names.proofs.Runs.{AllValues}
+use Rattle.law_names.proofs.Table.{Change, Cookie, Course, Entry, KeyPlace, Mark, Me, Op, Phase, Place as ChunkPlace, Readings, State, Store, SyncStage, Which, after_entries, apply, arm, ask_chunk, at_rest, awaits_cookie, bootstrap, cell, change_all, copy_changes, disarm, empty, encoded, epoch_of, first_place, floor_of, full_sync, hear_chunk, hear_cookie, hear_last_chunk, is_cookie, is_ours, joined, next_place, of_provider, place, play, readings_of, record_changes, replay_or_end, requester_is, same_flag, same_phase, same_place, start_chunks, take, take_and_ask, take_last, takes_chunks, ◌>>=◌, ◌▸◌}
+use Rattle.log_copies.proofs.Chunks.{ChunkOf, Continues, IsOpen}
 use Rattle.log_copies.proofs.Ends.{copy_begins}
-use Rattle.log_copies.proofs.Own.{own_number, own_local}
+use Rattle.log_copies.proofs.Own.{own_local, own_number}
 use Rattle.log_copies.proofs.Shape.{nothing_shared}
-use Rattle.log_copies.proofs.Taken.{taken, own_kept, carried_on}
-use Rattle.log_copies.proofs.UnderWay.{floor_short, there_short, place_same, SameCells, Noted, still_noted, Chunking, InStage, UnderWay, Marked, Stands, stays}
-use Rattle.log_model.specs.LogOfValues.{AllValues}
+use Rattle.log_copies.proofs.Taken.{carried_on, own_kept, taken}
+use Rattle.log_copies.proofs.UnderWay.{Chunking, InStage, Marked, Noted, SameCells, Stands, UnderWay, floor_short, place_same, stays, still_noted, there_short}
+use Rattle.log_copies.specs.Copies.{IsFuzzyCopy, shared_with_records}
+use Rattle.log_copies.specs.Synchronizing.{IsShaped, SameNumbers, written}
 use Rattle.log_model.proofs.Committed.{holds}
 use Rattle.log_model.proofs.KeptKeys.{no_local}
+use Rattle.mon_bytes.proofs.Fields.{ok_is}
+use Rattle.mon_bytes.specs.declared.entry.KeyPlace.TheVariants as key_place
+use Rattle.mon_msg.proofs.Changed.{readings-joined}
+use Rattle.mon_msg.proofs.Joining.{apply-joined}
+use Rattle.mon_msg.specs.Protocol.Chunks.{begin_replay}
+use Rattle.mon_msg.specs.declared.synchronization.SyncStage.TheVariants as sync
+use Rattle.mon_tx.specs.declared.key.Area.TheVariants as area
+use Rattle.mon_tx.specs.declared.key.Key.TheVariants as key
+use Rattle.mon_types.specs.declared.names.Which.TheVariants as which
+use Rattle.mon_wire.specs.declared.body.Body.TheVariants as body
+use Rattle.mon_wire.specs.declared.phase.Phase.TheVariants as phase
+use Rattle.mon_wire.specs.declared.phase.Timer.TheVariants as timer
+use Rattle.std.proofs.Common.{Bool, Err, List, Ok, Result, [], ap, arith, cond, false, inl, inr, leb, length, ltb, not, refl, subst, suc, sym, true, ℕ, ◌&&◌, ◌++◌, ◌+◌, ◌^◌, ◌||◌, ◌∙◌, ◌∷◌, ◌≡◌, ◌≤◌, ◌⊎◌}
+use Rattle.std.proofs.lemmas.Bool.{and_parts, le-leb, ltb-false}
 
 module _ (log : List (List ℕ)) (fits : length log ≤ 2 ^ 62) (all : AllValues log) (me : Me) (before : Readings) (floor : ℕ) where
   -- ---- it begins

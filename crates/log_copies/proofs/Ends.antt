@@ -1,30 +1,24 @@
 -- How a full synchronization begins and ends: it gives up all that is shared, and in the end shares the fold.
-use Rattle.std.proofs.Common.{◌≡◌, ℕ, ◌≤◌, ◌^◌, Bool, true, false, not, cond, List, [], ◌∷◌, length, Some, None, inl, refl, sym, ap, ◌∙◌, arith}
-use Rattle.std.specs.FinMap.{get, get-empty, empty, same_map}
-use Rattle.std.specs.Ordering.{eq_by_cmp}
-use Rattle.mon_bytes.specs.declared.entry.KeyPlace.TheVariants as key_place
-use Rattle.mon_tx.specs.declared.key.Area.{Area}
-use Rattle.mon_tx.specs.declared.key.Area.TheVariants as area
-use Rattle.mon_tx.specs.declared.key.Key.{Key}
-use Rattle.mon_tx.specs.declared.key.Key.TheVariants as key
-use Rattle.mon_tx.specs.declared.op.Op.{Op}
-use Rattle.mon_tx.specs.Decision.{Decision, decided, decision, later, or_before}
-use Rattle.mon_tx.specs.Keys.{place, number, is_local, shared}
-use Rattle.mon_tx.specs.Map.{Place, place_cmp, Store, apply, number_in, number_bytes}
-use Rattle.mon_tx.proofs.After.{get-apply}
-use Rattle.mon_tx.proofs.Named.{decided-put, decided-erase}
-use Rattle.mon_tx.proofs.Places.{places_total, exact_places, number_in-bytes}
-use Rattle.mon_msg.specs.Fold.{fold}
-use Rattle.mon_msg.specs.Puts.{put_number}
-use Rattle.mon_msg.specs.Protocol.Changes.{erase, Last, Unmark, encoded}
-use Rattle.log_copies.specs.Copies.{is_own, IsFuzzyCopy, shared_with_records}
-use Rattle.log_copies.proofs.Own.{own_number, own_local}
+use Rattle.law_names.proofs.Runs.{AllValues}
+use Rattle.law_names.proofs.Table.{Area, Decision, Key, Last, Op, Store, Unmark, apply, decided, decision, empty, encoded, fold, get, is_local, later, number, number_bytes, number_in, or_before, place, place_cmp, put_number, same_map, shared}
+use Rattle.log_copies.proofs.Own.{own_local, own_number}
 use Rattle.log_copies.proofs.Versions.{copy_is}
-use Rattle.log_model.specs.LogOfValues.{AllValues}
+use Rattle.log_copies.specs.Copies.{IsFuzzyCopy, is_own, shared_with_records}
 use Rattle.log_model.proofs.Committed.{holds}
 use Rattle.log_model.proofs.KeptKeys.{no_local}
-use Rattle.log_model.proofs.Places.{same_place, get_kept, is_shared, shared_is}
+use Rattle.log_model.proofs.Places.{get_kept, is_shared, same_place, shared_is}
 use Rattle.log_model.proofs.Spares.{is_number}
+use Rattle.mon_bytes.specs.declared.entry.KeyPlace.TheVariants as key_place
+use Rattle.mon_msg.specs.Protocol.Changes.{erase}
+use Rattle.mon_tx.proofs.After.{get-apply}
+use Rattle.mon_tx.proofs.Named.{decided-erase, decided-put}
+use Rattle.mon_tx.proofs.Places.{exact_places, number_in-bytes, places_total}
+use Rattle.mon_tx.specs.Map.{Place}
+use Rattle.mon_tx.specs.declared.key.Area.TheVariants as area
+use Rattle.mon_tx.specs.declared.key.Key.TheVariants as key
+use Rattle.std.proofs.Common.{Bool, List, None, Some, [], ap, arith, cond, false, inl, length, not, refl, sym, true, ℕ, ◌^◌, ◌∙◌, ◌∷◌, ◌≡◌, ◌≤◌}
+use Rattle.std.specs.FinMap.{get-empty}
+use Rattle.std.specs.Ordering.{eq_by_cmp}
 
 -- ---- changes of a monitor's own numbers decide no key that is shared
 

@@ -1,50 +1,29 @@
 -- What an event leaves of a marked monitor: it still takes a copy, or looks for another monitor, or it is finished.
-use Rattle.std.proofs.Common.{◌≡◌, ℕ, suc, ◌≤◌, ◌<◌, ◌^◌, Bool, true, false, not, ◌&&◌, cond, leb, List, [], ◌∷◌, length, Option, Some, None, is_some, ◌⊎◌, inl, inr, Result, Ok, Err, refl, sym, ap, subst, ◌∙◌, arith, lit≤}
-use Rattle.std.proofs.lemmas.Bool.{leb-true, lt-ltb}
+use Rattle.law_names.proofs.Runs.{AllValues}
+use Rattle.law_names.proofs.Table.{Body, Boot, Change, Course, Entry, Epoch, Input, Me, Message, Phase, Readings, Requester, State, Store, Timer, Which, apply, arm_if, at_rest, before_start, bootstrap, change, change_if, deliver, disarm, elector_is, encoded, end_of, epoch_of, epoch_or_first, first_elector, full_sync, hear, hear_probe_reply, is_heard, joined, played, react, readings_of, reply_to, running, same_phase, scores_count, start, timer_comes, ◌>>=◌, ◌▸◌}
+use Rattle.log_copies.proofs.Aside.{IsAside, IsElse, IsElseTimer, Still, hears_client, hears_else, probing_aside, rings_else, synchronizing_aside}
+use Rattle.log_copies.proofs.Chunks.{ChunkOf}
+use Rattle.log_copies.proofs.Copying.{begun, takes_chunk, takes_cookie, takes_last}
+use Rattle.log_copies.proofs.Own.{own_number}
+use Rattle.log_copies.proofs.Replaying.{steps, under_way_shaped}
+use Rattle.log_copies.proofs.Shape.{still_shaped}
+use Rattle.log_copies.proofs.UnderWay.{InStage, Marked, Noted, Stands, stays}
+use Rattle.log_copies.specs.Synchronizing.{IsShaped, written}
 use Rattle.mon_bytes.proofs.Fields.{ok_is}
-use Rattle.mon_tx.specs.declared.key.Area.TheVariants as area
-use Rattle.mon_tx.specs.declared.key.Key.TheVariants as key
-use Rattle.mon_tx.specs.Map.{Store, apply}
-use Rattle.mon_types.specs.declared.names.Which.{Which}
-use Rattle.mon_types.specs.declared.names.Which.TheVariants as which
-use Rattle.mon_wire.specs.declared.body.Body.{Body}
-use Rattle.mon_wire.specs.declared.body.Body.TheVariants as body
-use Rattle.mon_wire.specs.declared.message.Message.{Message}
-use Rattle.mon_wire.specs.declared.phase.Phase.{Phase}
-use Rattle.mon_wire.specs.declared.phase.Phase.TheVariants as phase
-use Rattle.mon_wire.specs.declared.phase.Timer.{Timer}
-use Rattle.mon_wire.specs.declared.phase.Timer.TheVariants as timer
-use Rattle.mon_wire.specs.declared.reply.Reply.TheVariants as reply
-use Rattle.mon_msg.specs.declared.input.Input.{Input}
-use Rattle.mon_msg.specs.declared.input.Input.TheVariants as input
-use Rattle.mon_msg.specs.declared.synchronization.Requester.{Requester}
-use Rattle.mon_msg.specs.declared.view.Me.{Me}
-use Rattle.mon_bytes.specs.declared.entry.Entry.{Entry}
-use Rattle.mon_msg.specs.Joined.{joined}
-use Rattle.mon_msg.specs.Protocol.Changes.{Change, Boot, Epoch, encoded}
-use Rattle.mon_msg.specs.Protocol.Course.{Course, ◌▸◌, ◌>>=◌, change, change_if, elector_is, arm_if, disarm}
-use Rattle.mon_msg.specs.Protocol.Entering.{bootstrap, scores_count}
-use Rattle.mon_msg.specs.Protocol.Hearing.{is_heard, hear, deliver}
-use Rattle.mon_msg.specs.Protocol.Phases.{same_phase}
-use Rattle.mon_msg.specs.Protocol.Played.{played}
-use Rattle.mon_msg.specs.Protocol.Probing.{hear_probe_reply, copy_again}
-use Rattle.mon_msg.specs.Protocol.Readings.{Readings, epoch_or_first, epoch_of, readings_of}
-use Rattle.mon_msg.specs.Protocol.Sending.{reply_to}
-use Rattle.mon_msg.specs.Protocol.State.{State}
-use Rattle.mon_msg.specs.Protocol.Synchronizing.{full_sync}
-use Rattle.mon_msg.specs.Protocol.Table.{at_rest, first_elector, start, before_start, running, timer_comes, take_timer, react}
-use Rattle.mon_msg.specs.Protocol.Timers.{end_of}
 use Rattle.mon_msg.proofs.Changed.{readings-joined}
 use Rattle.mon_msg.proofs.Joining.{apply-joined}
-use Rattle.log_copies.specs.Synchronizing.{IsShaped, written}
-use Rattle.log_copies.proofs.Aside.{IsAside, probing_aside, synchronizing_aside, Still, IsElse, hears_else, hears_client, IsElseTimer, rings_else}
-use Rattle.log_copies.proofs.Chunks.{ChunkOf}
-use Rattle.log_copies.proofs.Copying.{begun, takes_cookie, takes_chunk, takes_last}
-use Rattle.log_copies.proofs.Own.{own_number}
-use Rattle.log_copies.proofs.Replaying.{under_way_shaped, steps}
-use Rattle.log_copies.proofs.Shape.{still_shaped}
-use Rattle.log_copies.proofs.UnderWay.{Noted, Marked, Stands, stays, InStage}
-use Rattle.log_model.specs.LogOfValues.{AllValues}
+use Rattle.mon_msg.specs.Protocol.Probing.{copy_again}
+use Rattle.mon_msg.specs.Protocol.Table.{take_timer}
+use Rattle.mon_msg.specs.declared.input.Input.TheVariants as input
+use Rattle.mon_tx.specs.declared.key.Area.TheVariants as area
+use Rattle.mon_tx.specs.declared.key.Key.TheVariants as key
+use Rattle.mon_types.specs.declared.names.Which.TheVariants as which
+use Rattle.mon_wire.specs.declared.body.Body.TheVariants as body
+use Rattle.mon_wire.specs.declared.phase.Phase.TheVariants as phase
+use Rattle.mon_wire.specs.declared.phase.Timer.TheVariants as timer
+use Rattle.mon_wire.specs.declared.reply.Reply.TheVariants as reply
+use Rattle.std.proofs.Common.{Bool, Err, List, None, Ok, Option, Result, Some, [], ap, arith, cond, false, inl, inr, is_some, leb, length, lit≤, not, refl, subst, suc, sym, true, ℕ, ◌&&◌, ◌<◌, ◌^◌, ◌∙◌, ◌∷◌, ◌≡◌, ◌≤◌, ◌⊎◌}
+use Rattle.std.proofs.lemmas.Bool.{leb-true, lt-ltb}
 
 -- Cookies come from monitors of the log, and chunks hold what is the log's. Any other message may come.
 abbrev pub BodyOf : List (List ℕ) → Body → Type 0

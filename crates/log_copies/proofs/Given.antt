@@ -1,44 +1,29 @@
 -- The chunk that a monitor of the log gives carries a copy on.
-use Rattle.std.proofs.Common.{◌≡◌, ℕ, zero, suc, ◌+◌, ◌-◌, ◌≤◌, ◌<◌, ◌^◌, Bool, true, false, not, ◌&&◌, ◌||◌, cond, leb, List, [], ◌∷◌, ◌++◌, length, map, Some, None, Less, ◌⊎◌, inl, inr, T, refl, sym, ap, subst, ◌∙◌, arith, length-append}
-use Rattle.std.proofs.lemmas.Bool.{and_parts, leb-true, leb-false}
-use Rattle.std.proofs.lemmas.List.{append-nil, nil_from_length}
-use Rattle.std.specs.FinMap.{get, entries, empty, find, is_sorted, get-empty, get-entries, entries_sorted, same_map}
-use Rattle.std.specs.FinMap.Entries.{below_all, where_key, is_sorted-where_key, find-where_key}
-use Rattle.std.specs.List.{AllByRecursion, filter}
-use Rattle.mon_bytes.specs.declared.entry.Entry.{Entry}
-use Rattle.mon_bytes.specs.declared.entry.KeyPlace.{KeyPlace}
-use Rattle.mon_bytes.specs.declared.entry.KeyPlace.TheVariants as key_place
-use Rattle.mon_tx.specs.declared.key.Area.TheVariants as area
-use Rattle.mon_tx.specs.declared.key.Key.TheVariants as key
-use Rattle.mon_tx.specs.declared.op.Op.{Op}
-use Rattle.mon_tx.specs.Decision.{Cell}
-use Rattle.mon_tx.specs.Keys.{place, cell, number, shared}
-use Rattle.mon_tx.specs.Map.{Place, place_cmp, Store, apply, number_in}
-use Rattle.mon_tx.proofs.Places.{places_total, exact_places}
-use Rattle.map_kv.proofs.Pairs.{both, first, second}
-use Rattle.mon_wire.specs.declared.body.Body.TheVariants as body
-use Rattle.mon_wire.specs.declared.parts.Cookie.{Cookie}
-use Rattle.mon_wire.specs.declared.parts.Place.{Place as ChunkPlace}
-use Rattle.mon_msg.specs.Fold.{fold}
-use Rattle.mon_msg.specs.Protocol.Changes.{encoded}
-use Rattle.mon_msg.specs.Protocol.Chunks.{copy_changes}
-use Rattle.mon_msg.specs.Protocol.Length.{fits}
-use Rattle.mon_msg.specs.Protocol.Places.{is_after, is_done, after_entries}
-use Rattle.mon_msg.specs.Protocol.Providing.{reach, is_finished, chunk_with, given_values, chunk}
-use Rattle.mon_msg.specs.Protocol.Readings.{readings_of, shared_entries}
-use Rattle.mon_msg.specs.Protocol.Records.{run_from, longest, IsLongest}
-use Rattle.mon_msg.proofs.Runs.{longest_is}
+use Rattle.law_names.proofs.Runs.{AllValues, first_read, log_from}
+use Rattle.law_names.proofs.Table.{AllByRecursion, Cell, Cookie, Entry, KeyPlace, Op, Place as ChunkPlace, Store, after_entries, apply, cell, chunk, chunk_with, copy_changes, empty, encoded, entries, find, fits, fold, get, given_values, is_after, is_done, is_finished, is_sorted, longest, number, number_in, place, place_cmp, reach, readings_of, run_from, same_map, shared, shared_entries}
+use Rattle.log_copies.proofs.Chunks.{ChunkOf, Continues, IsOpen, between}
+use Rattle.log_copies.proofs.Ordered.{AllPast, all_at, entry_of, find_front, made_of, onward, past_entry, past_up, rest_past}
 use Rattle.log_copies.specs.Copies.{is_past}
-use Rattle.log_copies.proofs.Chunks.{between, Continues, IsOpen, ChunkOf}
-use Rattle.log_copies.proofs.Ordered.{entry_of, past_entry, past_up, AllPast, all_at, onward, rest_past, find_front, made_of}
-use Rattle.log_model.specs.LogOfValues.{AllValues}
-use Rattle.log_model.specs.Windows.{log_from, first_read}
 use Rattle.log_model.proofs.Committed.{keeps, keeps_shared}
 use Rattle.log_model.proofs.FoldKeys.{greatest_is}
 use Rattle.log_model.proofs.Places.{get_kept}
-use Rattle.log_model.proofs.Records.{AreVersions, first_versions, run_versions, run_from_length, keeps_held}
+use Rattle.log_model.proofs.Records.{AreVersions, first_versions, keeps_held, run_from_length, run_versions}
 use Rattle.log_model.proofs.RowReadings.{none_read}
 use Rattle.log_model.proofs.SharedEntries.{Pair, each_found}
+use Rattle.map_kv.proofs.Pairs.{both, first, second}
+use Rattle.mon_bytes.specs.declared.entry.KeyPlace.TheVariants as key_place
+use Rattle.mon_msg.proofs.Runs.{longest_is}
+use Rattle.mon_msg.specs.Protocol.Records.{IsLongest}
+use Rattle.mon_tx.proofs.Places.{exact_places, places_total}
+use Rattle.mon_tx.specs.Map.{Place}
+use Rattle.mon_tx.specs.declared.key.Area.TheVariants as area
+use Rattle.mon_tx.specs.declared.key.Key.TheVariants as key
+use Rattle.mon_wire.specs.declared.body.Body.TheVariants as body
+use Rattle.std.proofs.Common.{Bool, Less, List, None, Some, T, [], ap, arith, cond, false, filter, inl, inr, leb, length, length-append, map, not, refl, subst, suc, sym, true, zero, ℕ, ◌&&◌, ◌++◌, ◌+◌, ◌-◌, ◌<◌, ◌^◌, ◌||◌, ◌∙◌, ◌∷◌, ◌≡◌, ◌≤◌, ◌⊎◌}
+use Rattle.std.proofs.lemmas.Bool.{and_parts, leb-false, leb-true}
+use Rattle.std.proofs.lemmas.List.{append-nil, nil_from_length}
+use Rattle.std.specs.FinMap.Entries.{below_all, find-where_key, is_sorted-where_key, where_key}
+use Rattle.std.specs.FinMap.{entries_sorted, get-empty, get-entries}
 
 -- ---- lists of entries and of pairs
 

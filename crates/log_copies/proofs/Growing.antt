@@ -1,34 +1,20 @@
 -- What was said of a log lasts when the log grows.
-use Rattle.std.proofs.Common.{◌≡◌, ℕ, suc, ◌+◌, ◌≤◌, ◌<◌, ◌^◌, List, [], ◌∷◌, ◌++◌, length, Some, None, ◌⊎◌, inl, inr, sym, ap, subst, ◌∙◌, arith}
-use Rattle.std.specs.FinMap.{get, retain_keys}
-use Rattle.mon_bytes.specs.declared.entry.Entry.{Entry}
-use Rattle.mon_bytes.specs.declared.entry.KeyPlace.{KeyPlace}
-use Rattle.mon_bytes.specs.declared.entry.KeyPlace.TheVariants as key_place
-use Rattle.mon_tx.specs.declared.op.Op.{Op}
-use Rattle.mon_tx.specs.Decision.{Cell}
-use Rattle.mon_tx.specs.Decode.{ops_in}
-use Rattle.mon_tx.specs.Map.{Place, Store, apply}
-use Rattle.mon_tx.specs.Text.{text}
-use Rattle.mon_wire.specs.declared.body.Body.{Body}
-use Rattle.mon_wire.specs.declared.body.Body.TheVariants as body
-use Rattle.mon_wire.specs.declared.parts.Place.{Place as ChunkPlace}
-use Rattle.mon_msg.specs.Joined.{joined}
-use Rattle.mon_msg.specs.Protocol.Changes.{Learn, Last, encoded}
-use Rattle.mon_msg.specs.Protocol.Readings.{Readings}
-use Rattle.mon_msg.specs.Protocol.State.{State}
-use Rattle.mon_msg.specs.declared.synchronization.SyncStage.{SyncStage}
-use Rattle.mon_msg.specs.declared.synchronization.SyncStage.TheVariants as sync
-use Rattle.log_copies.specs.Copies.{IsFolded, IsRecord, IsFuzzyCopy}
-use Rattle.log_copies.specs.Versions.{HasVersions}
-use Rattle.log_copies.proofs.Chunks.{between, Continues, ChunkOf}
+use Rattle.law_names.proofs.Runs.{AllValues, IsValue, Keeps}
+use Rattle.law_names.proofs.Table.{Body, Cell, Entry, KeyPlace, Last, Learn, Op, Place as ChunkPlace, Readings, State, Store, SyncStage, apply, encoded, get, joined, ops_in, retain_keys, text}
+use Rattle.log_copies.proofs.Chunks.{ChunkOf, Continues, between}
 use Rattle.log_copies.proofs.Learning.{learned}
-use Rattle.log_copies.proofs.UnderWay.{Noted, InStage, Marked}
-use Rattle.log_model.specs.LogOfValues.{AllValues, IsValue}
-use Rattle.log_model.specs.Windows.{Keeps}
+use Rattle.log_copies.proofs.UnderWay.{InStage, Marked, Noted}
+use Rattle.log_copies.specs.Copies.{IsFolded, IsFuzzyCopy, IsRecord}
+use Rattle.log_copies.specs.Versions.{HasVersions}
 use Rattle.log_model.proofs.Committed.{grown, ops_again, texts}
 use Rattle.log_model.proofs.Lists.{length_push}
-use Rattle.log_model.proofs.Logs.{IsPrefixOf, log_prefix_push, entry_push, entry_stays, fold_stays}
-use Rattle.log_model.proofs.Records.{IsVersion, AreVersions}
+use Rattle.log_model.proofs.Logs.{IsPrefixOf, entry_push, entry_stays, fold_stays, log_prefix_push}
+use Rattle.log_model.proofs.Records.{AreVersions, IsVersion}
+use Rattle.mon_bytes.specs.declared.entry.KeyPlace.TheVariants as key_place
+use Rattle.mon_msg.specs.declared.synchronization.SyncStage.TheVariants as sync
+use Rattle.mon_tx.specs.Map.{Place}
+use Rattle.mon_wire.specs.declared.body.Body.TheVariants as body
+use Rattle.std.proofs.Common.{List, None, Some, [], ap, arith, inl, inr, length, subst, suc, sym, ℕ, ◌++◌, ◌+◌, ◌<◌, ◌^◌, ◌∙◌, ◌∷◌, ◌≡◌, ◌≤◌, ◌⊎◌}
 
 module _ {log more : List (List ℕ)} (F : IsPrefixOf log more) where
   pub versions_stay : (c : ℕ) (m : Store) → HasVersions log c m → HasVersions more c m

@@ -1,36 +1,28 @@
 -- A monitor of the log learns the next versions.
-use Rattle.std.proofs.Common.{◌≡◌, ℕ, suc, ◌+◌, ◌≤◌, ◌<◌, ◌^◌, Bool, true, false, not, cond, List, [], ◌∷◌, ◌++◌, length, Some, None, ◌⊎◌, inl, inr, refl, sym, ap, subst, ◌∙◌, arith}
-use Rattle.std.specs.FinMap.{get, same_map}
-use Rattle.mon_bytes.specs.declared.entry.KeyPlace.{KeyPlace}
-use Rattle.mon_bytes.specs.declared.entry.KeyPlace.TheVariants as key_place
-use Rattle.mon_tx.specs.declared.key.Area.TheVariants as area
-use Rattle.mon_tx.specs.declared.key.Key.TheVariants as key
-use Rattle.mon_tx.specs.declared.op.Op.{Op}
-use Rattle.mon_tx.specs.Decision.{Decision, decision, or_before}
-use Rattle.mon_tx.specs.Keys.{place, number, is_local}
-use Rattle.mon_tx.specs.Map.{Place, Store, apply, number_in, number_bytes}
-use Rattle.mon_tx.proofs.After.{get-apply}
-use Rattle.mon_tx.proofs.Named.{decided-put}
-use Rattle.mon_tx.proofs.Places.{places_total, exact_places, number_in-bytes}
-use Rattle.mon_msg.specs.Fold.{fold}
-use Rattle.mon_msg.specs.Joined.{joined}
-use Rattle.mon_msg.specs.Protocol.Changes.{Learn, Last, ops_of, encoded}
-use Rattle.mon_msg.specs.Protocol.Learning.{learn_changes}
-use Rattle.mon_msg.proofs.Afterwards.{apply-append}
-use Rattle.mon_msg.proofs.Joining.{apply-joined}
-use Rattle.log_copies.specs.Copies.{is_own, IsFolded, IsRecord, IsFuzzyCopy, with_version}
-use Rattle.log_copies.specs.Versions.{HasVersions}
+use Rattle.law_names.proofs.Runs.{AllValues}
+use Rattle.law_names.proofs.Table.{Decision, KeyPlace, Last, Learn, Op, Store, apply, decision, encoded, fold, get, is_local, joined, learn_changes, number, number_bytes, number_in, ops_of, or_before, place, same_map}
 use Rattle.log_copies.proofs.Ends.{number_put}
-use Rattle.log_copies.proofs.Own.{own_number, own_local}
+use Rattle.log_copies.proofs.Own.{own_local, own_number}
 use Rattle.log_copies.proofs.Replayed.{learned_version, replayed}
 use Rattle.log_copies.proofs.Taken.{encoded_append, folded_more, record_more}
-use Rattle.log_copies.proofs.Versions.{version, fold_next, record_decided, copy_is}
-use Rattle.log_model.specs.LogOfValues.{AllValues}
+use Rattle.log_copies.proofs.Versions.{copy_is, fold_next, record_decided, version}
+use Rattle.log_copies.specs.Copies.{IsFolded, IsFuzzyCopy, IsRecord, is_own, with_version}
+use Rattle.log_copies.specs.Versions.{HasVersions}
 use Rattle.log_model.proofs.Committed.{holds}
 use Rattle.log_model.proofs.KeptKeys.{no_local}
 use Rattle.log_model.proofs.Places.{get_kept, is_shared, shared_is}
 use Rattle.log_model.proofs.Records.{AreVersions}
 use Rattle.log_model.proofs.Sharing.{of_own}
+use Rattle.mon_bytes.specs.declared.entry.KeyPlace.TheVariants as key_place
+use Rattle.mon_msg.proofs.Afterwards.{apply-append}
+use Rattle.mon_msg.proofs.Joining.{apply-joined}
+use Rattle.mon_tx.proofs.After.{get-apply}
+use Rattle.mon_tx.proofs.Named.{decided-put}
+use Rattle.mon_tx.proofs.Places.{exact_places, number_in-bytes, places_total}
+use Rattle.mon_tx.specs.Map.{Place}
+use Rattle.mon_tx.specs.declared.key.Area.TheVariants as area
+use Rattle.mon_tx.specs.declared.key.Key.TheVariants as key
+use Rattle.std.proofs.Common.{Bool, List, None, Some, [], ap, arith, cond, false, inl, inr, length, not, refl, subst, suc, sym, true, ℕ, ◌++◌, ◌+◌, ◌<◌, ◌^◌, ◌∙◌, ◌∷◌, ◌≡◌, ◌≤◌, ◌⊎◌}
 
 -- a key that is a monitor's own because of its last version alone is the record after it
 next_record : (last : ℕ) (at : Place) → is_local last at ≡ true → is_own at ≡ false → at ≡ place area.Paxos (key.Version (last + 1))

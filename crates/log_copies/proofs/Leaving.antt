@@ -1,31 +1,21 @@
 -- A monitor's own changes leave the versions that it has: its numbers, its epoch, its starts, and a vote for the next version.
-use Rattle.std.proofs.Common.{◌≡◌, ℕ, suc, ◌+◌, ◌≤◌, ◌^◌, length, Bool, true, false, not, ◌&&◌, cond, List, [], ◌∷◌, ◌++◌, Option, Some, None, refl, sym, ap, subst, ◌∙◌, arith}
-use Rattle.std.proofs.lemmas.Bool.{eq-eqb}
-use Rattle.std.specs.FinMap.{get, same_map}
-use Rattle.std.specs.List.{AllByRecursion}
-use Rattle.std.specs.Ordering.{eq_by_cmp}
-use Rattle.mon_tx.specs.declared.key.Area.{Area}
-use Rattle.mon_tx.specs.declared.key.Area.TheVariants as area
-use Rattle.mon_tx.specs.declared.key.Key.{Key}
-use Rattle.mon_tx.specs.declared.key.Key.TheVariants as key
-use Rattle.mon_tx.specs.declared.op.Op.{Op}
-use Rattle.mon_tx.specs.Decision.{Decision, decision, later, or_before}
-use Rattle.mon_tx.specs.Keys.{place, cell, number, is_local, same_area, same_key}
-use Rattle.mon_tx.specs.Map.{Place, place_cmp, Store, apply, number_in, number_bytes}
-use Rattle.mon_tx.specs.Text.{text}
-use Rattle.mon_tx.proofs.After.{get-apply, decision-append}
-use Rattle.mon_tx.proofs.Named.{decided-put}
-use Rattle.mon_tx.proofs.Places.{places_total, exact_places}
-use Rattle.mon_msg.specs.Joined.{joined}
-use Rattle.mon_msg.specs.Puts.{put}
-use Rattle.mon_msg.specs.Protocol.Changes.{Change, Boot, Epoch, Numbers, Promise, Vote, Record, Learn, Last, Copy, Mark, Unmark, ops_of, encoded}
-use Rattle.mon_msg.proofs.Joining.{apply-joined}
-use Rattle.mon_msg.specs.Protocol.Learning.{learn_changes}
+use Rattle.law_names.proofs.Runs.{AllValues}
+use Rattle.law_names.proofs.Table.{AllByRecursion, Area, Boot, Change, Copy, Decision, Epoch, Key, Last, Learn, Mark, Numbers, Op, Promise, Record, Store, Unmark, Vote, apply, cell, decision, encoded, get, is_local, joined, later, learn_changes, number, number_bytes, number_in, ops_of, or_before, place, place_cmp, put, same_area, same_map, text}
 use Rattle.log_copies.proofs.Taken.{encoded_append}
-use Rattle.log_model.specs.LogOfValues.{AllValues}
+use Rattle.log_copies.specs.Versions.{HasVersions, IsOwnChange, store_after}
+use Rattle.log_model.proofs.Places.{get_kept, is_shared, local_named, same_place, shared_is, tied}
 use Rattle.log_model.proofs.Records.{AreVersions, versions_spare}
-use Rattle.log_copies.specs.Versions.{HasVersions, store_after, IsOwnChange}
-use Rattle.log_model.proofs.Places.{same_place, get_kept, is_shared, shared_is, local_named, tied}
+use Rattle.mon_msg.proofs.Joining.{apply-joined}
+use Rattle.mon_tx.proofs.After.{decision-append, get-apply}
+use Rattle.mon_tx.proofs.Named.{decided-put}
+use Rattle.mon_tx.proofs.Places.{exact_places, places_total}
+use Rattle.mon_tx.specs.Keys.{same_key}
+use Rattle.mon_tx.specs.Map.{Place}
+use Rattle.mon_tx.specs.declared.key.Area.TheVariants as area
+use Rattle.mon_tx.specs.declared.key.Key.TheVariants as key
+use Rattle.std.proofs.Common.{Bool, List, None, Option, Some, [], ap, arith, cond, false, length, not, refl, subst, suc, sym, true, ℕ, ◌&&◌, ◌++◌, ◌+◌, ◌^◌, ◌∙◌, ◌∷◌, ◌≡◌, ◌≤◌}
+use Rattle.std.proofs.lemmas.Bool.{eq-eqb}
+use Rattle.std.specs.Ordering.{eq_by_cmp}
 
 -- changes that leave the keys that a monitor with c versions shares, its last version and its mark
 record Leaves (c : ℕ) (ops : List Op) : Type 0 where

@@ -1,34 +1,20 @@
 -- What a monitor of the log sends of it: its records, the runs of them, and what it shows.
-use Rattle.std.proofs.Common.{◌≡◌, ℕ, zero, suc, ◌+◌, ◌-◌, ◌≤◌, ◌<◌, ◌^◌, max, Bool, true, false, cond, leb, List, [], ◌∷◌, ◌++◌, map, length, take, drop, Some, None, ◌⊎◌, inl, inr, IsTrue, refl, sym, ap, subst, ◌∙◌, arith}
-use Rattle.std.specs.Prelude.{◌↔◌}
-use Rattle.std.proofs.lemmas.Bool.{cases_lt, le-leb, lt-ltb}
-use Rattle.std.proofs.lemmas.List.{get_or_past}
+use Rattle.law_names.proofs.Runs.{AllValues, Keeps, first_read, log_from, service_from, within}
+use Rattle.law_names.proofs.Table.{Last, Op, Reply, Service, Store, cell, changes_after, entry, fits_reply, incrementals, learn_changes, longest, map_after, map_of_log, news, news_from, number, ops_in, readings_of, run_from, run_of, shown, since, text, version_of_log}
+use Rattle.log_copies.proofs.Learning.{learned}
+use Rattle.log_copies.specs.Versions.{HasVersions, store_after, values_from}
+use Rattle.log_model.proofs.Committed.{keeps, keeps_shared, ops_again, shown_shared}
+use Rattle.log_model.proofs.Logs.{IsPrefixOf, incrementals_stay}
+use Rattle.log_model.proofs.LongestPrefix.{longest_is_prefix, others_remain}
+use Rattle.log_model.proofs.Records.{AreVersions, IsVersion, keeps_held, run_versions, value_has_text}
+use Rattle.log_model.proofs.RowReadings.{read_some}
+use Rattle.log_model.specs.Windows.{Shows}
 use Rattle.mon_tx.specs.declared.key.Area.TheVariants as area
 use Rattle.mon_tx.specs.declared.key.Key.TheVariants as key
-use Rattle.mon_tx.specs.declared.op.Op.{Op}
-use Rattle.mon_tx.specs.Keys.{cell, number}
-use Rattle.mon_tx.specs.Decode.{ops_in}
-use Rattle.mon_tx.specs.Map.{Store}
-use Rattle.mon_tx.specs.Text.{text}
-use Rattle.mon_wire.specs.declared.reply.Reply.{Reply}
 use Rattle.mon_wire.specs.declared.reply.Reply.TheVariants as reply
-use Rattle.mon_wire.specs.declared.request.Service.{Service}
-use Rattle.mon_msg.specs.Fold.{entry, incrementals, map_after, map_of_log, version_of_log}
-use Rattle.mon_msg.specs.Protocol.Changes.{Last}
-use Rattle.mon_msg.specs.Protocol.Learning.{learn_changes, news, news_from}
-use Rattle.mon_msg.specs.Protocol.Readings.{readings_of}
-use Rattle.mon_msg.specs.Protocol.Reads.{changes_after, shown, since}
-use Rattle.mon_msg.specs.Protocol.Records.{run_of, run_from, longest}
-use Rattle.mon_msg.specs.Protocol.Services.{fits_reply}
-use Rattle.log_copies.specs.Versions.{HasVersions, values_from, store_after}
-use Rattle.log_copies.proofs.Learning.{learned}
-use Rattle.log_model.specs.LogOfValues.{AllValues}
-use Rattle.log_model.specs.Windows.{log_from, within, service_from, first_read, Keeps, Shows}
-use Rattle.log_model.proofs.Committed.{ops_again, keeps, keeps_shared, shown_shared}
-use Rattle.log_model.proofs.Logs.{IsPrefixOf, incrementals_stay}
-use Rattle.log_model.proofs.Records.{IsVersion, AreVersions, value_has_text, run_versions, keeps_held}
-use Rattle.log_model.proofs.RowReadings.{read_some}
-use Rattle.log_model.proofs.LongestPrefix.{longest_is_prefix, others_remain}
+use Rattle.std.proofs.Common.{Bool, IsTrue, List, None, Some, [], ap, arith, cond, drop, false, inl, inr, leb, length, map, max, refl, subst, suc, sym, take, true, zero, ℕ, ◌++◌, ◌+◌, ◌-◌, ◌<◌, ◌^◌, ◌↔◌, ◌∙◌, ◌∷◌, ◌≡◌, ◌≤◌, ◌⊎◌}
+use Rattle.std.proofs.lemmas.Bool.{cases_lt, le-leb, lt-ltb}
+use Rattle.std.proofs.lemmas.List.{get_or_past}
 
 -- ---- parts of runs
 

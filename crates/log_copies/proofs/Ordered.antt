@@ -1,26 +1,19 @@
 -- What is found in a prefix of a list of entries in order, and what the entries make of an empty map.
-use Rattle.std.proofs.Common.{◌≡◌, ℕ, Bool, true, false, not, ◌&&◌, cond, List, [], ◌∷◌, ◌++◌, map, Option, Some, None, Less, Equal, Greater, T, refl, sym, ap, subst, ◌∙◌}
-use Rattle.std.specs.declared.cmp.Ordering.{Ordering}
-use Rattle.std.specs.FinMap.{get, get-empty, empty, find, is_sorted}
-use Rattle.std.specs.List.{AllByRecursion}
-use Rattle.std.specs.Ordering.{eq_by_cmp, is_eq, is_lt, ordering_reverse}
-use Rattle.mon_bytes.specs.declared.entry.Entry.{Entry}
-use Rattle.mon_bytes.specs.declared.entry.KeyPlace.{KeyPlace}
-use Rattle.mon_bytes.specs.declared.entry.KeyPlace.TheVariants as key_place
-use Rattle.mon_tx.specs.declared.op.Op.TheVariants.{Put}
-use Rattle.mon_tx.specs.Decision.{Decision, decided, decision, later, or_before}
-use Rattle.mon_tx.specs.Map.{Place, place_cmp, apply}
-use Rattle.mon_tx.proofs.After.{get-apply}
-use Rattle.mon_tx.proofs.Places.{places_total, exact_places}
-use Rattle.map_kv.proofs.Pairs.{first, second}
-use Rattle.mon_msg.specs.Protocol.Changes.{encoded}
-use Rattle.mon_msg.specs.Protocol.Chunks.{copy_changes}
-use Rattle.mon_msg.specs.Protocol.Places.{is_after, after_entries}
-use Rattle.log_copies.specs.Copies.{is_past}
+use Rattle.law_names.proofs.Table.{AllByRecursion, Decision, Entry, KeyPlace, Put, after_entries, apply, copy_changes, decided, decision, empty, encoded, find, get, is_after, is_sorted, later, or_before, place_cmp}
 use Rattle.log_copies.proofs.Chunks.{between}
 use Rattle.log_copies.proofs.Taken.{copies_put}
+use Rattle.log_copies.specs.Copies.{is_past}
 use Rattle.log_model.proofs.Lists.{all_front, all_map}
 use Rattle.log_model.proofs.SharedEntries.{Pair, below_each}
+use Rattle.map_kv.proofs.Pairs.{first, second}
+use Rattle.mon_bytes.specs.declared.entry.KeyPlace.TheVariants as key_place
+use Rattle.mon_tx.proofs.After.{get-apply}
+use Rattle.mon_tx.proofs.Places.{exact_places, places_total}
+use Rattle.mon_tx.specs.Map.{Place}
+use Rattle.std.proofs.Common.{Bool, Equal, Greater, Less, List, None, Option, Some, T, [], ap, cond, false, map, not, refl, subst, sym, true, ℕ, ◌&&◌, ◌++◌, ◌∙◌, ◌∷◌, ◌≡◌}
+use Rattle.std.specs.FinMap.{get-empty}
+use Rattle.std.specs.Ordering.{eq_by_cmp, is_eq, is_lt, ordering_reverse}
+use Rattle.std.specs.declared.cmp.Ordering.{Ordering}
 
 abbrev pub entry_of : Pair → Entry
 entry_of e = record { prefix = e.0.0; key = e.0.1; value = e.1 }

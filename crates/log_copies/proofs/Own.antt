@@ -1,16 +1,14 @@
 -- Which keys are a monitor's own whichever its last version is.
-use Rattle.std.proofs.Common.{◌≡◌, ℕ, ◌+◌, true, false, ◌&&◌, ◌⊎◌, inl, inr, refl, sym, ap, ◌∙◌, arith}
-use Rattle.std.proofs.lemmas.Bool.{and_parts, cases_eq, ne_eqb}
-use Rattle.mon_tx.specs.declared.key.Area.{Area}
-use Rattle.mon_tx.specs.declared.key.Area.TheVariants as area
-use Rattle.mon_tx.specs.declared.key.Key.{Key}
-use Rattle.mon_tx.specs.declared.key.Key.TheVariants as key
-use Rattle.mon_tx.specs.Keys.{place, is_local}
-use Rattle.mon_tx.specs.Map.{Place}
+use Rattle.law_names.proofs.Table.{Area, Key, is_local, place}
 use Rattle.log_copies.specs.Copies.{is_own}
 use Rattle.log_model.proofs.Places.{local_named, tied}
 use Rattle.log_model.proofs.Sharing.{of_own}
 use Rattle.log_model.proofs.Spares.{is_number}
+use Rattle.mon_tx.specs.Map.{Place}
+use Rattle.mon_tx.specs.declared.key.Area.TheVariants as area
+use Rattle.mon_tx.specs.declared.key.Key.TheVariants as key
+use Rattle.std.proofs.Common.{ap, arith, false, inl, inr, refl, sym, true, ℕ, ◌&&◌, ◌+◌, ◌∙◌, ◌≡◌, ◌⊎◌}
+use Rattle.std.proofs.lemmas.Bool.{and_parts, cases_eq, ne_eqb}
 
 pub own_named : (a : Area) (k : Key) → is_own (place a k) ≡ (tied 0 a k && tied 1 a k)
 own_named a k = λ i. local_named 0 a k i && local_named 1 a k i

@@ -1,27 +1,18 @@
 -- The replay of a copy: the versions that it reads are the log's, and the copy is then one from the last of them on.
-use Rattle.std.proofs.Common.{◌≡◌, ℕ, suc, ◌+◌, ◌-◌, ◌≤◌, ◌<◌, ◌^◌, List, [], ◌∷◌, length, Some, ◌⊎◌, inl, inr, refl, sym, ap, subst, ◌∙◌, arith}
-use Rattle.std.proofs.lemmas.Bool.{cases_lt}
-use Rattle.std.specs.FinMap.{get}
-use Rattle.mon_bytes.specs.declared.entry.KeyPlace.TheVariants as key_place
-use Rattle.mon_tx.specs.declared.key.Area.TheVariants as area
-use Rattle.mon_tx.specs.declared.key.Key.TheVariants as key
-use Rattle.mon_tx.specs.declared.op.Op.{Op}
-use Rattle.mon_tx.specs.Keys.{place, cell}
-use Rattle.mon_tx.specs.Map.{Store, apply}
-use Rattle.mon_tx.proofs.Ties.{decimal_text_injective}
-use Rattle.mon_msg.specs.Fold.{entry, fold}
-use Rattle.mon_msg.specs.Puts.{put}
-use Rattle.mon_msg.specs.Protocol.Changes.{Learn, ops_of, encoded}
-use Rattle.mon_msg.specs.Protocol.Learning.{learn_changes}
-use Rattle.mon_msg.specs.Protocol.Readings.{readings_of}
-use Rattle.mon_msg.specs.Protocol.Replay.{step_of}
-use Rattle.mon_msg.proofs.Afterwards.{apply-append}
-use Rattle.log_copies.specs.Copies.{IsFolded, IsRecord, IsFuzzyCopy, with_version}
+use Rattle.law_names.proofs.Runs.{AllValues}
+use Rattle.law_names.proofs.Table.{Learn, Op, Store, apply, cell, encoded, entry, fold, get, learn_changes, ops_of, place, put, readings_of, step_of}
 use Rattle.log_copies.proofs.Own.{record_shared}
 use Rattle.log_copies.proofs.Versions.{next_version}
-use Rattle.log_model.specs.LogOfValues.{AllValues}
+use Rattle.log_copies.specs.Copies.{IsFolded, IsFuzzyCopy, IsRecord, with_version}
 use Rattle.log_model.proofs.Committed.{keeps, nothing_above}
-use Rattle.log_model.proofs.Records.{IsVersion, AreVersions, MayHold, keeps_held, IsStep, step_versions}
+use Rattle.log_model.proofs.Records.{AreVersions, IsStep, IsVersion, MayHold, keeps_held, step_versions}
+use Rattle.mon_bytes.specs.declared.entry.KeyPlace.TheVariants as key_place
+use Rattle.mon_msg.proofs.Afterwards.{apply-append}
+use Rattle.mon_tx.proofs.Ties.{decimal_text_injective}
+use Rattle.mon_tx.specs.declared.key.Area.TheVariants as area
+use Rattle.mon_tx.specs.declared.key.Key.TheVariants as key
+use Rattle.std.proofs.Common.{List, Some, [], ap, arith, inl, inr, length, refl, subst, suc, sym, ℕ, ◌+◌, ◌-◌, ◌<◌, ◌^◌, ◌∙◌, ◌∷◌, ◌≡◌, ◌≤◌, ◌⊎◌}
+use Rattle.std.proofs.lemmas.Bool.{cases_lt}
 
 -- ---- the records of a copy
 

@@ -1,44 +1,26 @@
 -- A step of the replay, after the last of which a full synchronization is over.
-use Rattle.std.proofs.Common.{◌≡◌, ◌⊎◌, ℕ, suc, ◌+◌, ◌-◌, ◌≤◌, ◌<◌, ◌^◌, Bool, true, false, cond, ltb, List, [], ◌∷◌, ◌++◌, length, Option, Some, None, inl, inr, Ok, refl, sym, ap, subst, ◌∙◌, arith, append_assoc}
-use Rattle.std.proofs.lemmas.Bool.{ltb-true, ltb-false, lt-ltb}
+use Rattle.law_names.proofs.Runs.{AllValues}
+use Rattle.law_names.proofs.Table.{Change, Course, Decision, Last, Me, Op, Phase, Place as ChunkPlace, Readings, State, Store, SyncStage, Unmark, apply, arm, at_rest, bootstrap, cell, change, change_all, encoded, epoch_of, joined, learn_changes, or_before, place, played, readings_of, replay, replay_any, replay_step, requester_is, same_phase, step_in, step_of, ◌▸◌}
+use Rattle.log_copies.proofs.Ends.{ended, ended_last, ended_shared}
+use Rattle.log_copies.proofs.Replayed.{replayed, step_is}
+use Rattle.log_copies.proofs.Shape.{copy_shaped, nothing_shaped}
+use Rattle.log_copies.proofs.Taken.{encoded_append}
+use Rattle.log_copies.proofs.UnderWay.{InStage, Marked, Noted, Replaying, SameCells, Stands, UnderWay, Waits, stays, still_noted}
+use Rattle.log_copies.specs.Copies.{IsFuzzyCopy}
+use Rattle.log_copies.specs.Synchronizing.{IsShaped, IsSynchronized, written}
+use Rattle.log_model.proofs.Records.{IsStep, versions_spare}
+use Rattle.log_model.proofs.Spares.{Spares, at_name}
 use Rattle.mon_bytes.proofs.Fields.{ok_is}
 use Rattle.mon_bytes.specs.declared.entry.KeyPlace.TheVariants as key_place
-use Rattle.mon_tx.specs.declared.op.Op.{Op}
-use Rattle.mon_tx.specs.Decision.{Decision, or_before}
-use Rattle.mon_tx.specs.Keys.{place, cell}
-use Rattle.mon_tx.specs.Map.{Store, apply}
-use Rattle.mon_tx.proofs.After.{get-apply}
-use Rattle.mon_wire.specs.declared.parts.Place.{Place as ChunkPlace}
-use Rattle.mon_wire.specs.declared.phase.Phase.{Phase}
-use Rattle.mon_wire.specs.declared.phase.Phase.TheVariants as phase
-use Rattle.mon_wire.specs.declared.phase.Timer.TheVariants as timer
-use Rattle.mon_msg.specs.declared.synchronization.SyncStage.{SyncStage}
-use Rattle.mon_msg.specs.declared.synchronization.SyncStage.TheVariants as sync
-use Rattle.mon_msg.specs.declared.view.Me.{Me}
-use Rattle.mon_msg.specs.Joined.{joined}
-use Rattle.mon_msg.specs.Protocol.Changes.{Change, Last, Unmark, encoded}
-use Rattle.mon_msg.specs.Protocol.Course.{Course, ◌▸◌, change, change_all, requester_is, arm}
-use Rattle.mon_msg.specs.Protocol.Entering.{bootstrap}
-use Rattle.mon_msg.specs.Protocol.Learning.{learn_changes}
-use Rattle.mon_msg.specs.Protocol.Phases.{same_phase}
-use Rattle.mon_msg.specs.Protocol.Played.{played}
-use Rattle.mon_msg.specs.Protocol.Readings.{Readings, epoch_of, readings_of}
-use Rattle.mon_msg.specs.Protocol.Replay.{step_of, replay, replay_any, step_in, replay_step}
-use Rattle.mon_msg.specs.Protocol.State.{State}
-use Rattle.mon_msg.specs.Protocol.Table.{at_rest}
 use Rattle.mon_msg.proofs.Afterwards.{apply-append}
 use Rattle.mon_msg.proofs.Changed.{readings-joined}
 use Rattle.mon_msg.proofs.Joining.{apply-joined}
-use Rattle.log_copies.specs.Copies.{IsFuzzyCopy}
-use Rattle.log_copies.specs.Synchronizing.{IsShaped, written, IsSynchronized}
-use Rattle.log_copies.proofs.Ends.{ended, ended_last, ended_shared}
-use Rattle.log_copies.proofs.Replayed.{step_is, replayed}
-use Rattle.log_copies.proofs.Shape.{copy_shaped, nothing_shaped}
-use Rattle.log_copies.proofs.Taken.{encoded_append}
-use Rattle.log_copies.proofs.UnderWay.{SameCells, Noted, still_noted, Replaying, InStage, UnderWay, Waits, Marked, Stands, stays}
-use Rattle.log_model.specs.LogOfValues.{AllValues}
-use Rattle.log_model.proofs.Records.{IsStep, versions_spare}
-use Rattle.log_model.proofs.Spares.{Spares, at_name}
+use Rattle.mon_msg.specs.declared.synchronization.SyncStage.TheVariants as sync
+use Rattle.mon_tx.proofs.After.{get-apply}
+use Rattle.mon_wire.specs.declared.phase.Phase.TheVariants as phase
+use Rattle.mon_wire.specs.declared.phase.Timer.TheVariants as timer
+use Rattle.std.proofs.Common.{Bool, List, None, Ok, Option, Some, [], ap, append_assoc, arith, cond, false, inl, inr, length, ltb, refl, subst, suc, sym, true, ℕ, ◌++◌, ◌+◌, ◌-◌, ◌<◌, ◌^◌, ◌∙◌, ◌∷◌, ◌≡◌, ◌≤◌, ◌⊎◌}
+use Rattle.std.proofs.lemmas.Bool.{lt-ltb, ltb-false, ltb-true}
 
 module _ (log : List (List ℕ)) (fits : length log ≤ 2 ^ 62) (all : AllValues log) (me : Me) (several : 1 < me.member.monitors) (before : Readings) (floor : ℕ) (m : Store) (s : State) where
   abbrev x0 : Course

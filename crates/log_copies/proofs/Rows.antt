@@ -1,58 +1,24 @@
 -- What an event leaves of the versions of the log that an unmarked monitor has, and what it sends: the rows of elections, of values and
 -- of clients.
-use Rattle.std.proofs.Common.{◌≡◌, ℕ, suc, ◌+◌, ◌≤◌, ◌<◌, ◌^◌, Bool, true, false, not, ◌&&◌, ◌||◌, cond, eqb, leb, ltb, is_some, List, [], ◌∷◌, ◌++◌, length, Option, Some, None, IfSome, Result, Ok, Err, refl, sym, ap, subst, ◌∙◌, arith}
-use Rattle.std.proofs.lemmas.Bool.{and_parts, eqb-true, ltb-false, not-false, or_parts}
-use Rattle.election_rules.specs.declared.scores.Scores.{Scores}
-use Rattle.mon_bytes.specs.declared.command.Command.{Command}
-use Rattle.mon_bytes.specs.declared.command.CommandRefused.{CommandRefused}
+use Rattle.law_names.proofs.Runs.{AllValues}
+use Rattle.law_names.proofs.Table.{Body, Change, Command, CommandRefused, Course, Epoch, MOST_WAITING, Me, Op, Origin, Phase, Promise, Readings, Reply, Scores, Sent, Session, State, Store, Told, Vote, Waiting, Which, adopt, all_answered, answer_to, are_within, ask, asked_of, at_leader, at_peon, begin_made, bootstrap, cancel, change, clients_are, commit_any, count_ack, counts, elect, election_ends, elector_is, epoch_of, has, has_queue, hear_accept, hear_ack, hear_begin, hear_collect, hear_commit, hear_forward, hear_last, hear_propose, hear_victory, hear_whole, is_allowed, is_empty, is_even, is_leading, is_majority, is_one_of, is_peon, is_standing, is_too_long, is_whole, last_answer, leader_is, learn, may_defer, may_propose, members, merge, message_to, news, news_from, note, note_pending, of_leader, of_member, promise, promise_of, propose, propose_due, propose_first, propose_next, quorum_of, refusal, same_phase, send, service_last, service_of, stands_before, table_or, too_long, value, votes, wait_under, weigh, with_rank}
+use Rattle.log_copies.proofs.Acts.{Has, HasAt, Then, adopts, and_then, begins, bootstraps, by_test, changes, changes_if, collects, commits, done, elects, learns, says_answer, says_one, says_reply, settles, where_fits, wins, within}
+use Rattle.log_copies.proofs.Matching.{news_begin, news_versions}
+use Rattle.log_copies.proofs.Sending.{BodyMatches, ReplyMatches, answer_tells}
+use Rattle.log_model.proofs.Records.{AreVersions, IsVersion}
 use Rattle.mon_bytes.specs.declared.command.CommandRefused.TheVariants as refused
-use Rattle.mon_tx.specs.declared.op.Op.{Op}
-use Rattle.mon_tx.specs.Map.{Store}
-use Rattle.mon_types.specs.declared.names.Which.{Which}
-use Rattle.mon_types.specs.declared.names.Which.TheVariants as which
-use Rattle.mon_wire.specs.declared.parts.Told.{Told}
-use Rattle.mon_wire.specs.declared.phase.Phase.{Phase}
-use Rattle.mon_wire.specs.declared.phase.Phase.TheVariants as phase
-use Rattle.mon_wire.specs.declared.request.Session.{Session}
-use Rattle.mon_msg.specs.declared.clients.Waiting.{Waiting}
+use Rattle.mon_msg.specs.Protocol.Commands.{hand_on}
+use Rattle.mon_msg.specs.Protocol.Leader.{hear_answer}
+use Rattle.mon_msg.specs.Protocol.Peon.{answer_collect}
 use Rattle.mon_msg.specs.declared.paxos.LeaderStage.TheVariants as stage
-use Rattle.mon_msg.specs.declared.plan.Origin.{Origin}
 use Rattle.mon_msg.specs.declared.plan.Origin.TheVariants as origin
-use Rattle.mon_msg.specs.declared.view.Me.{Me}
-use Rattle.mon_msg.specs.Protocol.Changes.{Change, Epoch, Promise, Vote}
-use Rattle.mon_msg.specs.Protocol.Commands.{is_too_long, too_long, wait_under, hand_on, may_propose, at_leader, at_peon, ask, hear_forward, propose_due}
-use Rattle.mon_msg.specs.Protocol.Course.{Course, change, elector_is, clients_are, leader_is}
-use Rattle.mon_msg.specs.Protocol.Elections.{is_allowed, stands_before, may_defer, table_or, merge, is_whole, weigh, hear_propose, count_ack, hear_ack, election_ends, hear_victory}
-use Rattle.mon_msg.specs.Protocol.Leader.{all_answered, is_one_of, of_member, note_pending, note, hear_whole, hear_answer, hear_last, commit_any, hear_accept}
-use Rattle.mon_msg.specs.Protocol.Leading.{has_queue}
-use Rattle.mon_msg.specs.Protocol.Learning.{learn, news, news_from}
-use Rattle.mon_msg.specs.Protocol.Peon.{of_leader, cancel, promise, answer_collect, hear_collect, hear_begin, hear_commit}
-use Rattle.mon_msg.specs.Protocol.Phases.{same_phase, is_leading, is_peon, votes}
-use Rattle.mon_msg.specs.Protocol.Proposing.{asked_of, refusal, begin_made, propose, propose_first, propose_next}
-use Rattle.mon_msg.specs.Protocol.Found.{counts}
-use Rattle.mon_msg.specs.Protocol.Readings.{Readings, promise_of, epoch_of}
-use Rattle.mon_msg.specs.Protocol.Services.{service_last}
-use Rattle.mon_msg.specs.Protocol.Sending.{members, send, message_to, answer_to}
-use Rattle.mon_types.specs.Ranks.{has, with_rank, is_majority}
-use Rattle.std.specs.Prelude.{slice_set, slice_index_or}
-use Rattle.mon_msg.specs.Protocol.Answers.{last_answer}
-use Rattle.mon_msg.specs.Protocol.Reads.{is_standing}
-use Rattle.mon_wire.specs.declared.body.Body.{Body}
-use Rattle.mon_wire.specs.declared.body.Body.TheVariants as body
-use Rattle.mon_wire.specs.declared.reply.Reply.{Reply}
-use Rattle.mon_wire.specs.declared.reply.Reply.TheVariants as reply
-use Rattle.mon_msg.specs.declared.plan.Sent.{Sent}
 use Rattle.mon_msg.specs.declared.plan.Sent.TheVariants as sent
-use Rattle.log_copies.proofs.Sending.{ReplyMatches, BodyMatches, answer_tells}
-use Rattle.mon_msg.specs.Protocol.Entering.{is_even, bootstrap, elect, adopt}
-use Rattle.mon_msg.specs.Protocol.Sets.{is_empty, are_within}
-use Rattle.mon_msg.specs.Protocol.State.{State, quorum_of}
-use Rattle.mon_msg.specs.Protocol.Value.{service_of, value}
-use Rattle.mon_msg.specs.declared.limits.TheConstants.{MOST_WAITING}
-use Rattle.log_copies.proofs.Acts.{Then, done, and_then, where_fits, by_test, HasAt, Has, within, says_one, says_answer, says_reply, changes, changes_if, learns, commits, begins, settles, collects, bootstraps, elects, wins, adopts}
-use Rattle.log_copies.proofs.Matching.{news_versions, news_begin}
-use Rattle.log_model.specs.LogOfValues.{AllValues}
-use Rattle.log_model.proofs.Records.{IsVersion, AreVersions}
+use Rattle.mon_types.specs.declared.names.Which.TheVariants as which
+use Rattle.mon_wire.specs.declared.body.Body.TheVariants as body
+use Rattle.mon_wire.specs.declared.phase.Phase.TheVariants as phase
+use Rattle.mon_wire.specs.declared.reply.Reply.TheVariants as reply
+use Rattle.std.proofs.Common.{Bool, Err, IfSome, List, None, Ok, Option, Result, Some, [], ap, arith, cond, eqb, false, is_some, leb, length, ltb, not, refl, slice_index_or, slice_set, subst, suc, sym, true, ℕ, ◌&&◌, ◌++◌, ◌+◌, ◌<◌, ◌^◌, ◌||◌, ◌∙◌, ◌∷◌, ◌≡◌, ◌≤◌}
+use Rattle.std.proofs.lemmas.Bool.{and_parts, eqb-true, ltb-false, not-false, or_parts}
 
 -- ---- walking a row
 

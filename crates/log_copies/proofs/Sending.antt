@@ -1,45 +1,23 @@
 -- What monitors send each other of the log.
-use Rattle.std.proofs.Common.{◌≡◌, ℕ, suc, ◌+◌, ◌-◌, ◌≤◌, ◌<◌, ◌^◌, Bool, true, false, ◌&&◌, ◌||◌, cond, ltb, List, [], ◌∷◌, ◌++◌, length, map, Option, Some, None, ◌⊎◌, inl, inr, sym, ap, subst, ◌∙◌, arith}
-use Rattle.std.proofs.lemmas.Bool.{cases_lt, cond_both, ne_eqb}
-use Rattle.std.specs.List.{AllByRecursion, flat_map}
-use Rattle.std.specs.Prelude.{slice_index_or}
-use Rattle.mon_tx.specs.declared.op.Op.{Op}
-use Rattle.mon_tx.specs.Decision.{Cell}
-use Rattle.mon_tx.specs.Text.{text}
-use Rattle.mon_wire.specs.declared.body.Body.{Body}
-use Rattle.mon_wire.specs.declared.body.Body.TheVariants as body
-use Rattle.mon_wire.specs.declared.parts.Told.{Told}
-use Rattle.mon_wire.specs.declared.parts.Cookie.{Cookie}
-use Rattle.mon_wire.specs.declared.parts.Place.{Place as ChunkPlace}
-use Rattle.mon_bytes.specs.declared.entry.Entry.{Entry}
-use Rattle.mon_msg.specs.Protocol.Providing.{reach, is_finished, chunk_with, given_values, given_entries, chunk}
-use Rattle.mon_msg.specs.declared.plan.Sent.{Sent}
-use Rattle.mon_msg.specs.declared.plan.Sent.TheVariants as sent
-use Rattle.mon_msg.specs.declared.view.Me.{Me}
-use Rattle.mon_msg.specs.Protocol.Answers.{told_of, sent_values, is_complete, answer_with, answer_of, last_answer}
-use Rattle.mon_msg.specs.Protocol.Changes.{Change, Boot, Epoch, Numbers, Promise, Vote, Record, Learn, Last, Copy, Mark, Unmark}
-use Rattle.mon_msg.specs.Protocol.Collecting.{missed, commits_with, commits_to}
-use Rattle.mon_msg.specs.Protocol.Learning.{learn_changes}
-use Rattle.mon_msg.specs.Protocol.Length.{fits}
-use Rattle.mon_msg.specs.Protocol.Played.{play, played}
-use Rattle.mon_msg.specs.Protocol.Readings.{Readings, promise_of, epoch_of, after}
-use Rattle.mon_msg.specs.Protocol.Records.{pending, run_of, run_from, longest}
-use Rattle.mon_msg.specs.Protocol.Sending.{message_to}
-use Rattle.mon_msg.specs.Puts.{put}
-use Rattle.mon_msg.proofs.Runs.{longest_is}
-use Rattle.mon_tx.specs.declared.key.Area.TheVariants as area
-use Rattle.mon_tx.specs.declared.key.Key.TheVariants as key
-use Rattle.log_copies.specs.Versions.{IsOwnChange}
-use Rattle.mon_wire.specs.declared.reply.Reply.{Reply}
-use Rattle.mon_wire.specs.declared.reply.Reply.TheVariants as reply
+use Rattle.law_names.proofs.Runs.{AllValues, Keeps}
+use Rattle.law_names.proofs.Table.{AllByRecursion, Body, Boot, Cell, Change, Cookie, Copy, Entry, Epoch, Last, Learn, Mark, Me, Numbers, Op, Place as ChunkPlace, Promise, Readings, Record, Reply, Sent, Told, Unmark, Vote, answer_of, chunk, chunk_with, commits_to, commits_with, epoch_of, fits, flat_map, given_entries, given_values, is_complete, is_finished, last_answer, learn_changes, longest, message_to, missed, pending, play, played, promise_of, put, reach, run_from, run_of, sent_values, text, told_of}
 use Rattle.log_copies.proofs.Chunks.{ChunkOf}
 use Rattle.log_copies.proofs.Matching.{IsTold}
-use Rattle.log_model.specs.LogOfValues.{AllValues}
-use Rattle.log_model.specs.Windows.{Keeps}
+use Rattle.log_copies.specs.Versions.{IsOwnChange}
 use Rattle.log_model.proofs.Committed as committed
 use Rattle.log_model.proofs.FoldWindows.{keeps_last}
 use Rattle.log_model.proofs.Lists.{all_append}
-use Rattle.log_model.proofs.Records.{IsVersion, AreVersions, first_versions, run_versions, keeps_held}
+use Rattle.log_model.proofs.Records.{AreVersions, IsVersion, first_versions, keeps_held, run_versions}
+use Rattle.mon_msg.proofs.Runs.{longest_is}
+use Rattle.mon_msg.specs.Protocol.Answers.{answer_with}
+use Rattle.mon_msg.specs.Protocol.Readings.{after}
+use Rattle.mon_msg.specs.declared.plan.Sent.TheVariants as sent
+use Rattle.mon_tx.specs.declared.key.Area.TheVariants as area
+use Rattle.mon_tx.specs.declared.key.Key.TheVariants as key
+use Rattle.mon_wire.specs.declared.body.Body.TheVariants as body
+use Rattle.mon_wire.specs.declared.reply.Reply.TheVariants as reply
+use Rattle.std.proofs.Common.{Bool, List, None, Option, Some, [], ap, arith, cond, false, inl, inr, length, ltb, map, slice_index_or, subst, suc, sym, true, ℕ, ◌&&◌, ◌++◌, ◌+◌, ◌-◌, ◌<◌, ◌^◌, ◌||◌, ◌∙◌, ◌∷◌, ◌≡◌, ◌≤◌, ◌⊎◌}
+use Rattle.std.proofs.lemmas.Bool.{cases_lt, cond_both, ne_eqb}
 
 -- what is shown to a client is what a prefix of the log makes
 pub record ToldOf (log : List (List ℕ)) (r : Reply) : Type 0 where

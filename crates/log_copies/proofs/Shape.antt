@@ -1,33 +1,26 @@
 -- Which keys a store has: a monitor's own, and those that a full synchronization gives up before it begins.
-use Rattle.std.proofs.Common.{◌≡◌, ℕ, ◌≤◌, ◌^◌, Bool, true, false, not, ◌&&◌, ◌||◌, cond, List, [], ◌∷◌, ◌++◌, length, Option, Some, None, ◌⊎◌, inl, inr, refl, sym, ap, ◌∙◌, arith}
-use Rattle.std.proofs.lemmas.List.{append-nil}
-use Rattle.std.specs.FinMap.{get, get-empty, empty, same_map}
-use Rattle.std.specs.List.{AllByRecursion}
-use Rattle.std.specs.Ordering.{eq_by_cmp}
-use Rattle.std.specs.Str.{bytes_eq}
-use Rattle.mon_bytes.specs.declared.entry.KeyPlace.{KeyPlace}
-use Rattle.mon_tx.specs.declared.key.Area.{Area}
-use Rattle.mon_tx.specs.declared.key.Area.TheVariants as area
-use Rattle.mon_tx.specs.declared.key.Key.{Key}
-use Rattle.mon_tx.specs.declared.key.Key.TheVariants as key
-use Rattle.mon_tx.specs.declared.op.Op.{Op}
-use Rattle.mon_tx.specs.declared.op.Op.TheVariants.{Put, Erase, ErasePrefix, EraseRange}
-use Rattle.mon_tx.specs.Decision.{Cell, decided, decision, later, or_before}
-use Rattle.mon_tx.specs.Keys.{area_text, place, number, shared, is_local}
-use Rattle.mon_tx.specs.Map.{Place, place_cmp, Store, is_within, apply_op, apply}
-use Rattle.mon_tx.proofs.After.{get-apply, get-apply_op}
-use Rattle.mon_tx.proofs.Places.{places_total, exact_places}
-use Rattle.mon_msg.specs.Fold.{fold}
-use Rattle.mon_msg.specs.Protocol.Changes.{Mark, put_back, ops_of, encoded}
-use Rattle.log_copies.specs.Copies.{is_own, is_past, IsRecord, IsFuzzyCopy, shared_with_records}
-use Rattle.log_copies.specs.Synchronizing.{is_given_up, IsShaped}
+use Rattle.law_names.proofs.Runs.{AllValues}
+use Rattle.law_names.proofs.Table.{AllByRecursion, Area, Cell, Erase, ErasePrefix, EraseRange, Key, KeyPlace, Mark, Op, Put, Store, apply, apply_op, decided, decision, empty, encoded, fold, get, is_local, later, number, ops_of, or_before, place, place_cmp, same_map, shared}
 use Rattle.log_copies.proofs.Ends.{number_put}
 use Rattle.log_copies.proofs.Own.{own_number}
-use Rattle.log_model.specs.LogOfValues.{AllValues}
-use Rattle.log_model.specs.Windows.{is_kept_key}
+use Rattle.log_copies.specs.Copies.{IsFuzzyCopy, IsRecord, is_own, is_past, shared_with_records}
+use Rattle.log_copies.specs.Synchronizing.{IsShaped, is_given_up}
 use Rattle.log_model.proofs.FoldKeys.{kept_is}
-use Rattle.log_model.proofs.Places.{same_place, get_kept, is_shared, shared_is}
+use Rattle.log_model.proofs.Places.{get_kept, is_shared, same_place, shared_is}
 use Rattle.log_model.proofs.Sharing.{of_own}
+use Rattle.log_model.specs.Windows.{is_kept_key}
+use Rattle.mon_msg.specs.Protocol.Changes.{put_back}
+use Rattle.mon_tx.proofs.After.{get-apply, get-apply_op}
+use Rattle.mon_tx.proofs.Places.{exact_places, places_total}
+use Rattle.mon_tx.specs.Keys.{area_text}
+use Rattle.mon_tx.specs.Map.{Place, is_within}
+use Rattle.mon_tx.specs.declared.key.Area.TheVariants as area
+use Rattle.mon_tx.specs.declared.key.Key.TheVariants as key
+use Rattle.std.proofs.Common.{Bool, List, None, Option, Some, [], ap, arith, cond, false, inl, inr, length, not, refl, sym, true, ℕ, ◌&&◌, ◌++◌, ◌^◌, ◌||◌, ◌∙◌, ◌∷◌, ◌≡◌, ◌≤◌, ◌⊎◌}
+use Rattle.std.proofs.lemmas.List.{append-nil}
+use Rattle.std.specs.FinMap.{get-empty}
+use Rattle.std.specs.Ordering.{eq_by_cmp}
+use Rattle.std.specs.Str.{bytes_eq}
 
 -- ---- changes that keep the shape
 

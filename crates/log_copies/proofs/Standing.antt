@@ -1,41 +1,25 @@
 -- A monitor of the log stays one, whatever arrives at it and whenever it crashes. What it sends is the log's. All of this
 -- lasts when the log grows. Other parts of the invariant, about elections, numbers and values, give the other premises.
-use Rattle.std.proofs.Common.{◌≡◌, ℕ, zero, suc, ◌≤◌, ◌<◌, ◌^◌, true, false, List, [], ◌∷◌, length, IfSome, ◌⊎◌, inl, inr, Ok, refl, sym, ap, subst, ◌∙◌, arith}
-use Rattle.mon_tx.specs.declared.op.Op.{Op}
-use Rattle.mon_tx.specs.Decode.{ops_in}
-use Rattle.mon_tx.specs.Map.{Store}
-use Rattle.mon_types.specs.Ranks.{with_rank}
-use Rattle.mon_wire.specs.declared.body.Body.{Body}
-use Rattle.mon_wire.specs.declared.body.Body.TheVariants as body
-use Rattle.mon_wire.specs.declared.phase.Phase.TheVariants as phase
-use Rattle.mon_msg.specs.declared.input.Input.{Input}
-use Rattle.mon_msg.specs.declared.input.Input.TheVariants as input
-use Rattle.mon_msg.specs.declared.view.Me.{Me}
-use Rattle.mon_msg.specs.Protocol.Course.{Course}
-use Rattle.mon_msg.specs.Protocol.Elections.{is_whole}
-use Rattle.mon_msg.specs.Protocol.Entering.{is_even}
-use Rattle.mon_msg.specs.Protocol.Phases.{votes}
-use Rattle.mon_msg.specs.Protocol.Readings.{Readings, epoch_of, readings_of, shared_entries}
-use Rattle.mon_msg.specs.Protocol.Sets.{are_within}
-use Rattle.mon_msg.specs.Protocol.State.{State, booting}
-use Rattle.mon_msg.specs.Protocol.Synchronizing.{floor_of}
-use Rattle.mon_msg.specs.Protocol.Table.{react}
-use Rattle.log_copies.specs.Synchronizing.{written}
-use Rattle.log_copies.specs.Versions.{HasVersions}
+use Rattle.law_names.proofs.Runs.{AllValues}
+use Rattle.law_names.proofs.Table.{Body, Course, Input, Me, Op, Readings, Reply, State, Store, are_within, booting, epoch_of, floor_of, is_even, is_whole, ops_in, react, readings_of, shared_entries, votes, with_rank}
 use Rattle.log_copies.proofs.Aside.{IsAside, probing_aside, synchronizing_aside}
 use Rattle.log_copies.proofs.Asking.{asks_only}
 use Rattle.log_copies.proofs.Events.{BodyOf, InputOf, marked_is, marked_shaped, reacts}
-use Rattle.log_copies.proofs.Growing.{versions_stay, chunk_stays, marked_stays}
+use Rattle.log_copies.proofs.Growing.{chunk_stays, marked_stays, versions_stay}
+use Rattle.log_copies.proofs.Matching.{one_within, read_last, told_stays}
 use Rattle.log_copies.proofs.Rows.{HasOthers}
-use Rattle.log_copies.proofs.Sending.{ToldOf, ReplyMatches, BodyMatches, AllMatch}
-use Rattle.mon_wire.specs.declared.reply.Reply.{Reply}
-use Rattle.mon_wire.specs.declared.reply.Reply.TheVariants as reply
-use Rattle.log_copies.proofs.Matching.{told_stays, read_last, one_within}
+use Rattle.log_copies.proofs.Sending.{AllMatch, BodyMatches, ReplyMatches, ToldOf}
 use Rattle.log_copies.proofs.UnderWay.{Marked, Stands}
-use Rattle.log_copies.proofs.Unmarked.{OnLog, Situated, BodyFits, InputFits, Outcome, agrees}
-use Rattle.log_model.specs.LogOfValues.{AllValues}
+use Rattle.log_copies.proofs.Unmarked.{BodyFits, InputFits, OnLog, Outcome, Situated, agrees}
+use Rattle.log_copies.specs.Synchronizing.{written}
+use Rattle.log_copies.specs.Versions.{HasVersions}
 use Rattle.log_model.proofs.Logs.{IsPrefixOf, entry_stays}
-use Rattle.log_model.proofs.Records.{IsVersion, AreVersions}
+use Rattle.log_model.proofs.Records.{AreVersions, IsVersion}
+use Rattle.mon_msg.specs.declared.input.Input.TheVariants as input
+use Rattle.mon_wire.specs.declared.body.Body.TheVariants as body
+use Rattle.mon_wire.specs.declared.phase.Phase.TheVariants as phase
+use Rattle.mon_wire.specs.declared.reply.Reply.TheVariants as reply
+use Rattle.std.proofs.Common.{IfSome, List, Ok, [], ap, arith, false, inl, inr, length, refl, subst, suc, sym, true, zero, ℕ, ◌<◌, ◌^◌, ◌∙◌, ◌∷◌, ◌≡◌, ◌≤◌, ◌⊎◌}
 
 -- ---- a monitor of the log
 

@@ -1,28 +1,17 @@
 -- A chunk's records and entries carry a copy on.
-use Rattle.std.proofs.Common.{◌≡◌, ℕ, suc, ◌+◌, ◌≤◌, ◌<◌, Bool, true, false, not, ◌&&◌, cond, List, [], ◌∷◌, ◌++◌, length, Some, None, ◌⊎◌, inl, inr, refl, sym, ap, subst, ◌∙◌, arith, append_assoc}
-use Rattle.std.specs.FinMap.{get, get-empty, empty}
-use Rattle.std.specs.Ordering.{eq_by_cmp}
-use Rattle.mon_bytes.specs.declared.entry.Entry.{Entry}
-use Rattle.mon_bytes.specs.declared.entry.KeyPlace.{KeyPlace}
+use Rattle.law_names.proofs.Table.{Cell, Change, Decision, Entry, KeyPlace, Op, Place as ChunkPlace, Put, Store, apply, copy_changes, decided, decision, empty, encoded, entry, fold, get, later, ops_of, or_before, place, place_cmp, put, record_changes, text}
+use Rattle.log_copies.proofs.Chunks.{Continues, between}
+use Rattle.log_copies.proofs.Own.{record_shared}
+use Rattle.log_copies.specs.Copies.{IsFolded, IsFuzzyCopy, IsRecord, is_own, is_past}
+use Rattle.log_model.proofs.Places.{get_kept, same_place}
+use Rattle.log_model.proofs.Records.{AreVersions}
+use Rattle.mon_tx.proofs.After.{decision-append, get-apply}
+use Rattle.mon_tx.specs.Map.{Place}
 use Rattle.mon_tx.specs.declared.key.Area.TheVariants as area
 use Rattle.mon_tx.specs.declared.key.Key.TheVariants as key
-use Rattle.mon_tx.specs.declared.op.Op.{Op}
-use Rattle.mon_tx.specs.declared.op.Op.TheVariants.{Put}
-use Rattle.mon_tx.specs.Decision.{Cell, Decision, decided, decision, later, or_before}
-use Rattle.mon_tx.specs.Keys.{place}
-use Rattle.mon_tx.specs.Map.{Place, place_cmp, Store, apply}
-use Rattle.mon_tx.specs.Text.{text}
-use Rattle.mon_tx.proofs.After.{get-apply, decision-append}
-use Rattle.mon_wire.specs.declared.parts.Place.{Place as ChunkPlace}
-use Rattle.mon_msg.specs.Fold.{entry, fold}
-use Rattle.mon_msg.specs.Puts.{put}
-use Rattle.mon_msg.specs.Protocol.Changes.{Change, ops_of, encoded}
-use Rattle.mon_msg.specs.Protocol.Chunks.{record_changes, copy_changes}
-use Rattle.log_copies.specs.Copies.{is_own, is_past, IsFolded, IsRecord, IsFuzzyCopy}
-use Rattle.log_copies.proofs.Chunks.{between, Continues}
-use Rattle.log_copies.proofs.Own.{record_shared}
-use Rattle.log_model.proofs.Places.{same_place, get_kept}
-use Rattle.log_model.proofs.Records.{AreVersions}
+use Rattle.std.proofs.Common.{Bool, List, None, Some, [], ap, append_assoc, arith, cond, false, inl, inr, length, not, refl, subst, suc, sym, true, ℕ, ◌&&◌, ◌++◌, ◌+◌, ◌<◌, ◌∙◌, ◌∷◌, ◌≡◌, ◌≤◌, ◌⊎◌}
+use Rattle.std.specs.FinMap.{get-empty}
+use Rattle.std.specs.Ordering.{eq_by_cmp}
 
 pub encoded_append : (a b : List Change) → encoded (a ++ b) ≡ encoded a ++ encoded b
 encoded_append [] b = refl

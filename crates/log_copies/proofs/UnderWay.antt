@@ -1,43 +1,22 @@
 -- A full synchronization under way: what the monitor's store holds at each stage.
-use Rattle.std.proofs.Common.{◌≡◌, inl, ℕ, suc, ◌≤◌, ◌^◌, true, eqb, List, [], length, Option, Some, None, IfSome, ◌⊎◌, Result, Ok, refl, sym, ap, subst, ◌∙◌, arith}
-use Rattle.std.proofs.lemmas.Bool.{and_parts, eqb-true, cond_both}
+use Rattle.law_names.proofs.Table.{Area, Cell, Course, IsShort, Key, KeyPlace, Op, Place as ChunkPlace, Readings, State, Store, SyncStage, Which, apply, at_rest, cell, empty, encoded, epoch_or_first, floor_of, found_as, joined, marks, number_if_there, number_in, pending_of, pending_version, readings_of, record_at, same_key_place, same_place}
+use Rattle.log_copies.proofs.Chunks.{IsOpen}
+use Rattle.log_copies.specs.Copies.{IsFuzzyCopy, shared_with_records}
+use Rattle.log_copies.specs.Synchronizing.{IsShaped, IsSynchronized, SameNumbers, written}
+use Rattle.log_model.proofs.Spares.{is_number}
+use Rattle.mon_bytes.proofs.Fields.{ok_is}
+use Rattle.mon_bytes.specs.declared.entry.KeyPlace.TheVariants as key_place
+use Rattle.mon_msg.proofs.Joining.{apply-joined}
+use Rattle.mon_msg.specs.declared.synchronization.SyncStage.TheVariants as sync
+use Rattle.mon_tx.proofs.Places.{is_equal, number_in-low}
+use Rattle.mon_tx.specs.declared.key.Area.TheVariants as area
+use Rattle.mon_tx.specs.declared.key.Key.TheVariants as key
+use Rattle.mon_wire.specs.declared.phase.Phase.TheVariants as phase
+use Rattle.std.proofs.Common.{IfSome, List, None, Ok, Option, Result, Some, [], ap, arith, eqb, inl, length, option_map, refl, subst, suc, sym, true, ℕ, ◌^◌, ◌∙◌, ◌≡◌, ◌≤◌, ◌⊎◌}
+use Rattle.std.proofs.lemmas.Bool.{and_parts, cond_both, eqb-true}
 use Rattle.std.proofs.lemmas.Map.Lookups.{exact_bytes}
 use Rattle.std.proofs.lemmas.Map.Text.{is_eq-slice_cmp}
-use Rattle.std.specs.FinMap.{empty}
-use Rattle.std.specs.Option.{option_map}
 use Rattle.std.specs.Str.{bytes_eq}
-use Rattle.mon_bytes.proofs.Fields.{ok_is}
-use Rattle.mon_bytes.specs.declared.entry.KeyPlace.{KeyPlace}
-use Rattle.mon_bytes.specs.declared.entry.KeyPlace.TheVariants as key_place
-use Rattle.mon_tx.specs.declared.key.Area.{Area}
-use Rattle.mon_tx.specs.declared.key.Area.TheVariants as area
-use Rattle.mon_tx.specs.declared.key.Key.{Key}
-use Rattle.mon_tx.specs.declared.key.Key.TheVariants as key
-use Rattle.mon_tx.specs.declared.op.Op.{Op}
-use Rattle.mon_tx.specs.Decision.{Cell}
-use Rattle.mon_tx.specs.Keys.{cell}
-use Rattle.mon_tx.specs.Map.{Store, apply, number_in}
-use Rattle.mon_tx.proofs.Places.{is_equal, number_in-low}
-use Rattle.mon_types.specs.declared.names.Which.{Which}
-use Rattle.mon_wire.specs.declared.parts.Place.{Place as ChunkPlace}
-use Rattle.mon_wire.specs.declared.phase.Phase.TheVariants as phase
-use Rattle.mon_msg.specs.Joined.{joined}
-use Rattle.mon_msg.specs.Protocol.Changes.{encoded}
-use Rattle.mon_msg.specs.Protocol.Course.{Course}
-use Rattle.mon_msg.specs.Protocol.Places.{same_key_place, same_place}
-use Rattle.mon_msg.specs.Protocol.Played.{IsShort}
-use Rattle.mon_msg.specs.Protocol.Readings.{Readings, epoch_or_first, marks, number_if_there, readings_of}
-use Rattle.mon_msg.specs.Protocol.Records.{pending_of, found_as, record_at}
-use Rattle.mon_msg.specs.Protocol.State.{State}
-use Rattle.mon_msg.specs.Protocol.Synchronizing.{pending_version, floor_of}
-use Rattle.mon_msg.specs.Protocol.Table.{at_rest}
-use Rattle.mon_msg.specs.declared.synchronization.SyncStage.{SyncStage}
-use Rattle.mon_msg.specs.declared.synchronization.SyncStage.TheVariants as sync
-use Rattle.mon_msg.proofs.Joining.{apply-joined}
-use Rattle.log_copies.specs.Copies.{IsFuzzyCopy, shared_with_records}
-use Rattle.log_copies.specs.Synchronizing.{IsShaped, written, SameNumbers, IsSynchronized}
-use Rattle.log_copies.proofs.Chunks.{IsOpen}
-use Rattle.log_model.proofs.Spares.{is_number}
 
 -- ---- numbers that are read are short
 

@@ -1,59 +1,31 @@
 -- Every event of an unmarked monitor that has versions of the log leaves it versions of the log, or it begins a full
 -- synchronization.
-use Rattle.std.proofs.Common.{◌≡◌, ℕ, suc, ◌+◌, ◌≤◌, ◌<◌, ◌^◌, Bool, true, false, not, ◌&&◌, cond, ltb, is_some, List, [], length, IfSome, ◌⊎◌, inl, inr, Result, Ok, refl, sym, ap, subst, ◌∙◌, arith}
-use Rattle.mon_bytes.specs.declared.command.Command.TheVariants as command
-use Rattle.mon_bytes.specs.declared.entry.Entry.{Entry}
-use Rattle.mon_tx.specs.declared.key.Area.TheVariants as area
-use Rattle.mon_tx.specs.declared.key.Key.TheVariants as key
-use Rattle.mon_tx.specs.Keys.{cell}
-use Rattle.mon_tx.specs.Map.{Store}
-use Rattle.mon_types.specs.Ranks.{with_rank, count_of, is_majority}
-use Rattle.mon_types.specs.declared.names.Which.{Which}
-use Rattle.mon_types.specs.declared.names.Which.TheVariants as which
-use Rattle.mon_wire.specs.declared.body.Body.{Body}
-use Rattle.mon_wire.specs.declared.body.Body.TheVariants as body
-use Rattle.mon_wire.specs.declared.phase.Phase.TheVariants as phase
-use Rattle.mon_wire.specs.declared.phase.Timer.{Timer}
-use Rattle.mon_wire.specs.declared.phase.Timer.TheVariants as timer
-use Rattle.mon_wire.specs.declared.request.Request.{Request}
-use Rattle.mon_wire.specs.declared.request.Request.TheVariants as request
-use Rattle.mon_wire.specs.declared.request.Session.{Session}
-use Rattle.mon_msg.specs.declared.input.Input.{Input}
-use Rattle.mon_msg.specs.declared.input.Input.TheVariants as input
-use Rattle.mon_msg.specs.declared.view.Me.{Me}
-use Rattle.mon_msg.specs.Protocol.Changes.{Boot, Epoch}
-use Rattle.mon_msg.specs.Protocol.Course.{Course, ◌▸◌, change, change_if, elector_is, prober_is, arm_if, disarm}
-use Rattle.mon_msg.specs.Protocol.Elections.{is_whole}
-use Rattle.mon_msg.specs.Protocol.Entering.{is_even, own_table, scores_count}
-use Rattle.mon_msg.specs.Protocol.Hearing.{is_heard, hear, hear_client}
-use Rattle.mon_msg.specs.Protocol.Leader.{renew}
-use Rattle.mon_msg.specs.Protocol.Leading.{extend}
-use Rattle.mon_msg.specs.Protocol.Phases.{same_phase, is_leading, votes}
-use Rattle.mon_msg.specs.Protocol.Pings.{measure, ping}
-use Rattle.mon_msg.specs.Protocol.Probing.{lag, join_outside, hear_probe_reply}
-use Rattle.mon_msg.specs.Protocol.Readings.{Readings, epoch_of, marks, readings_of, shared_entries}
-use Rattle.mon_msg.specs.Protocol.Reads.{shown, since}
-use Rattle.mon_msg.specs.Protocol.Sets.{are_within}
-use Rattle.mon_msg.specs.Protocol.State.{State}
-use Rattle.mon_msg.specs.Protocol.Synchronizing.{floor_of, full_sync, recent_sync}
-use Rattle.mon_msg.specs.Protocol.Table.{at_rest, first_elector, start, before_start, running, timer_comes, react}
-use Rattle.mon_msg.specs.Protocol.Timers.{end_of}
-use Rattle.mon_msg.proofs.Joining.{apply-joined}
-use Rattle.log_copies.specs.Synchronizing.{written}
-use Rattle.log_copies.specs.Versions.{HasVersions}
-use Rattle.mon_wire.specs.declared.reply.Reply.{Reply}
-use Rattle.log_copies.proofs.Sending.{ReplyMatches, reply_tells, AllMatch}
-use Rattle.log_copies.proofs.Matching.{monitor_keeps, IsTold, shown_told, since_told}
-use Rattle.mon_wire.specs.declared.reply.Reply.TheVariants as reply
-use Rattle.mon_msg.specs.Protocol.Sending.{members, others}
-use Rattle.log_copies.proofs.Acts.{within, says_each, Then, done, where_fits, changes, changes_if, asks_versions}
-use Rattle.log_copies.proofs.Agreeing.{IsRecent, Here, stay, again, probe_comes, lease_comes, lease_ack_comes, route_comes, get_cookie_full, get_cookie_recent, get_chunk, cookie_comes, no_cookie, ping_comes, ping_reply, chunk_comes, last_chunk_comes, steps_none, reads}
+use Rattle.law_names.proofs.Runs.{AllValues}
+use Rattle.law_names.proofs.Table.{Body, Boot, Course, Entry, Epoch, Input, Me, Readings, Reply, Request, Session, State, Store, Timer, Which, are_within, arm_if, at_rest, before_start, cell, change, change_if, count_of, disarm, elector_is, end_of, epoch_of, extend, first_elector, floor_of, full_sync, hear, hear_client, hear_probe_reply, is_even, is_heard, is_leading, is_majority, is_whole, lag, marks, measure, members, others, own_table, ping, prober_is, react, readings_of, recent_sync, renew, running, same_phase, scores_count, shared_entries, shown, since, start, timer_comes, votes, with_rank, ◌▸◌}
+use Rattle.log_copies.proofs.Acts.{Then, asks_versions, changes, changes_if, done, says_each, where_fits, within}
+use Rattle.log_copies.proofs.Agreeing.{Here, IsRecent, again, chunk_comes, cookie_comes, get_chunk, get_cookie_full, get_cookie_recent, last_chunk_comes, lease_ack_comes, lease_comes, no_cookie, ping_comes, ping_reply, probe_comes, reads, route_comes, stay, steps_none}
 use Rattle.log_copies.proofs.Copying.{begun}
-use Rattle.log_copies.proofs.Rows.{tells_reply, branch, HasOthers, anew_votes, proposed, acked, election_over, victory, collect_comes, begin_comes, commit_comes, last_comes, accept_comes, asked, forwarded, proposes_due}
+use Rattle.log_copies.proofs.Matching.{IsTold, monitor_keeps, shown_told, since_told}
+use Rattle.log_copies.proofs.Rows.{HasOthers, accept_comes, acked, anew_votes, asked, begin_comes, branch, collect_comes, commit_comes, election_over, forwarded, last_comes, proposed, proposes_due, tells_reply, victory}
+use Rattle.log_copies.proofs.Sending.{AllMatch, ReplyMatches, reply_tells}
 use Rattle.log_copies.proofs.Shape.{monitor_shaped}
 use Rattle.log_copies.proofs.UnderWay.{UnderWay}
-use Rattle.log_model.specs.LogOfValues.{AllValues}
-use Rattle.log_model.proofs.Records.{IsVersion, AreVersions}
+use Rattle.log_copies.specs.Synchronizing.{written}
+use Rattle.log_copies.specs.Versions.{HasVersions}
+use Rattle.log_model.proofs.Records.{AreVersions, IsVersion}
+use Rattle.mon_bytes.specs.declared.command.Command.TheVariants as command
+use Rattle.mon_msg.proofs.Joining.{apply-joined}
+use Rattle.mon_msg.specs.Protocol.Probing.{join_outside}
+use Rattle.mon_msg.specs.declared.input.Input.TheVariants as input
+use Rattle.mon_tx.specs.declared.key.Area.TheVariants as area
+use Rattle.mon_tx.specs.declared.key.Key.TheVariants as key
+use Rattle.mon_types.specs.declared.names.Which.TheVariants as which
+use Rattle.mon_wire.specs.declared.body.Body.TheVariants as body
+use Rattle.mon_wire.specs.declared.phase.Phase.TheVariants as phase
+use Rattle.mon_wire.specs.declared.phase.Timer.TheVariants as timer
+use Rattle.mon_wire.specs.declared.reply.Reply.TheVariants as reply
+use Rattle.mon_wire.specs.declared.request.Request.TheVariants as request
+use Rattle.std.proofs.Common.{Bool, IfSome, List, Ok, Result, [], ap, arith, cond, false, inl, inr, is_some, length, ltb, not, refl, subst, suc, sym, true, ℕ, ◌&&◌, ◌+◌, ◌<◌, ◌^◌, ◌∙◌, ◌≡◌, ◌≤◌, ◌⊎◌}
 
 -- a monitor that isn't marked, with versions of the log
 pub record OnLog (log : List (List ℕ)) (m : Store) : Type 0 where

@@ -1,28 +1,21 @@
 -- A copy that is after one more version of the log, and one that is after all of them.
-use Rattle.std.proofs.Common.{◌≡◌, ℕ, zero, suc, ◌+◌, ◌-◌, ◌≤◌, ◌<◌, ◌^◌, Bool, true, false, not, cond, List, ◌∷◌, length, Some, None, ◌⊎◌, inl, inr, refl, sym, ap, subst, ◌∙◌, arith}
-use Rattle.std.proofs.lemmas.Bool.{cases_eq, eq-eqb}
-use Rattle.std.specs.FinMap.{get, same_map}
-use Rattle.std.specs.List as list
-use Rattle.std.specs.List.{range_with_len}
-use Rattle.mon_bytes.specs.declared.entry.KeyPlace.TheVariants as key_place
-use Rattle.mon_tx.specs.declared.key.Area.TheVariants as area
-use Rattle.mon_tx.specs.declared.key.Key.TheVariants as key
-use Rattle.mon_tx.specs.declared.op.Op.{Op}
-use Rattle.mon_tx.specs.Decision.{Cell, Decision, decided, decision, later, or_before}
-use Rattle.mon_tx.specs.Decode.{ops_in}
-use Rattle.mon_tx.specs.Keys.{place}
-use Rattle.mon_tx.specs.Map.{Place, Store}
-use Rattle.mon_tx.proofs.After.{get-apply}
-use Rattle.mon_tx.proofs.Named.{decided-put}
-use Rattle.mon_tx.proofs.Places.{places_total, exact_places}
-use Rattle.mon_msg.specs.Fold.{entry, fold}
-use Rattle.mon_msg.specs.Puts.{put}
-use Rattle.log_copies.specs.Copies.{is_own, IsFolded, IsRecord, IsFuzzyCopy, with_version, catch_up, shared_with_records}
+use Rattle.law_names.proofs.Runs.{AllValues}
+use Rattle.law_names.proofs.Table.{Cell, Decision, Op, Store, decided, decision, entry, fold, get, later, ops_in, or_before, place, put, range_with_len, same_map}
 use Rattle.log_copies.proofs.Own.{own_local}
-use Rattle.log_model.specs.LogOfValues.{AllValues}
+use Rattle.log_copies.specs.Copies.{IsFolded, IsFuzzyCopy, IsRecord, catch_up, is_own, shared_with_records, with_version}
 use Rattle.log_model.proofs.Committed.{holds}
 use Rattle.log_model.proofs.KeptKeys.{no_local}
 use Rattle.log_model.proofs.Places.{get_kept}
+use Rattle.mon_bytes.specs.declared.entry.KeyPlace.TheVariants as key_place
+use Rattle.mon_tx.proofs.After.{get-apply}
+use Rattle.mon_tx.proofs.Named.{decided-put}
+use Rattle.mon_tx.proofs.Places.{exact_places, places_total}
+use Rattle.mon_tx.specs.Map.{Place}
+use Rattle.mon_tx.specs.declared.key.Area.TheVariants as area
+use Rattle.mon_tx.specs.declared.key.Key.TheVariants as key
+use Rattle.std.proofs.Common.{Bool, List, None, Some, ap, arith, cond, false, inl, inr, length, not, refl, subst, suc, sym, true, zero, ℕ, ◌+◌, ◌-◌, ◌<◌, ◌^◌, ◌∙◌, ◌∷◌, ◌≡◌, ◌≤◌, ◌⊎◌}
+use Rattle.std.proofs.lemmas.Bool.{cases_eq, eq-eqb}
+use Rattle.std.specs.List as list
 
 module _ (log : List (List ℕ)) where
   -- the changes of a version: its record is put, and then its entry's are made

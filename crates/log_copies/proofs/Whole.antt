@@ -1,23 +1,16 @@
 -- A full synchronization from monitors of one log, from its beginning on: it is under way, or it is finished.
-use Rattle.std.proofs.Common.{◌≡◌, ℕ, ◌≤◌, ◌<◌, ◌^◌, true, false, List, length, inl, inr, refl, sym, subst, ◌∙◌, arith}
-use Rattle.mon_tx.specs.Map.{Store}
-use Rattle.mon_wire.specs.declared.body.Body.{Body}
-use Rattle.mon_wire.specs.declared.body.Body.TheVariants as body
-use Rattle.mon_msg.specs.declared.input.Input.{Input}
-use Rattle.mon_msg.specs.declared.input.Input.TheVariants as input
-use Rattle.mon_msg.specs.declared.view.Me.{Me}
-use Rattle.mon_msg.specs.Protocol.Course.{Course}
-use Rattle.mon_msg.specs.Protocol.Readings.{readings_of, shared_entries}
-use Rattle.mon_msg.specs.Protocol.State.{State, booting}
-use Rattle.mon_msg.specs.Protocol.Synchronizing.{floor_of}
-use Rattle.log_copies.specs.Synchronizing.{IsShaped, IsGiven, IsFromLog, InputIsFromLog, written, Synchronizes, begins, goes_on, forgets, IsSynchronized}
+use Rattle.law_names.proofs.Runs.{AllValues}
+use Rattle.law_names.proofs.Table.{Body, Course, Input, Me, State, Store, booting, floor_of, readings_of, shared_entries}
 use Rattle.log_copies.proofs.Chunks.{ChunkOf}
 use Rattle.log_copies.proofs.Copying.{begun}
 use Rattle.log_copies.proofs.Events.{BodyOf, InputOf, marked_is, marked_shaped, reacts}
 use Rattle.log_copies.proofs.Given.{given}
 use Rattle.log_copies.proofs.Shape.{monitor_shaped}
 use Rattle.log_copies.proofs.UnderWay.{Marked, Stands}
-use Rattle.log_model.specs.LogOfValues.{AllValues}
+use Rattle.log_copies.specs.Synchronizing.{InputIsFromLog, IsFromLog, IsGiven, IsShaped, IsSynchronized, Synchronizes, begins, forgets, goes_on, written}
+use Rattle.mon_msg.specs.declared.input.Input.TheVariants as input
+use Rattle.mon_wire.specs.declared.body.Body.TheVariants as body
+use Rattle.std.proofs.Common.{List, arith, false, inl, inr, length, refl, subst, sym, true, ℕ, ◌<◌, ◌^◌, ◌∙◌, ◌≡◌, ◌≤◌}
 
 module _ (log : List (List ℕ)) (fits : length log ≤ 2 ^ 62) (all : AllValues log) (me : Me) (several : 1 < me.member.monitors) (before : Store) (shaped : IsShaped before) where
   chunk_is : (b : Body) → IsGiven log me.member.monitors b → ChunkOf log b

@@ -1,19 +1,10 @@
 -- The answers of a network's run: each is the log's, and each datagram that went to a client is of one.
-use Rattle.std.proofs.Common.{◌≡◌, ◌⊎◌, inl, inr, ℕ, ◌<◌, ◌≤◌, List, ◌++◌, length, map, sym, ap, subst, ◌∙◌, arith}
-use Rattle.std.proofs.lemmas.List.{map-append}
-use Rattle.std.proofs.lemmas.List.Elements.{Contains-append_cases, Contains-append_left, Contains-append_right}
-use Rattle.std.specs.List.{AllByRecursion, Contains}
+use Rattle.law_names.proofs.Runs.{Acknowledged, Acknowledgement, AllFit, Asked, DoneIsAnswered, Event, IsKeptIn, IsShown, Monitors, Replied, ShowsLog, WasAskedFor, World, made_by, run}
+use Rattle.law_names.proofs.Table.{AllByRecursion, Contains, HasText, Reply, Service, Session, entry, map_of_log, ops_in, put_in, version_of_log}
 use Rattle.log_model.proofs.Lists.{all_map, of_all}
-use Rattle.mon_link.specs.declared.link.Peer.{Peer}
-use Rattle.mon_link.specs.declared.link.Peer.TheVariants.{Client}
-use Rattle.mon_msg.specs.Fold.{entry, map_of_log, put_in, version_of_log}
-use Rattle.mon_tx.specs.Decode.{ops_in}
-use Rattle.mon_wire.specs.Message.Whole.{HasText, text}
-use Rattle.mon_wire.specs.declared.reply.Reply.{Reply}
+use Rattle.mon_wire.specs.Message.Whole.{text}
 use Rattle.mon_wire.specs.declared.reply.Reply.TheVariants as reply
 use Rattle.mon_wire.specs.declared.request.Request.TheVariants as request
-use Rattle.mon_wire.specs.declared.request.Service.{Service}
-use Rattle.mon_wire.specs.declared.request.Session.{Session}
 use Rattle.network_answers.proofs.Lists.{all_image, in_image, of_image}
 use Rattle.network_answers.specs.Answers.{Answer, AreInOrder, IsAnswer, IsDone, IsNoOlder, IsOfLog, IsOfThisLog, IsRefused, Requested}
 use Rattle.quorum_agreement.proofs.SafeWorlds.{safe}
@@ -25,26 +16,21 @@ use Rattle.quorum_answers.specs.Linear.{Linearizable, Read, Write}
 use Rattle.quorum_answers.specs.Reads.{EachOnward, NoOlder, Shows}
 use Rattle.quorum_answers.specs.Refused as model
 use Rattle.quorum_answers.specs.Refused.{AllRefused, CoversAll, IsRefusalReply}
-use Rattle.quorum_model.specs.Clients.{made_by}
-use Rattle.quorum_model.specs.Events.{AllFit}
-use Rattle.quorum_model.specs.Kept.{DoneIsAnswered, IsAnswered, IsKeptIn}
-use Rattle.quorum_model.specs.Monitors.{Monitors}
-use Rattle.quorum_model.specs.Runs.{run}
-use Rattle.quorum_model.specs.Shown.{AskedFor, IsShown, ShowsLog, WasAskedFor}
-use Rattle.quorum_model.specs.World.{Acknowledged, Acknowledgement, Asked, Event, Replied, World}
+use Rattle.quorum_model.specs.Kept.{IsAnswered}
+use Rattle.quorum_model.specs.Shown.{AskedFor}
 use Rattle.quorum_network.proofs.Adding.{IsBy, IsLater, IsRepliedBy, given}
 use Rattle.quorum_network.proofs.Assembled.{all_self, assembly}
 use Rattle.quorum_network.proofs.Going.{GoesOn, grown_log}
 use Rattle.quorum_network.proofs.Invariant.{IsSaid}
 use Rattle.quorum_network.proofs.Joined.{letters_answer}
 use Rattle.quorum_network.proofs.Letters.{Letter}
+use Rattle.quorum_network.proofs.Names.{AreAnswers, Client, IsLogOf, Leadership, Network, Peer, answer_of}
 use Rattle.quorum_network.proofs.Promised.{acks_are, asked_so, some_letters, stands_log, world, world_is}
 use Rattle.quorum_network.proofs.Whole.{Stands, asked_among, given_more}
 use Rattle.quorum_network.specs.History.{Extends}
-use Rattle.quorum_network.specs.Network.{Network}
-use Rattle.quorum_network.specs.Promises.{AreAnswers, IsLogOf}
-use Rattle.quorum_network.specs.Requests.{Leadership}
-use Rattle.quorum_network.specs.Running.{answer_of}
+use Rattle.std.proofs.Common.{List, ap, arith, inl, inr, length, map, subst, sym, ℕ, ◌++◌, ◌<◌, ◌∙◌, ◌≡◌, ◌≤◌, ◌⊎◌}
+use Rattle.std.proofs.lemmas.List.Elements.{Contains-append_cases, Contains-append_left, Contains-append_right}
+use Rattle.std.proofs.lemmas.List.{map-append}
 
 abbrev pub answer : Replied → Answer
 answer r = record { rank = r.rank; session = r.session; epoch = r.epoch; last = r.last; reply = r.reply }

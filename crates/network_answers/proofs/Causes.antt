@@ -1,55 +1,29 @@
 -- Each answer that doesn't serve has its cause in a step.
-use Rattle.std.proofs.Common.{◌≡◌, inl, inr, ℕ, zero, suc, List, [], ◌∷◌, ◌++◌, map, Option, Some, None, Result, Ok, Err, refl, sym, ap, subst, ◌∙◌, ◌⊎◌, arith}
-use Rattle.std.specs.List.{AllByRecursion, Contains, slice_get}
-use Rattle.std.specs.Prelude.{option_map}
+use Rattle.law_names.proofs.Runs.{Acknowledgement, Arrival, Asked, Client, Deliver, Envelope, Monitors, Plain, Replied, Ring, Start, World, arrival, last_of, map_after, me_of, message_at, messages_of, replies_of, state_at}
+use Rattle.law_names.proofs.Table.{AllByRecursion, Body, Contains, Course, Input, Me, Message, Reaction, Readings, Reply, Sent, Session, State, Store, Which, any_reaction, apply, booting, epoch_of, played, react, reaction_of, readings_of, shared_entries}
 use Rattle.log_model.proofs.Lists.{all_append, all_map, of_all}
 use Rattle.mon_msg.proofs.Changed.{readings-joined}
-use Rattle.mon_msg.specs.Protocol.Course.{Course}
-use Rattle.mon_msg.specs.Protocol.Reaction.{Reaction, any_reaction, reaction_of}
-use Rattle.mon_msg.specs.Protocol.Played.{played}
-use Rattle.mon_msg.specs.Protocol.Readings.{Readings, epoch_of, readings_of, shared_entries}
-use Rattle.mon_msg.specs.Protocol.State.{State, booting}
-use Rattle.mon_msg.specs.Protocol.Table.{react}
 use Rattle.mon_msg.specs.declared.input.Input.TheVariants as input
-use Rattle.mon_msg.specs.declared.input.Input.{Input}
 use Rattle.mon_msg.specs.declared.plan.Sent.TheVariants as sent
-use Rattle.mon_msg.specs.declared.plan.Sent.{Sent}
-use Rattle.mon_msg.specs.declared.view.Me.{Me}
-use Rattle.mon_node.specs.Iterations.{Iteration}
-use Rattle.mon_node.specs.Nodes.{Node}
-use Rattle.mon_node.specs.declared.end.NodeEnd.{NodeEnd}
-use Rattle.mon_node.specs.declared.hearing.TimedInput.{TimedInput}
-use Rattle.mon_tx.specs.Map.{Store, apply}
-use Rattle.mon_types.specs.declared.names.Which.{Which}
 use Rattle.mon_wire.specs.declared.body.Body.TheVariants as body
-use Rattle.mon_wire.specs.declared.body.Body.{Body}
-use Rattle.mon_wire.specs.declared.message.Message.{Message}
-use Rattle.mon_wire.specs.declared.reply.Reply.{Reply}
-use Rattle.mon_wire.specs.declared.request.Session.{Session}
 use Rattle.network_answers.proofs.Answering.{answer}
 use Rattle.network_answers.proofs.Lists.{all_image}
 use Rattle.network_answers.specs.Answers.{Answer}
 use Rattle.network_answers.specs.Causes.{IsCaused, Reacted, Routes}
-use Rattle.quorum_model.specs.Clients.{messages_of, replies_of}
-use Rattle.quorum_model.specs.Growth.{last_of}
-use Rattle.quorum_model.specs.Happens.{map_after}
-use Rattle.quorum_model.specs.Meets.{Arrival, arrival, message_at, state_at}
-use Rattle.quorum_model.specs.Monitors.{Monitors, me_of}
-use Rattle.quorum_model.specs.World.{Acknowledgement, Asked, Client, Deliver, Envelope, Plain, Replied, Ring, Start, World}
 use Rattle.quorum_network.proofs.Acts.{Act, Does, DoesSo, act_at, act_by, act_in, act_in_iteration}
 use Rattle.quorum_network.proofs.Assembled.{assembly, contains_first, contains_later}
 use Rattle.quorum_network.proofs.Events.{known}
 use Rattle.quorum_network.proofs.Facts.{Reach}
 use Rattle.quorum_network.proofs.Invariant.{Moved, Next, Still}
+use Rattle.quorum_network.proofs.Names.{AllMay, Iteration, Leadership, Network, Node, NodeEnd, Posted, Step, TimedInput, acknowledged_at, acknowledgements, after_step, asked_by, iteration_of, kept_by, leaderships, led_at, network, requests}
 use Rattle.quorum_network.proofs.Senders.{started, went}
 use Rattle.quorum_network.proofs.Steps.{step_next}
 use Rattle.quorum_network.proofs.Whole.{Stands, facts, stands, stands_first, stands_next}
-use Rattle.quorum_network.specs.Network.{AllMay, Network, Posted, Step, after_step, iteration_of, network}
-use Rattle.quorum_network.specs.Requests.{Leadership, acknowledged_at, acknowledgements, asked_by, kept_by, leaderships, led_at, requests}
 use Rattle.quorum_replies.proofs.Causes.{Caused, IsForCause, IsRouted, RoutesForCause, says_for_cause}
 use Rattle.quorum_replies.specs.Causes.{HasCause, HasCauseToRoute}
 use Rattle.quorum_walk.proofs.FineCourses.{Base, Ended, begun, fit_fits}
 use Rattle.quorum_walk.proofs.Walk.{Then}
+use Rattle.std.proofs.Common.{Err, List, None, Ok, Option, Result, Some, [], ap, arith, inl, inr, map, option_map, refl, slice_get, subst, suc, sym, zero, ℕ, ◌++◌, ◌∙◌, ◌∷◌, ◌≡◌, ◌⊎◌}
 
 -- ---- an act of a step
 

@@ -1,20 +1,16 @@
 -- Answers are in order over all epochs, in every history that has them.
-use Rattle.std.proofs.Common.{◌≡◌, ℕ, ◌<◌, ◌≤◌, List, ◌++◌, length, Some, sym, ap, subst, ◌∙◌, arith}
-use Rattle.std.specs.List.{Contains}
+use Rattle.law_names.proofs.Runs.{Acknowledgement, Asked, Monitors}
+use Rattle.law_names.proofs.Table.{Contains, entry, ops_in, put_in}
 use Rattle.log_model.proofs.Lists.{of_all}
-use Rattle.mon_msg.specs.Fold.{entry, put_in}
-use Rattle.mon_tx.specs.Decode.{ops_in}
 use Rattle.mon_wire.specs.declared.reply.Reply.TheVariants as reply
 use Rattle.network_answers.proofs.Marks.{above, one_of_version, told_put}
 use Rattle.network_answers.specs.Answers.{Answer, IsDone, IsOfLog, IsOfThisLog}
 use Rattle.network_answers.specs.Epochs.{AreDoneInOrder, AreLinearizable, AreOfOneChange, AsksAnew, IsMark, IsUnasked, ShowsMark, TellsUnasked}
 use Rattle.network_answers.specs.History.{Adds, HaveAnswers}
 use Rattle.quorum_answers.specs.Reads.{Shows}
-use Rattle.quorum_model.specs.Monitors.{Monitors}
-use Rattle.quorum_model.specs.World.{Acknowledgement, Asked}
-use Rattle.quorum_network.specs.Network.{AllMay, Step, may_before, network}
-use Rattle.quorum_network.specs.Promises.{IsKeptBy, IsLogOf}
-use Rattle.quorum_network.specs.Requests.{acknowledgements, requests}
+use Rattle.quorum_network.proofs.Names.{AllMay, IsLogOf, Step, acknowledgements, may_before, network, requests}
+use Rattle.quorum_network.specs.Promises.{IsKeptBy}
+use Rattle.std.proofs.Common.{List, Some, ap, arith, length, subst, sym, ℕ, ◌++◌, ◌<◌, ◌∙◌, ◌≡◌, ◌≤◌}
 
 module _ (ms : Monitors) (H : HaveAnswers ms) (later earlier : List Step) (may : AllMay ms (later ++ earlier)) where
   abbrev steps : List Step

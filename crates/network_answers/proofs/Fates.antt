@@ -1,7 +1,7 @@
 -- What becomes of the requests of a network's run.
-use Rattle.std.proofs.Common.{◌≡◌, ℕ, ◌+◌, ◌≤◌, List, [], ◌∷◌, map, refl, sym, ap, subst}
+use Rattle.law_names.proofs.Runs.{Acknowledgement, AllFit, Asked, Event, Monitors, Replied, World, run}
+use Rattle.law_names.proofs.Table.{Session}
 use Rattle.log_model.proofs.Lists.{all_map}
-use Rattle.mon_wire.specs.declared.request.Session.{Session}
 use Rattle.network_answers.proofs.Answering.{answer}
 use Rattle.network_answers.proofs.Lists.{all_image}
 use Rattle.network_answers.specs.Answers.{Answer}
@@ -10,19 +10,15 @@ use Rattle.quorum_commands.proofs.Runs.{once}
 use Rattle.quorum_commands.proofs.Unmade.{unmade_unless_done}
 use Rattle.quorum_commands.specs.Once.{CommittedOnce}
 use Rattle.quorum_commands.specs.Unmade.{AcknowledgesNone, IsUnmade, Unmade}
-use Rattle.quorum_model.specs.Events.{AllFit}
-use Rattle.quorum_model.specs.Monitors.{Monitors}
-use Rattle.quorum_model.specs.Runs.{run}
-use Rattle.quorum_model.specs.World.{Acknowledgement, Asked, Event, Replied, World}
 use Rattle.quorum_network.proofs.Assembled.{assembly}
 use Rattle.quorum_network.proofs.Going.{GoesOn}
+use Rattle.quorum_network.proofs.Names.{Leadership, Network}
 use Rattle.quorum_network.proofs.Promised.{world_is}
 use Rattle.quorum_network.proofs.Whole.{Stands}
-use Rattle.quorum_network.specs.Network.{Network}
-use Rattle.quorum_network.specs.Requests.{Leadership}
 use Rattle.quorum_replies.proofs.Runs.{answered_once}
 use Rattle.quorum_replies.specs.Replies as model
 use Rattle.quorum_replies.specs.Replies.{AnsweredOnce, one_of, times_asked}
+use Rattle.std.proofs.Common.{List, [], ap, map, refl, subst, sym, ℕ, ◌+◌, ◌∷◌, ◌≡◌, ◌≤◌}
 
 -- ---- of worlds
 

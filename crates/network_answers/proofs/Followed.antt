@@ -1,49 +1,32 @@
 -- A client that follows a network's monitors holds maps of the log.
-use Rattle.std.proofs.Common.{◌≡◌, inl, inr, ℕ, ◌+◌, ◌-◌, ◌^◌, ◌<◌, ◌≤◌, Bool, true, false, cond, eqb, ltb, leb, ◌&&◌, drop, List, [], ◌∷◌, ◌++◌, length, Option, Some, None, Result, Ok, Err, refl, sym, ap, subst, ◌∙◌, append_assoc, arith}
-use Rattle.std.proofs.lemmas.Bool.{eq-eqb, ltb-true, leb-false}
-use Rattle.std.proofs.lemmas.List.{append-nil}
-use Rattle.std.proofs.lemmas.List.Concat.{flat_map-append}
-use Rattle.std.specs.List.{AllByRecursion, Contains, flat_map}
-use Rattle.std.specs.Option.{option_map}
-use Rattle.std.specs.Prelude.{◌%◌}
+use Rattle.law_names.proofs.Runs.{Acknowledgement, Asked, IsShown, Replied, World, first_world}
+use Rattle.law_names.proofs.Table.{AllByRecursion, Contains, HasText, Message, MsgRefused, Reply, Service, Session, ShownMap, Stop, flat_map, map_of_log, message_of, version_of_log}
 use Rattle.log_model.proofs.Lists.{all_append, all_map, of_all}
 use Rattle.map_follower.proofs.Follows.{holds_all}
 use Rattle.map_follower.specs.Copies.{Taken, applied_from, first, if_applied, is_of, taken, taken_all}
 use Rattle.map_follower.specs.Following.{Holds, WasGiven}
 use Rattle.map_follower.specs.Iterations as turns
 use Rattle.map_follower.specs.Iterations.{Course, EndsAfter, Follows, IsAnswer, Iterated, all_turned, and_turned, asked, copy_text, course, course_before, line_of, reply_in, reply_read, request_of, turned, with_datagram, with_reply}
-use Rattle.map_follower.specs.declared.end.FollowEnd.{FollowEnd}
 use Rattle.map_follower.specs.declared.end.FollowEnd.TheVariants as end
+use Rattle.map_follower.specs.declared.end.FollowEnd.{FollowEnd}
 use Rattle.map_follower.specs.declared.follower.Follower.{Follower}
 use Rattle.map_follower.specs.declared.took.Took.TheVariants as took
 use Rattle.mon_decode.proofs.WholeLaws.{message_again}
-use Rattle.mon_frag.specs.Keeping.{taken as piece_taken}
-use Rattle.mon_frag.specs.Whole.{FromPeer, and_answered, answer_in, answered, kept_in}
-use Rattle.mon_frag.specs.declared.partial.Partial.{Partial}
-use Rattle.mon_link.specs.Links.{Observed, asked_to_send, first_of, next_leaves, others}
+use Rattle.mon_frag.specs.Whole.{FromPeer, and_answered, answered}
+use Rattle.mon_link.specs.Links.{asked_to_send, first_of, others}
 use Rattle.mon_link.specs.Memory.{fails_next}
-use Rattle.mon_link.specs.declared.link.Got.{Got}
-use Rattle.mon_link.specs.declared.link.Got.TheVariants.{Closed, Datagram, Idle}
-use Rattle.mon_link.specs.declared.link.Peer.{Peer}
-use Rattle.mon_link.specs.declared.link.Peer.TheVariants.{Monitor, Client}
-use Rattle.mon_types.specs.declared.names.Stop.{Stop}
 use Rattle.mon_types.specs.declared.names.Stop.TheVariants as stop
-use Rattle.mon_msg.specs.Fold.{map_of_log, version_of_log}
-use Rattle.mon_wire.specs.Message.Whole.{HasText, message_of, text}
-use Rattle.mon_wire.specs.declared.message.Message.{Message}
-use Rattle.mon_wire.specs.declared.refusal.MsgRefused.{MsgRefused}
-use Rattle.mon_wire.specs.declared.reply.Reply.{Reply}
+use Rattle.mon_wire.specs.Message.Whole.{text}
 use Rattle.mon_wire.specs.declared.reply.Reply.TheVariants as reply
-use Rattle.mon_wire.specs.declared.reply.ShownMap.{ShownMap}
-use Rattle.mon_wire.specs.declared.request.Service.{Service}
-use Rattle.mon_wire.specs.declared.request.Session.{Session}
 use Rattle.network_answers.specs.Answers.{Answer, IsAnswer as IsAnAnswer, IsOfLog, IsOfThisLog, message_of as answer_message}
 use Rattle.network_answers.specs.Followers.{AreRising, Reaches, Writes}
-use Rattle.quorum_model.specs.Shown.{IsShown}
-use Rattle.quorum_model.specs.World.{Acknowledgement, Asked, Replied, World, first_world}
 use Rattle.quorum_network.proofs.Assembled.{contains_first, contains_later}
-use Rattle.quorum_network.specs.Network.{Posted}
-use Rattle.quorum_network.specs.Promises.{AreAnswers, IsJoined, Numbers, ReachesClient}
+use Rattle.quorum_network.proofs.Names.{AreAnswers, Client, Closed, Datagram, Got, Idle, Monitor, Observed, Partial, Peer, Posted, answer_in, kept_in, next_leaves, taken as piece_taken}
+use Rattle.quorum_network.specs.Promises.{IsJoined, Numbers, ReachesClient}
+use Rattle.std.proofs.Common.{Bool, Err, List, None, Ok, Option, Result, Some, [], ap, append_assoc, arith, cond, drop, eqb, false, inl, inr, leb, length, ltb, option_map, refl, subst, sym, true, ℕ, ◌%◌, ◌&&◌, ◌++◌, ◌+◌, ◌-◌, ◌<◌, ◌^◌, ◌∙◌, ◌∷◌, ◌≡◌, ◌≤◌}
+use Rattle.std.proofs.lemmas.Bool.{eq-eqb, leb-false, ltb-true}
+use Rattle.std.proofs.lemmas.List.Concat.{flat_map-append}
+use Rattle.std.proofs.lemmas.List.{append-nil}
 
 -- ---- replies that are the log's, as replies of a run of the model
 

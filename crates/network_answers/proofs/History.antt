@@ -1,17 +1,16 @@
 -- One log and one list of answers for a whole history.
-use Rattle.std.proofs.Common.{List, ◌++◌, ℕ, map}
+use Rattle.law_names.proofs.Runs.{Monitors}
 use Rattle.network_answers.proofs.Answering.{acknowledged, all_of_log, answer, answered, brings, brings_more, extends, is_log, order, refusals}
 use Rattle.network_answers.proofs.Causes.{answers_caused}
 use Rattle.network_answers.proofs.Fates.{answered_so, made_so, unmade_so}
 use Rattle.network_answers.specs.Answers.{Answer}
 use Rattle.network_answers.specs.History.{Adds, HaveAnswers}
-use Rattle.quorum_model.specs.Monitors.{Monitors}
 use Rattle.quorum_network.proofs.Adding.{given}
 use Rattle.quorum_network.proofs.Assembled.{assembly}
 use Rattle.quorum_network.proofs.Going.{goes_on}
+use Rattle.quorum_network.proofs.Names.{AllMay, Step, acknowledgements, leaderships, may_before, network, requests}
 use Rattle.quorum_network.proofs.Whole.{Stands, facts, stands}
-use Rattle.quorum_network.specs.Network.{AllMay, Step, may_before, network}
-use Rattle.quorum_network.specs.Requests.{acknowledgements, leaderships, requests}
+use Rattle.std.proofs.Common.{List, map, ℕ, ◌++◌}
 
 module _ (ms : Monitors) where
   abbrev stood : (steps : List Step) → AllMay ms steps → Stands assembly ms (requests ms steps) (acknowledgements ms steps) (leaderships ms steps) (network ms steps)

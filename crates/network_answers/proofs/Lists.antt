@@ -1,6 +1,6 @@
 -- Items of lists that are made of others.
-use Rattle.std.proofs.Common.{◌≡◌, zero, suc, List, [], ◌∷◌, map, refl, ap, arith}
-use Rattle.std.specs.List.{AllByRecursion, Contains}
+use Rattle.law_names.proofs.Table.{AllByRecursion, Contains}
+use Rattle.std.proofs.Common.{List, [], ap, arith, map, refl, suc, zero, ◌∷◌, ◌≡◌}
 
 module _ {X Y : Type 0} (f : X → Y) where
   pub in_image : (xs : List X) (x : X) → Contains xs x → Contains (map f xs) (f x)

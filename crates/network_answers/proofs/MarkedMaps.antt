@@ -1,11 +1,7 @@
 -- What a map has was put by a version of the log. So a map with a marker is as new as the marker.
-use Rattle.std.proofs.Common.{◌≡◌, inl, inr, ℕ, zero, suc, Bool, true, false, cond, List, [], ◌∷◌, ◌++◌, Option, Some, None, Result, Ok, Err, refl, sym, ap, subst, ◌∙◌, ◌⊎◌, nat_cmp, arith}
-use Rattle.std.proofs.lemmas.List.Elements.{Contains-append_cases}
-use Rattle.std.specs.Cmp.{Equal-is}
-use Rattle.std.specs.Cmp.Lexicographic.{nat_list_cmp_total, slice_cmp}
-use Rattle.std.specs.FinMap.{IsAntisymmetric, empty, get, get-empty, get-insert, get-remove, nat_cmp-IsAntisymmetric, slice_cmp-IsAntisymmetric}
-use Rattle.std.specs.List.{Contains}
-use Rattle.std.specs.Ordering.{eq_by_cmp}
+use Rattle.law_names.proofs.Runs.{Acknowledgement, Asked, Monitors}
+use Rattle.law_names.proofs.Table.{Contains, Service, empty, get, incrementals, map_of_log}
+use Rattle.log_model.proofs.Lists.{of_all}
 use Rattle.map_kv.specs.Decode as kv_decode
 use Rattle.map_kv.specs.Map.{Kv}
 use Rattle.map_kv.specs.declared.inc.KvInc.TheVariants as kv
@@ -14,24 +10,25 @@ use Rattle.map_log.specs.Decode as log_decode
 use Rattle.map_log.specs.Map.{is_above, trimmed}
 use Rattle.map_log.specs.declared.inc.LogInc.{LogInc}
 use Rattle.mon_bytes.specs.declared.command.MapRefused.{MapRefused}
-use Rattle.mon_msg.specs.Fold.{after_all, incrementals, log_after_all, map_of_log, stepped, stepped_log}
+use Rattle.mon_msg.specs.Fold.{after_all, log_after_all, stepped, stepped_log}
 use Rattle.mon_msg.specs.Protocol.Maps.{if_ok}
 use Rattle.mon_wire.specs.declared.reply.Reply.TheVariants as reply
 use Rattle.mon_wire.specs.declared.request.Service.TheVariants as service
-use Rattle.mon_wire.specs.declared.request.Service.{Service}
 use Rattle.network_answers.proofs.Epochs.{linearizable}
 use Rattle.network_answers.proofs.Marks.{IsPut, is_put}
 use Rattle.network_answers.specs.Answers.{Answer, IsOfLog, IsOfThisLog}
 use Rattle.network_answers.specs.Epochs.{IsUnasked, ShowsMark}
 use Rattle.network_answers.specs.History.{HaveAnswers}
 use Rattle.network_answers.specs.Marked.{HasMarker, Includes, ShowsMarker}
-use Rattle.log_model.proofs.Lists.{of_all}
 use Rattle.quorum_answers.specs.Reads.{Shows}
-use Rattle.quorum_model.specs.Monitors.{Monitors}
-use Rattle.quorum_model.specs.World.{Acknowledgement, Asked}
 use Rattle.quorum_network.proofs.Assembled.{contains_first, contains_later}
-use Rattle.quorum_network.specs.Network.{AllMay, Step}
-use Rattle.quorum_network.specs.Requests.{acknowledgements, requests}
+use Rattle.quorum_network.proofs.Names.{AllMay, Step, acknowledgements, requests}
+use Rattle.std.proofs.Common.{Bool, Err, List, None, Ok, Option, Result, Some, [], ap, arith, cond, false, inl, inr, nat_cmp, refl, subst, suc, sym, true, zero, ℕ, ◌++◌, ◌∙◌, ◌∷◌, ◌≡◌, ◌⊎◌}
+use Rattle.std.proofs.lemmas.List.Elements.{Contains-append_cases}
+use Rattle.std.specs.Cmp.Lexicographic.{nat_list_cmp_total, slice_cmp}
+use Rattle.std.specs.Cmp.{Equal-is}
+use Rattle.std.specs.FinMap.{IsAntisymmetric, get-empty, get-insert, get-remove, nat_cmp-IsAntisymmetric, slice_cmp-IsAntisymmetric}
+use Rattle.std.specs.Ordering.{eq_by_cmp}
 
 exact : IsAntisymmetric (slice_cmp nat_cmp)
 exact = slice_cmp-IsAntisymmetric nat_cmp-IsAntisymmetric

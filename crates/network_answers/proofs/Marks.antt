@@ -1,26 +1,14 @@
 -- A change that a version of a log makes was asked for.
-use Rattle.std.proofs.Common.{inl, inr, take, drop, ◌≡◌, ℕ, zero, suc, ◌<◌, ◌≤◌, cond, List, [], ◌∷◌, ◌++◌, length, length-append, Some, sym, ap, subst, ◌∙◌, arith}
-use Rattle.std.proofs.lemmas.List.Elements.{Contains-append_cases}
-use Rattle.std.proofs.lemmas.List.{get_or_append_left}
-use Rattle.std.specs.List.{AllByRecursion, Contains}
+use Rattle.law_names.proofs.Runs.{AcknowledgedOnce, Acknowledgement, Asked, IsAsked, incremental_of, made_by, view_at}
+use Rattle.law_names.proofs.Table.{AllByRecursion, Command, Contains, Service, area_of, entry, incrementals, ops_in, put_in, same_area, service_of}
 use Rattle.log_model.proofs.Committed.{ops_again}
 use Rattle.log_model.proofs.Lists.{of_all}
 use Rattle.log_model.proofs.Logs.{IsPrefixOf, entry_stays}
-use Rattle.log_model.specs.LogOfValues.{view_at}
-use Rattle.mon_bytes.specs.declared.command.Command.{Command}
-use Rattle.mon_msg.specs.Fold.{entry, incrementals, put_in}
-use Rattle.mon_msg.specs.Protocol.Value.{service_of}
-use Rattle.mon_msg.specs.Puts.{area_of}
-use Rattle.mon_tx.specs.Decode.{ops_in}
-use Rattle.mon_tx.specs.Keys.{same_area}
 use Rattle.mon_wire.specs.declared.request.Service.TheVariants as service
-use Rattle.mon_wire.specs.declared.request.Service.{Service}
 use Rattle.quorum_model.proofs.Made.{puts_in}
-use Rattle.quorum_model.specs.Agree.{IsAsked}
-use Rattle.quorum_model.specs.Clients.{incremental_of, made_by}
-use Rattle.quorum_model.specs.Kept.{AcknowledgedOnce}
-use Rattle.quorum_model.specs.World.{Acknowledgement, Asked}
-use Rattle.std.specs.Option.{option_map}
+use Rattle.std.proofs.Common.{List, Some, [], ap, arith, cond, drop, inl, inr, length, length-append, option_map, subst, suc, sym, take, zero, ℕ, ◌++◌, ◌<◌, ◌∙◌, ◌∷◌, ◌≡◌, ◌≤◌}
+use Rattle.std.proofs.lemmas.List.Elements.{Contains-append_cases}
+use Rattle.std.proofs.lemmas.List.{get_or_append_left}
 
 -- the only change of a value, which is its command's
 only : (t s : Service) (x y : List ℕ) → Contains (cond (same_area (area_of t) (area_of s)) (x ∷ []) []) y → ◌≡◌ {A = Service × List ℕ} (t, x) (s, y)

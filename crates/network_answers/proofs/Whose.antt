@@ -1,27 +1,20 @@
 -- Which request an answer is to, in every history that has answers.
-use Rattle.std.proofs.Common.{◌≡◌, ◌⊎◌, inl, inr, ℕ, zero, suc, ◌≤◌, List, [], ◌∷◌, Some, refl, sym, ap, subst, ◌∙◌, arith}
-use Rattle.std.proofs.lemmas.Bool.{eq-eqb}
-use Rattle.std.specs.List.{AllByRecursion, Contains}
-use Rattle.std.specs.Prelude.{slice_get}
+use Rattle.law_names.proofs.Runs.{Asked, Monitors, command_of, made_by}
+use Rattle.law_names.proofs.Table.{AllByRecursion, Contains, Reply, Request, Session}
 use Rattle.log_model.proofs.Lists.{of_all}
 use Rattle.mon_wire.specs.declared.reply.Reply.TheVariants as reply
-use Rattle.mon_wire.specs.declared.reply.Reply.{Reply}
 use Rattle.mon_wire.specs.declared.request.Request.TheVariants as request
-use Rattle.mon_wire.specs.declared.request.Request.{Request}
-use Rattle.mon_wire.specs.declared.request.Session.{Session}
 use Rattle.network_answers.specs.Answers.{Answer, IsDone, IsOfLog, IsOfThisLog, IsRefused, Requested}
 use Rattle.network_answers.specs.Fates.{AreUnmade, HasUnmade}
 use Rattle.network_answers.specs.History.{HaveAnswers}
 use Rattle.network_answers.specs.Whose.{Answers, AsksOnce, IsCommanding, IsTo}
 use Rattle.quorum_answers.specs.Refused.{IsRefusalReply}
 use Rattle.quorum_commands.specs.Unmade.{AcknowledgesNone}
-use Rattle.quorum_model.specs.Clients.{command_of, made_by}
-use Rattle.quorum_model.specs.Monitors.{Monitors}
-use Rattle.quorum_model.specs.World.{Asked}
 use Rattle.quorum_network.proofs.Assembled.{all_self}
-use Rattle.quorum_network.specs.Network.{AllMay, Step}
-use Rattle.quorum_network.specs.Requests.{acknowledgements, requests}
+use Rattle.quorum_network.proofs.Names.{AllMay, Step, acknowledgements, requests}
 use Rattle.quorum_replies.specs.Replies.{one_of, times_asked}
+use Rattle.std.proofs.Common.{List, Some, [], ap, arith, inl, inr, refl, slice_get, subst, suc, sym, zero, ℕ, ◌∙◌, ◌∷◌, ◌≡◌, ◌≤◌, ◌⊎◌}
+use Rattle.std.proofs.lemmas.Bool.{eq-eqb}
 
 -- ---- the only request of a session
 

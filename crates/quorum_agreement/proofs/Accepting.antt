@@ -1,26 +1,9 @@
 -- What an ACCEPT does: nothing, or the leader counts it, or with it all of the quorum accepted and the value is committed.
-use Rattle.mon_bytes.specs.declared.entry.Entry.{Entry}
-use Rattle.mon_msg.specs.Protocol.Course.{Course, leader_is}
-use Rattle.mon_msg.specs.Protocol.Hearing.{hear, is_heard}
-use Rattle.mon_msg.specs.Protocol.Phases.{same_phase}
-use Rattle.mon_msg.specs.Protocol.State.{State}
-use Rattle.mon_msg.specs.Protocol.Table.{at_rest, react}
+use Rattle.law_names.proofs.Table.{Body, Course, Entry, Me, Message, Op, Phase, Readings, State, Which, are_within, at_rest, be_active, commit, commit_any, epoch_of, extend, has, hear, hear_accept, is_heard, is_one_of, leader_is, learn, of_member, react, same_phase, with_rank}
 use Rattle.mon_msg.specs.declared.input.Input.TheVariants as input
-use Rattle.mon_wire.specs.declared.body.Body.TheVariants as body
-use Rattle.mon_wire.specs.declared.body.Body.{Body}
-use Rattle.mon_wire.specs.declared.message.Message.{Message}
-use Rattle.mon_msg.specs.Protocol.Leader.{commit_any, hear_accept, is_one_of, of_member}
-use Rattle.mon_msg.specs.Protocol.Leading.{be_active, commit, extend}
-use Rattle.mon_msg.specs.Protocol.Readings.{Readings, epoch_of}
-use Rattle.mon_msg.specs.Protocol.Sets.{are_within}
-use Rattle.mon_msg.specs.declared.view.Me.{Me}
-use Rattle.mon_tx.specs.declared.op.Op.{Op}
-use Rattle.mon_types.specs.Ranks.{has, with_rank}
 use Rattle.mon_types.specs.declared.names.Which.TheVariants as which
-use Rattle.mon_types.specs.declared.names.Which.{Which}
+use Rattle.mon_wire.specs.declared.body.Body.TheVariants as body
 use Rattle.mon_wire.specs.declared.phase.Phase.TheVariants as phase
-use Rattle.mon_wire.specs.declared.phase.Phase.{Phase}
-use Rattle.mon_msg.specs.Protocol.Learning.{learn}
 use Rattle.quorum_history.proofs.Phases.{no}
 use Rattle.quorum_walk.proofs.Walk.{Then, and_then, by_test, done, where_fits}
 use Rattle.std.proofs.Common.{Err, List, None, Ok, Option, Result, Some, [], arith, eqb, false, inl, inr, not, refl, subst, suc, sym, true, ℕ, ◌&&◌, ◌+◌, ◌^◌, ◌∷◌, ◌≡◌, ◌≤◌, ◌⊎◌}

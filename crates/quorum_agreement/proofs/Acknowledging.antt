@@ -1,30 +1,16 @@
 -- What an event acknowledges and replies, by what its monitor sends.
-use Rattle.mon_msg.specs.Protocol.Phases.{is_leading}
-use Rattle.mon_msg.specs.Protocol.Readings.{epoch_of, readings_of}
-use Rattle.mon_msg.specs.Protocol.Sending.{answer_to}
-use Rattle.mon_msg.specs.Protocol.State.{State}
+use Rattle.law_names.proofs.Runs.{Acknowledged, Envelope, IsFenced, Replied, ShowsLog, WasAskedFor, World, acknowledgement, acknowledgements_of, done_by, done_in, last_of, messages_of, replies_of}
+use Rattle.law_names.proofs.Table.{AllByRecursion, Body, Me, Origin, Reply, Sent, Session, State, Store, answer_to, epoch_of, is_leading, readings_of}
 use Rattle.mon_msg.specs.declared.plan.Origin.TheVariants as origin
-use Rattle.mon_msg.specs.declared.plan.Origin.{Origin}
 use Rattle.mon_msg.specs.declared.plan.Sent.TheVariants as sent
-use Rattle.mon_msg.specs.declared.plan.Sent.{Sent}
-use Rattle.mon_msg.specs.declared.view.Me.{Me}
-use Rattle.mon_tx.specs.Map.{Store}
 use Rattle.mon_wire.specs.declared.body.Body.TheVariants as body
-use Rattle.mon_wire.specs.declared.body.Body.{Body}
 use Rattle.mon_wire.specs.declared.reply.Reply.TheVariants as reply
-use Rattle.mon_wire.specs.declared.reply.Reply.{Reply}
-use Rattle.mon_wire.specs.declared.request.Session.{Session}
 use Rattle.quorum_agreement.proofs.Answering.{AllPlain, IsPlain, IsPlainBody, IsPlainReply}
-use Rattle.quorum_model.specs.Acknowledging.{acknowledgement, acknowledgements_of, done_by, done_by_route, done_in}
-use Rattle.quorum_model.specs.Clients.{messages_of, replies_of}
-use Rattle.quorum_model.specs.Growth.{last_of}
-use Rattle.quorum_model.specs.Shown.{IsFenced, ShowsLog, WasAskedFor}
-use Rattle.quorum_model.specs.World.{Acknowledged, Envelope, Replied, World}
+use Rattle.quorum_model.specs.Acknowledging.{done_by_route}
 use Rattle.quorum_walk.proofs.Lists.{all_map}
-use Rattle.std.proofs.Common.{Bool, List, None, Some, [], ap, arith, cond, false, length, refl, true, ℕ, ◌++◌, ◌<◌, ◌∙◌, ◌∷◌, ◌≡◌, ◌≤◌}
+use Rattle.std.proofs.Common.{Bool, List, None, Some, [], ap, arith, cond, false, length, option_map, refl, true, ℕ, ◌++◌, ◌<◌, ◌∙◌, ◌∷◌, ◌≡◌, ◌≤◌}
 use Rattle.std.proofs.lemmas.List.Elements.{filter_map-append}
-use Rattle.std.specs.List.{AllByRecursion, cons_option}
-use Rattle.std.specs.Option.{option_map}
+use Rattle.std.specs.List.{cons_option}
 
 -- ---- what shows nothing
 

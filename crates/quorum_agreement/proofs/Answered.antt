@@ -1,37 +1,19 @@
 -- For which command a leader's value is, and which acknowledgement a ROUTE or a session's answer has.
-use Rattle.mon_bytes.specs.declared.command.Command.{Command}
-use Rattle.mon_msg.specs.Protocol.Proposing.{asked_of}
-use Rattle.mon_msg.specs.Protocol.Readings.{epoch_of, readings_of}
-use Rattle.mon_msg.specs.Protocol.Value.{service_of}
-use Rattle.mon_msg.specs.declared.paxos.Leader.{Leader}
+use Rattle.law_names.proofs.Runs.{Acknowledged, Asked, DoneIsAnswered, Envelope, Replied, World, done_in, incremental_of, last_of, made_by, messages_of, replies_of}
+use Rattle.law_names.proofs.Table.{AllByRecursion, Body, Command, Contains, Leader, Me, Op, Origin, Reply, Sent, Service, Session, Store, asked_of, epoch_of, readings_of, service_of}
 use Rattle.mon_msg.specs.declared.plan.Origin.TheVariants as origin
-use Rattle.mon_msg.specs.declared.plan.Origin.{Origin}
 use Rattle.mon_msg.specs.declared.plan.Sent.TheVariants as sent
-use Rattle.mon_msg.specs.declared.plan.Sent.{Sent}
-use Rattle.mon_msg.specs.declared.view.Me.{Me}
-use Rattle.mon_tx.specs.Map.{Store}
-use Rattle.mon_tx.specs.declared.op.Op.{Op}
 use Rattle.mon_wire.specs.declared.body.Body.TheVariants as body
-use Rattle.mon_wire.specs.declared.body.Body.{Body}
 use Rattle.mon_wire.specs.declared.reply.Reply.TheVariants as reply
-use Rattle.mon_wire.specs.declared.reply.Reply.{Reply}
-use Rattle.mon_wire.specs.declared.request.Service.{Service}
-use Rattle.mon_wire.specs.declared.request.Session.{Session}
 use Rattle.quorum_agreement.proofs.Acknowledging.{NoShow}
 use Rattle.quorum_agreement.proofs.Answering.{AllPlain, IsPlain, IsPlainBody, IsPlainReply}
 use Rattle.quorum_history.proofs.History.{Ghost, Handed, asking, hand}
 use Rattle.quorum_history.proofs.Holds.{HasSource}
 use Rattle.quorum_laws.proofs.Invariant.{Further}
 use Rattle.quorum_laws.specs.Commands.{WasAsked}
-use Rattle.quorum_model.specs.Acknowledging.{done_in, incremental_in}
-use Rattle.quorum_model.specs.Clients.{incremental_of, made_by, messages_of, replies_of}
-use Rattle.quorum_model.specs.Growth.{last_of}
-use Rattle.quorum_model.specs.Kept.{DoneIsAnswered}
-use Rattle.quorum_model.specs.World.{Acknowledged, Asked, Envelope, Replied, World}
+use Rattle.quorum_model.specs.Acknowledging.{incremental_in}
 use Rattle.quorum_walk.proofs.Lists.{all_map}
-use Rattle.std.proofs.Common.{List, None, Option, Some, [], ap, arith, refl, ℕ, ◌∙◌, ◌∷◌, ◌≡◌, ◌≤◌}
-use Rattle.std.specs.List.{AllByRecursion, Contains}
-use Rattle.std.specs.Option.{option_map}
+use Rattle.std.proofs.Common.{List, None, Option, Some, [], ap, arith, option_map, refl, ℕ, ◌∙◌, ◌∷◌, ◌≡◌, ◌≤◌}
 
 -- ---- whose command it is
 

@@ -1,70 +1,27 @@
 -- What a monitor replies in an event, and what a leader has under way after it. Nothing is acknowledged unless a leader
 -- commits a value, and nothing is shown but what the store holds.
-use Rattle.election_rules.specs.Ranking.{allows}
+use Rattle.law_names.proofs.Table.{AllByRecursion, Asked, Body, Change, Command, CommandRefused, Course, Entry, Found, Input, Last, Leader, Learn, MOST_WAITING, Me, Op, Origin, Phase, Promise, Readings, Reply, Request, Sent, Service, Session, State, Unmark, Waiting, adopt, all_accepted, allows, answer_any, answer_to, answers_to, are_within, asked_of, at_rest, be_active, begin, begin_alone, begin_found, begin_with, bootstrap, change, collect, collect_with, commit, commits_to, commits_with, disarm, elect, epoch_of, extend, flat_map, full_sync, has, in_next_epoch, in_odd_epoch, is_alone, is_even, is_leading, is_member, is_one_of, is_peon, is_standing, leader_is, leads_in, learn, lease_of, members, message_to, missed, news, news_from, next_even, next_number, of_leader, of_member, only, or_zero, others, own_table, promise_of, react, readable, recent_sync, refusal, reign, reply_to, same_phase, send_each, settle, shown, since, start, too_long, value, win, with_rank, ◌▸◌}
 use Rattle.mon_bytes.specs.declared.command.Command.TheVariants as command
-use Rattle.mon_bytes.specs.declared.command.Command.{Command}
 use Rattle.mon_bytes.specs.declared.command.CommandRefused.TheVariants as why
-use Rattle.mon_bytes.specs.declared.command.CommandRefused.{CommandRefused}
-use Rattle.mon_bytes.specs.declared.entry.Entry.{Entry}
 use Rattle.mon_lease.specs.Lease as lease
-use Rattle.mon_lease.specs.Lease.{readable}
-use Rattle.mon_msg.specs.Protocol.Changes.{Change, Last, Learn, Promise, Unmark}
-use Rattle.mon_msg.specs.Protocol.Collecting.{begin_found, collect, collect_with, commits_to, commits_with, missed, reign, settle}
-use Rattle.mon_msg.specs.Protocol.Commands.{too_long}
-use Rattle.mon_msg.specs.Protocol.Course.{Course, change, disarm, leader_is, leads_in, ◌▸◌}
-use Rattle.mon_msg.specs.Protocol.Entering.{adopt, bootstrap, elect, in_next_epoch, in_odd_epoch, is_even, next_even, own_table, win}
-use Rattle.mon_msg.specs.Protocol.Leader.{all_accepted, is_one_of, of_member}
-use Rattle.mon_msg.specs.Protocol.Leading.{be_active, begin, begin_alone, begin_with, commit, extend, is_alone}
-use Rattle.mon_msg.specs.Protocol.Learning.{learn, news, news_from}
-use Rattle.mon_msg.specs.Protocol.Peon.{of_leader}
-use Rattle.mon_msg.specs.Protocol.Phases.{is_leading, is_member, is_peon, same_phase}
-use Rattle.mon_msg.specs.Protocol.Proposing.{asked_of, refusal}
-use Rattle.mon_msg.specs.Protocol.Readings.{Readings, epoch_of, or_zero, promise_of}
-use Rattle.mon_msg.specs.Protocol.Reads.{is_standing, shown, since}
-use Rattle.mon_msg.specs.Protocol.Sending.{answer_any, answer_to, answers_to, members, message_to, others, reply_to, send_each}
-use Rattle.mon_msg.specs.Protocol.Sets.{are_within, only}
-use Rattle.mon_msg.specs.Protocol.State.{State, lease_of}
-use Rattle.mon_msg.specs.Protocol.Synchronizing.{full_sync, recent_sync}
-use Rattle.mon_msg.specs.Protocol.Table.{at_rest, react, start}
-use Rattle.mon_msg.specs.Protocol.Value.{value}
-use Rattle.mon_msg.specs.declared.clients.Asked.{Asked}
-use Rattle.mon_msg.specs.declared.clients.Waiting.{Waiting}
 use Rattle.mon_msg.specs.declared.input.Input.TheVariants as input
-use Rattle.mon_msg.specs.declared.input.Input.{Input}
-use Rattle.mon_msg.specs.declared.limits.TheConstants.{MOST_WAITING}
-use Rattle.mon_msg.specs.declared.paxos.Found.{Found}
-use Rattle.mon_msg.specs.declared.paxos.Leader.{Leader}
 use Rattle.mon_msg.specs.declared.paxos.LeaderStage.TheVariants as stage
 use Rattle.mon_msg.specs.declared.plan.Origin.TheVariants as origin
-use Rattle.mon_msg.specs.declared.plan.Origin.{Origin}
 use Rattle.mon_msg.specs.declared.plan.Sent.TheVariants as sent
-use Rattle.mon_msg.specs.declared.plan.Sent.{Sent}
-use Rattle.mon_msg.specs.declared.view.Me.{Me}
-use Rattle.mon_tx.specs.declared.op.Op.{Op}
-use Rattle.mon_types.specs.Proposal.{next_number}
-use Rattle.mon_types.specs.Ranks.{has, with_rank}
 use Rattle.mon_types.specs.declared.names.Which.TheVariants as which
 use Rattle.mon_wire.specs.declared.body.Body.TheVariants as body
-use Rattle.mon_wire.specs.declared.body.Body.{Body}
 use Rattle.mon_wire.specs.declared.phase.Phase.TheVariants as phase
-use Rattle.mon_wire.specs.declared.phase.Phase.{Phase}
 use Rattle.mon_wire.specs.declared.phase.Timer.TheVariants as timer
 use Rattle.mon_wire.specs.declared.reply.Reply.TheVariants as reply
-use Rattle.mon_wire.specs.declared.reply.Reply.{Reply}
 use Rattle.mon_wire.specs.declared.request.Request.TheVariants as request
-use Rattle.mon_wire.specs.declared.request.Request.{Request}
-use Rattle.mon_wire.specs.declared.request.Service.{Service}
-use Rattle.mon_wire.specs.declared.request.Session.{Session}
 use Rattle.quorum_agreement.proofs.Accepting.{begun, begun_is, then_map}
 use Rattle.quorum_agreement.proofs.Lone.{active_is}
 use Rattle.quorum_history.proofs.Phases.{no, peon_is_peon}
 use Rattle.quorum_walk.proofs.Learning.{LearnedOne, Same, learns, learns_one}
 use Rattle.quorum_walk.proofs.Lists.{all_append, all_flat_map, all_map, all_of}
 use Rattle.quorum_walk.proofs.Walk.{Then, and_then, and_three, by_test, done, where_fits}
-use Rattle.std.proofs.Common.{Bool, List, None, Ok, Option, Some, [], ap, eqb, false, inl, inr, ltb, map, max, not, refl, subst, suc, sym, true, ℕ, ◌&&◌, ◌++◌, ◌||◌, ◌∙◌, ◌∷◌, ◌≡◌, ◌⊎◌}
+use Rattle.std.proofs.Common.{Bool, List, None, Ok, Option, Some, [], ap, eqb, false, filter, inl, inr, ltb, map, max, not, refl, slice_index_or, subst, suc, sym, true, ℕ, ◌&&◌, ◌++◌, ◌||◌, ◌∙◌, ◌∷◌, ◌≡◌, ◌⊎◌}
 use Rattle.std.proofs.lemmas.Bool.{and_parts, cond_both, eqb-true, not-false, or_parts}
-use Rattle.std.specs.List.{AllByRecursion, filter, flat_map}
-use Rattle.std.specs.Prelude.{slice_index_or}
 use Rattle.table_walk.proofs.Acts.{Acts, accepted_by}
 use Rattle.table_walk.proofs.Steps.{CommandOf, FoundOf, HeardFrom, InHand, MayAnswer, MayCommit, MaySay, MaySend, MayWrite, Nothing, ReadOf, Steps, ValueOf, brought, busy_queue, busy_sessions, leading, not_readable, origin_of, refused, shows_map, shows_since, too_much, unread, unserved}
 use Rattle.table_walk.proofs.Table.{walked}

@@ -1,13 +1,11 @@
 -- The invariant holds before the first event.
+use Rattle.law_names.proofs.Runs.{Monitors, first_world}
+use Rattle.law_names.proofs.Table.{booting, empty}
 use Rattle.log_copies.proofs.Standing.{Agrees}
 use Rattle.log_model.proofs.Holds.{holds_nothing}
-use Rattle.mon_msg.specs.Protocol.State.{booting}
 use Rattle.quorum_agreement.proofs.Invariant.{LogHolds}
 use Rattle.quorum_laws.proofs.Beginning as beginning
-use Rattle.quorum_model.specs.Monitors.{Monitors}
-use Rattle.quorum_model.specs.World.{first_world}
 use Rattle.std.proofs.Common.{[], arith, inl, ℕ}
-use Rattle.std.specs.FinMap.{empty}
 
 nothing_yet : (i : ℕ) → Agrees [] empty (booting i)
 nothing_yet i = inl (record { last = 0; versions = record { within = omega arith; last = (let h = holds_nothing in h.last); folded = (let h = holds_nothing in h.folded) }; unmarked = beginning.unmarked_at_first })

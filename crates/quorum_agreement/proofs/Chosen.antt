@@ -1,13 +1,9 @@
 -- What is chosen, and a log of what was chosen.
-use Rattle.log_model.proofs.Logs.{entry_push, entry_stays, log_prefix_push}
+use Rattle.law_names.proofs.Runs.{AllValues}
+use Rattle.law_names.proofs.Table.{Op, entry, has, is_majority, text, transaction_in}
 use Rattle.log_model.proofs.Lists.{length_push}
+use Rattle.log_model.proofs.Logs.{entry_push, entry_stays, log_prefix_push}
 use Rattle.log_model.proofs.Records.{IsVersion, read_version}
-use Rattle.log_model.specs.LogOfValues.{AllValues}
-use Rattle.mon_msg.specs.Fold.{entry}
-use Rattle.mon_msg.specs.Protocol.Records.{transaction_in}
-use Rattle.mon_tx.specs.Text.{text}
-use Rattle.mon_tx.specs.declared.op.Op.{Op}
-use Rattle.mon_types.specs.Ranks.{has, is_majority}
 use Rattle.quorum_history.proofs.History.{Accepted, Ghost, TriplesHold}
 use Rattle.quorum_walk.proofs.Ranks.{Below, majorities}
 use Rattle.std.proofs.Common.{Bool, List, Some, [], ap, arith, false, inl, inr, length, refl, subst, suc, sym, true, ℕ, ◌++◌, ◌<◌, ◌^◌, ◌∙◌, ◌∷◌, ◌≡◌, ◌≤◌, ◌⊎◌}

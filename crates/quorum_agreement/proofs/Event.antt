@@ -1,21 +1,12 @@
 -- What one event makes of the log, given what a monitor's history says of that monitor.
-use Rattle.log_copies.proofs.Standing.{Agrees, BodyStands, InputMatches, TakesCopy, crashed}
+use Rattle.law_names.proofs.Runs.{Asked, Keeps, Monitors, World}
+use Rattle.law_names.proofs.Table.{Body, Course, Input, Me, Op, Readings, Store, Vote, booting, react, readings_of, shared_entries}
 use Rattle.log_copies.proofs.Matching.{monitor_keeps, read_last}
+use Rattle.log_copies.proofs.Standing.{Agrees, BodyStands, InputMatches, TakesCopy, crashed}
 use Rattle.log_copies.proofs.Unmarked.{OnLog, Situated}
 use Rattle.log_copies.specs.Synchronizing.{written}
-use Rattle.log_model.specs.Windows.{Keeps}
-use Rattle.mon_msg.specs.Protocol.Changes.{Vote}
-use Rattle.mon_msg.specs.Protocol.Course.{Course}
-use Rattle.mon_msg.specs.Protocol.Readings.{Readings, readings_of, shared_entries}
-use Rattle.mon_msg.specs.Protocol.State.{booting}
-use Rattle.mon_msg.specs.Protocol.Table.{react}
 use Rattle.mon_msg.specs.declared.input.Input.TheVariants as input
-use Rattle.mon_msg.specs.declared.input.Input.{Input}
-use Rattle.mon_msg.specs.declared.view.Me.{Me}
-use Rattle.mon_tx.specs.Map.{Store}
-use Rattle.mon_tx.specs.declared.op.Op.{Op}
 use Rattle.mon_wire.specs.declared.body.Body.TheVariants as body
-use Rattle.mon_wire.specs.declared.body.Body.{Body}
 use Rattle.quorum_agreement.proofs.Invariant.{EnvelopeMatches, OfLog, remembers}
 use Rattle.quorum_agreement.proofs.Made.{MadeOver}
 use Rattle.quorum_agreement.proofs.Premises.{ack_others, elects_others, last_follows, leads_others, place_reached, recent}
@@ -25,9 +16,7 @@ use Rattle.quorum_history.proofs.Rows.{InputHolds}
 use Rattle.quorum_history.proofs.RowsClients.{Makes}
 use Rattle.quorum_laws.proofs.Events.{Does, ToldOf, ended, good_with, member_of, same, shares}
 use Rattle.quorum_laws.proofs.Invariant.{InvWith}
-use Rattle.quorum_model.specs.Monitors.{Monitors}
-use Rattle.quorum_model.specs.World.{Asked, World}
-use Rattle.quorum_walk.proofs.FineCourses.{begun, Ended, Val}
+use Rattle.quorum_walk.proofs.FineCourses.{Ended, Val, begun}
 use Rattle.quorum_walk.proofs.Lists.{Among}
 use Rattle.std.proofs.Common.{List, Ok, Some, ap, arith, false, inl, inr, length, refl, subst, sym, true, ℕ, ◌<◌, ◌∙◌, ◌≡◌, ◌≤◌, ◌⊎◌}
 use Rattle.std.proofs.lemmas.Bool.{false≢true, ltb-true}

@@ -1,8 +1,7 @@
 -- The laws of the one log, of any number of monitors.
-use Rattle.log_model.specs.LogOfValues.{AllValues}
+use Rattle.law_names.proofs.Runs.{Agree, AllFit, AllValues, Envelope, Event, Monitors, is_marked, run}
+use Rattle.law_names.proofs.Table.{Contains, entry}
 use Rattle.log_model.proofs.Lists.{of_all}
-use Rattle.mon_kv.specs.Readers.{is_marked}
-use Rattle.mon_msg.specs.Fold.{entry}
 use Rattle.quorum_agreement.proofs.Invariant.{EnvelopeMatches}
 use Rattle.quorum_agreement.proofs.Result.{OneLog, agree, copying as copies, entries_chosen, lone_log, marked_if_full, several_log, tells}
 use Rattle.quorum_agreement.proofs.Runs.{lone_grow, lone_run, several_grow, several_run}
@@ -11,14 +10,8 @@ use Rattle.quorum_agreement.specs.Growing.{GrowsBy}
 use Rattle.quorum_agreement.specs.Matching.{MatchesLog}
 use Rattle.quorum_laws.proofs.Events.{all_runs}
 use Rattle.quorum_laws.specs.Values.{IsChosen}
-use Rattle.quorum_model.specs.Agree.{Agree}
-use Rattle.quorum_model.specs.Events.{AllFit}
-use Rattle.quorum_model.specs.Monitors.{Monitors}
-use Rattle.quorum_model.specs.Runs.{run}
-use Rattle.quorum_model.specs.World.{Envelope, Event}
 use Rattle.std.proofs.Common.{List, arith, inl, inr, length, suc, sym, true, ℕ, ◌++◌, ◌<◌, ◌^◌, ◌≡◌, ◌≤◌, ◌⊎◌}
 use Rattle.std.proofs.lemmas.Bool.{cases_order}
-use Rattle.std.specs.List.{Contains}
 
 one_log : (ms : Monitors) (events : List Event) → AllFit ms.count events → OneLog ms (run ms events)
 one_log ms events F = by (cases_order 1 ms.count)

@@ -1,10 +1,8 @@
 -- The world's log is the one that grows if a chosen value is committed.
-use Rattle.mon_msg.specs.Protocol.Readings.{readings_of}
-use Rattle.mon_tx.specs.Keys.{cell, number}
-use Rattle.mon_tx.specs.Map.{Store}
+use Rattle.law_names.proofs.Runs.{grown, last_of, records_after}
+use Rattle.law_names.proofs.Table.{Store, cell, number, readings_of}
 use Rattle.mon_tx.specs.declared.key.Area.TheVariants as area
 use Rattle.mon_tx.specs.declared.key.Key.TheVariants as key
-use Rattle.quorum_model.specs.Growth.{grown, last_of, records_after}
 use Rattle.std.proofs.Common.{List, Some, [], ap, append-nil, arith, cond, false, length, refl, suc, true, unwrap_or, ℕ, ◌++◌, ◌-◌, ◌∙◌, ◌∷◌, ◌≡◌, ◌≤◌, ◌⊎◌}
 
 -- a marked monitor adds nothing

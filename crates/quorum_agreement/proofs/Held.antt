@@ -1,21 +1,13 @@
 -- What is known of each version that was acknowledged, that it lasts, and what follows: every later active leader has it, and nobody shows
 -- less in the same epoch.
+use Rattle.law_names.proofs.Runs.{Acknowledged, Asked, IsKeptIn, Monitors, World, is_active, last_of}
+use Rattle.law_names.proofs.Table.{Contains, Leader, Phase, State, Store, entry, epoch_of, has, is_leading, is_member, is_peon, lease_of, ops_in, put_in, readable, readings_of, stands, votes}
 use Rattle.log_model.proofs.Logs.{IsPrefixOf, entry_stays}
-use Rattle.mon_lease.specs.Lease.{readable, stands}
-use Rattle.mon_msg.specs.Fold.{entry, put_in}
-use Rattle.mon_msg.specs.Protocol.Phases.{is_leading, is_member, is_peon, votes}
-use Rattle.mon_msg.specs.Protocol.Readings.{epoch_of, readings_of}
-use Rattle.mon_msg.specs.Protocol.State.{State, lease_of}
-use Rattle.mon_msg.specs.declared.paxos.Leader.{Leader}
-use Rattle.mon_tx.specs.Decode.{ops_in}
-use Rattle.mon_tx.specs.Map.{Store}
-use Rattle.mon_types.specs.Ranks.{has}
 use Rattle.mon_wire.specs.declared.phase.Phase.TheVariants as phase
-use Rattle.mon_wire.specs.declared.phase.Phase.{Phase}
+use Rattle.quorum_agreement.proofs.Result.{there_marked}
 use Rattle.quorum_history.proofs.History.{Entered, Ghost, RolesHold}
 use Rattle.quorum_history.proofs.Holds.{Core, InPhase, LeadsIn, core_of, epoch_in, level_in}
 use Rattle.quorum_history.proofs.Numbers.{level_is}
-use Rattle.quorum_agreement.proofs.Result.{there_marked}
 use Rattle.quorum_history.proofs.Phases.{no, votes_unmarked}
 use Rattle.quorum_laws.proofs.Chosen.{leaders_know, stays_nothing}
 use Rattle.quorum_laws.proofs.Invariant.{Further, InvOf, WasActive}
@@ -24,17 +16,11 @@ use Rattle.quorum_laws.proofs.Reading.{accepted_as, state_holds}
 use Rattle.quorum_laws.proofs.Whole.{was_active}
 use Rattle.quorum_laws.specs.Accepting.{HasAccepted, IsMajorityOf, readings_at}
 use Rattle.quorum_laws.specs.Values.{AcceptedNothing, has_heard}
-use Rattle.quorum_model.specs.Growth.{last_of}
-use Rattle.quorum_model.specs.Happens.{is_active}
-use Rattle.quorum_model.specs.Kept.{IsKeptIn, LeaderHas}
-use Rattle.quorum_model.specs.Monitors.{Monitors}
-use Rattle.quorum_model.specs.World.{Acknowledged, Asked, World}
+use Rattle.quorum_model.specs.Kept.{LeaderHas}
 use Rattle.quorum_walk.proofs.Ranks.{majorities}
 use Rattle.quorum_walk.proofs.Sparing.{own_of}
-use Rattle.std.proofs.Common.{Bool, List, None, Option, Some, ap, arith, cond, eqb, false, inl, inr, length, ltb, refl, subst, sym, true, ℕ, ◌%◌, ◌<◌, ◌||◌, ◌∙◌, ◌≡◌, ◌≤◌, ◌⊎◌}
+use Rattle.std.proofs.Common.{Bool, List, None, Option, Some, ap, arith, cond, eqb, false, inl, inr, is_some, length, ltb, refl, subst, sym, true, ℕ, ◌%◌, ◌<◌, ◌||◌, ◌∙◌, ◌≡◌, ◌≤◌, ◌⊎◌}
 use Rattle.std.proofs.lemmas.Bool.{and_parts, cases_lt, eqb-true, false≢true, or_cases}
-use Rattle.std.specs.List.{Contains}
-use Rattle.std.specs.Prelude.{is_some}
 
 -- A leader that isn't active yet gave no lease, and nobody waits for the value that it proposes again.
 abbrev pub Still : Phase → Leader → Type 0

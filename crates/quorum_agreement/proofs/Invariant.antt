@@ -1,20 +1,15 @@
 -- What holds of several monitors and of their one log after every event.
+use Rattle.law_names.proofs.Runs.{AllValues, Asked, Envelope, Monitors, World, messages_of}
+use Rattle.law_names.proofs.Table.{AllByRecursion, Sent, State, booting}
 use Rattle.log_copies.proofs.Sending.{AllMatch, BodyMatches}
 use Rattle.log_copies.proofs.Standing.{Agrees, body_stays}
 use Rattle.log_model.proofs.Logs.{IsPrefixOf}
-use Rattle.log_model.specs.LogOfValues.{AllValues}
-use Rattle.mon_msg.specs.Protocol.State.{State, booting}
 use Rattle.mon_msg.specs.declared.plan.Sent.TheVariants as sent
-use Rattle.mon_msg.specs.declared.plan.Sent.{Sent}
 use Rattle.quorum_agreement.proofs.Chosen.{AllChosen}
 use Rattle.quorum_agreement.proofs.Made.{AllAsked, AllMade}
 use Rattle.quorum_laws.proofs.Invariant.{InvOf, InvWith}
-use Rattle.quorum_model.specs.Clients.{messages_of}
-use Rattle.quorum_model.specs.Monitors.{Monitors}
-use Rattle.quorum_model.specs.World.{Asked, Envelope, World}
 use Rattle.quorum_walk.proofs.Lists.{all_map}
 use Rattle.std.proofs.Common.{List, None, Option, Some, [], length, ℕ, ◌<◌, ◌^◌, ◌∷◌, ◌≤◌}
-use Rattle.std.specs.List.{AllByRecursion}
 
 -- what a monitor remembers, or will when it starts
 abbrev pub remembers : ℕ → Option State → State

@@ -1,9 +1,6 @@
 -- Which values were accepted is read off the kept transactions, so that no history goes from one event to the next.
-use Rattle.mon_msg.specs.Joined.{joined}
-use Rattle.mon_msg.specs.Protocol.Changes.{Change, Vote, encoded}
-use Rattle.mon_msg.specs.Protocol.Records.{transaction_in}
-use Rattle.mon_tx.specs.Text.{text}
-use Rattle.mon_tx.specs.declared.op.Op.{Op}
+use Rattle.law_names.proofs.Runs.{Asked, put_at}
+use Rattle.law_names.proofs.Table.{AllByRecursion, Change, Op, Vote, encoded, joined, text, transaction_in}
 use Rattle.quorum_agreement.proofs.Chosen.{AllChosen}
 use Rattle.quorum_agreement.proofs.Made.{AllMade, MadeOver}
 use Rattle.quorum_history.proofs.History.{Accepted, Ghost, TriplesHold}
@@ -11,14 +8,11 @@ use Rattle.quorum_laws.proofs.Invariant.{TriplesKept}
 use Rattle.quorum_laws.proofs.Reading.{among_of}
 use Rattle.quorum_laws.proofs.Voting.{accepts_vote}
 use Rattle.quorum_laws.specs.Accepting.{AcceptedIn, Accepts}
-use Rattle.quorum_model.specs.Happens.{put_at}
-use Rattle.quorum_model.specs.World.{Asked}
 use Rattle.quorum_walk.proofs.FineCourses.{Fit, Shaped, Val}
 use Rattle.quorum_walk.proofs.Lists.{Among}
 use Rattle.std.proofs.Common.{Bool, List, Some, [], ap, cond, eqb, false, inl, inr, refl, subst, suc, sym, true, ℕ, ◌++◌, ◌∙◌, ◌∷◌, ◌≡◌, ◌⊎◌}
 use Rattle.std.proofs.lemmas.Bool.{eqb-true}
 use Rattle.std.proofs.lemmas.List.Elements.{Contains-append_cases, Contains-append_left}
-use Rattle.std.specs.List.{AllByRecursion}
 
 -- Two histories, of which the later has the same transactions but for those that were added.
 module _ (n : ℕ) (g h : Ghost) (before after : ℕ → List (List Op)) (T : TriplesHold n g.signs g.accepts) (U : TriplesHold n h.signs h.accepts) (K : TriplesKept g before) (L : TriplesKept h after) where

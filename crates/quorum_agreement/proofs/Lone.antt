@@ -1,69 +1,24 @@
 -- A monitor that is alone in its map changes its own numbers, or commits the value of a command that was asked. It
 -- never hears a message, and says nothing of the log.
+use Rattle.law_names.proofs.Table.{AllByRecursion, Body, Boot, Change, Command, CommandRefused, Course, Entry, Epoch, Found, Input, Last, Learn, MOST_WAITING, Me, Message, Numbers, Op, Origin, Phase, Readings, Reply, Request, Sent, Session, State, SyncStage, Timer, Waiting, allows, answer, answer_any, answers_to, arm_if, ask, asked_of, at_leader, at_peon, at_rest, be_active, before_start, begin, begin_alone, begin_found, begin_made, bootstrap, catch_up, change, change_if, collect, collect_with, commits_to, deliver, disarm, elect, election_ends, elector_is, end_of, epoch_of, extend, first_elector, flat_map, forget_clients, found_as, has, has_queue, hear_client, in_next_epoch, in_odd_epoch, in_phase, is_allowed, is_alone, is_empty, is_even, is_heard, is_leading, is_majority, is_member, is_peon, is_standing, is_too_long, leader_is, leads_in, learn, lease_of, may_propose, measure, members, message_to, next_even, next_number, only, or_zero, others, own_table, pending, pending_of, ping, prober_is, promise_of, propose, propose_due, propose_first, propose_next, queue_up, range_with_len, react, read, readable, record_at, refusal, reign, renew, replay_step, reply_to, running, same_phase, scores_count, service_last, service_of, settle, shown, since, start, step_in, timer_comes, too_long, value, wait_under, win, ◌▸◌}
 use Rattle.log_copies.proofs.Sending.{BodyMatches}
 use Rattle.log_copies.specs.Versions.{IsOwnChange}
-use Rattle.election_rules.specs.Ranking.{allows}
 use Rattle.mon_bytes.specs.declared.command.Command.TheVariants as command
-use Rattle.mon_bytes.specs.declared.command.Command.{Command}
 use Rattle.mon_bytes.specs.declared.command.CommandRefused.TheVariants as refused
-use Rattle.mon_bytes.specs.declared.command.CommandRefused.{CommandRefused}
-use Rattle.mon_bytes.specs.declared.entry.Entry.{Entry}
-use Rattle.mon_lease.specs.Lease.{readable}
-use Rattle.mon_msg.specs.Protocol.Changes.{Boot, Change, Epoch, Last, Learn, Numbers}
-use Rattle.mon_msg.specs.Protocol.Collecting.{begin_found, catch_up, collect, collect_with, commits_to, reign, settle}
-use Rattle.mon_msg.specs.Protocol.Commands.{ask, at_leader, at_peon, is_too_long, may_propose, propose_due, queue_up, too_long, wait_under}
-use Rattle.mon_msg.specs.Protocol.Course.{Course, arm_if, change, change_if, disarm, elector_is, forget_clients, in_phase, leader_is, leads_in, prober_is, ◌▸◌}
-use Rattle.mon_msg.specs.Protocol.Elections.{election_ends, is_allowed}
-use Rattle.mon_msg.specs.Protocol.Entering.{bootstrap, elect, in_next_epoch, in_odd_epoch, is_even, next_even, own_table, scores_count, win}
-use Rattle.mon_msg.specs.Protocol.Hearing.{deliver, has_fitting_table, hear_client, is_heard}
-use Rattle.mon_msg.specs.Protocol.Leader.{renew}
-use Rattle.mon_msg.specs.Protocol.Leading.{be_active, begin, begin_alone, extend, has_queue, is_alone}
-use Rattle.mon_msg.specs.Protocol.Learning.{learn}
-use Rattle.mon_msg.specs.Protocol.Phases.{is_leading, is_member, is_peon, same_phase}
-use Rattle.mon_msg.specs.Protocol.Pings.{measure, ping}
-use Rattle.mon_msg.specs.Protocol.Proposing.{asked_of, begin_made, propose, propose_first, propose_next, refusal}
-use Rattle.mon_msg.specs.Protocol.Readings.{Readings, epoch_of, or_zero, promise_of}
-use Rattle.mon_msg.specs.Protocol.Reads.{is_standing, read, shown, since}
-use Rattle.mon_msg.specs.Protocol.Records.{found_as, pending, pending_of, record_at}
-use Rattle.mon_msg.specs.Protocol.Replay.{replay_step, step_in}
-use Rattle.mon_msg.specs.Protocol.Sending.{answer, answer_any, answers_to, members, message_to, others, reply_to}
-use Rattle.mon_msg.specs.Protocol.Services.{service_last}
-use Rattle.mon_msg.specs.Protocol.Sets.{is_empty, only}
-use Rattle.mon_msg.specs.Protocol.State.{State, lease_of}
-use Rattle.mon_msg.specs.Protocol.Table.{at_rest, before_start, first_elector, react, running, start, timer_comes}
-use Rattle.mon_msg.specs.Protocol.Timers.{end_of}
-use Rattle.mon_msg.specs.Protocol.Value.{service_of, value}
-use Rattle.mon_msg.specs.declared.clients.Waiting.{Waiting}
+use Rattle.mon_msg.specs.Protocol.Hearing.{has_fitting_table}
 use Rattle.mon_msg.specs.declared.input.Input.TheVariants as input
-use Rattle.mon_msg.specs.declared.input.Input.{Input}
-use Rattle.mon_msg.specs.declared.paxos.Found.{Found}
 use Rattle.mon_msg.specs.declared.paxos.LeaderStage.TheVariants as stage
 use Rattle.mon_msg.specs.declared.plan.Origin.TheVariants as origin
-use Rattle.mon_msg.specs.declared.plan.Origin.{Origin}
 use Rattle.mon_msg.specs.declared.plan.Sent.TheVariants as sent
-use Rattle.mon_msg.specs.declared.plan.Sent.{Sent}
 use Rattle.mon_msg.specs.declared.synchronization.SyncStage.TheVariants as sync
-use Rattle.mon_msg.specs.declared.synchronization.SyncStage.{SyncStage}
-use Rattle.mon_msg.specs.declared.view.Me.{Me}
-use Rattle.mon_msg.specs.declared.limits.TheConstants.{MOST_WAITING}
-use Rattle.mon_tx.specs.declared.op.Op.{Op}
-use Rattle.mon_types.specs.Proposal.{next_number}
-use Rattle.mon_types.specs.Ranks.{has, is_majority}
 use Rattle.mon_types.specs.declared.names.Which.TheVariants as which
 use Rattle.mon_wire.specs.declared.body.Body.TheVariants as body
-use Rattle.mon_wire.specs.declared.body.Body.{Body}
-use Rattle.mon_wire.specs.declared.message.Message.{Message}
 use Rattle.mon_wire.specs.declared.phase.Phase.TheVariants as phase
-use Rattle.mon_wire.specs.declared.phase.Phase.{Phase}
 use Rattle.mon_wire.specs.declared.phase.Timer.TheVariants as timer
-use Rattle.mon_wire.specs.declared.phase.Timer.{Timer}
 use Rattle.mon_wire.specs.declared.reply.Reply.TheVariants as reply
-use Rattle.mon_wire.specs.declared.reply.Reply.{Reply}
 use Rattle.mon_wire.specs.declared.request.Request.TheVariants as request
-use Rattle.mon_wire.specs.declared.request.Request.{Request}
-use Rattle.mon_wire.specs.declared.request.Session.{Session}
-use Rattle.quorum_history.proofs.History.{Asks, Ghost, Glob}
 use Rattle.quorum_agreement.proofs.Premises.{requests_in}
+use Rattle.quorum_history.proofs.History.{Asks, Ghost, Glob}
 use Rattle.quorum_history.proofs.Holds.{HasSource, InPhase, StageHolds, Waits, core_of, epoch_in}
 use Rattle.quorum_history.proofs.Phases.{no}
 use Rattle.quorum_history.proofs.Rows.{InputHolds}
@@ -71,10 +26,8 @@ use Rattle.quorum_history.proofs.RowsClients.{IsAsked}
 use Rattle.quorum_walk.proofs.Lists.{all_append}
 use Rattle.quorum_walk.proofs.Sparing.{own_of}
 use Rattle.quorum_walk.proofs.Walk.{Then, and_then, and_three, by_test, done, where_fits}
-use Rattle.std.proofs.Common.{Bool, Err, List, None, Ok, Option, Result, Some, [], ap, arith, cond, eqb, false, inl, inr, leb, length, ltb, map, max, not, refl, subst, suc, sym, true, ℕ, ◌&&◌, ◌+◌, ◌++◌, ◌<◌, ◌^◌, ◌∙◌, ◌∷◌, ◌≡◌, ◌≤◌, ◌⊎◌}
+use Rattle.std.proofs.Common.{Bool, Err, List, None, Ok, Option, Result, Some, [], ap, arith, cond, eqb, false, filter, inl, inr, is_some, leb, length, ltb, map, max, not, refl, subst, suc, sym, true, ℕ, ◌&&◌, ◌++◌, ◌+◌, ◌<◌, ◌^◌, ◌∙◌, ◌∷◌, ◌≡◌, ◌≤◌, ◌⊎◌}
 use Rattle.std.proofs.lemmas.Bool.{and_parts, eqb-false, ne_eqb, not-true}
-use Rattle.std.specs.List.{AllByRecursion, filter, flat_map, range_with_len}
-use Rattle.std.specs.Prelude.{is_some}
 
 -- a quorum of a map with one monitor has no other monitor
 nobody : (q : List Bool) (r n : ℕ) → n ≡ 1 → r < n → filter (λ k. has q k && not (eqb k r)) (range_with_len 0 n) ≡ []

@@ -1,27 +1,18 @@
 -- A monitor that is alone in its map keeps the log, whatever the events and the rule.
+use Rattle.law_names.proofs.Runs.{AllValues, Asked, Keeps, Monitors, Plain, World, first_world, grown, kept_only, log_from, lost, messages_of, moved, put_at, unmoved, with_asked}
+use Rattle.law_names.proofs.Table.{AllByRecursion, Change, Last, Learn, Me, Op, Readings, Sent, Store, entry, learn_changes, ops_in, played, reaction_of, readings_of, shared_entries, text}
 use Rattle.log_copies.proofs.Growing.{committed}
 use Rattle.log_copies.proofs.Leaving.{still_has}
 use Rattle.log_copies.proofs.Matching.{monitor_keeps, read_last, record_there}
 use Rattle.log_copies.specs.Synchronizing.{written}
 use Rattle.log_copies.specs.Versions.{HasVersions, IsOwnChange, store_after}
+use Rattle.log_model.proofs.Committed.{ops_again, texts}
 use Rattle.log_model.proofs.Holds.{holds_nothing}
 use Rattle.log_model.proofs.Lists.{length_push}
 use Rattle.log_model.proofs.Logs.{IsPrefixOf, entry_push, log_prefix_itself, log_prefix_push}
 use Rattle.log_model.proofs.RowReadings.{read_some}
 use Rattle.log_model.proofs.RuleCells.{log_high}
-use Rattle.log_model.specs.LogOfValues.{AllValues}
-use Rattle.log_model.specs.Windows.{Keeps, log_from}
-use Rattle.mon_msg.specs.Fold.{entry}
-use Rattle.mon_msg.specs.Protocol.Changes.{Change, Last, Learn}
-use Rattle.mon_msg.specs.Protocol.Learning.{learn_changes}
-use Rattle.mon_msg.specs.Protocol.Played.{played}
-use Rattle.mon_msg.specs.Protocol.Reaction.{reaction_of}
-use Rattle.mon_msg.specs.Protocol.Readings.{Readings, readings_of, shared_entries}
 use Rattle.mon_msg.specs.declared.plan.Sent.TheVariants as sent
-use Rattle.mon_msg.specs.declared.plan.Sent.{Sent}
-use Rattle.mon_msg.specs.declared.view.Me.{Me}
-use Rattle.mon_tx.specs.Map.{Store}
-use Rattle.mon_tx.specs.Text.{text}
 use Rattle.quorum_agreement.proofs.Grown.{GrowsByOne, first_is, grown_none, grown_one}
 use Rattle.quorum_agreement.proofs.Invariant.{EnvelopeMatches, envelopes_stay}
 use Rattle.quorum_agreement.proofs.Lone.{Commits, Outcome, Quiet, SaysNothing, lone_reacts}
@@ -32,21 +23,12 @@ use Rattle.quorum_laws.proofs.Events as events
 use Rattle.quorum_laws.proofs.Events.{Does, ended, goes_down_holds, goes_on_holds, lost_holds, member_of, same, shares}
 use Rattle.quorum_laws.proofs.Invariant.{InvOf, InvWith}
 use Rattle.quorum_laws.proofs.Whole.{at_put}
-use Rattle.quorum_model.specs.Clients.{messages_of, with_asked}
-use Rattle.quorum_model.specs.Growth.{grown}
-use Rattle.quorum_model.specs.Happens.{kept_only, lost, moved, put_at, unmoved}
-use Rattle.quorum_model.specs.Monitors.{Monitors}
-use Rattle.quorum_model.specs.World.{Asked, Plain, World, first_world}
-use Rattle.quorum_walk.proofs.FineCourses.{begun, Ended, Fit}
+use Rattle.quorum_walk.proofs.FineCourses.{Ended, Fit, begun}
 use Rattle.quorum_walk.proofs.Lists.{all_append}
 use Rattle.quorum_walk.proofs.Sparing.{Own, learned_own, own_of}
 use Rattle.quorum_walk.proofs.Walk.{Then}
 use Rattle.std.proofs.Common.{List, [], ap, arith, false, inl, inr, length, refl, subst, suc, sym, ℕ, ◌++◌, ◌<◌, ◌^◌, ◌∙◌, ◌∷◌, ◌≡◌, ◌≤◌}
 use Rattle.std.proofs.lemmas.Bool.{ltb-true}
-use Rattle.std.specs.List.{AllByRecursion}
-use Rattle.log_model.proofs.Committed.{ops_again, texts}
-use Rattle.mon_tx.specs.Decode.{ops_in}
-use Rattle.mon_tx.specs.declared.op.Op.{Op}
 
 -- a store has the whole log, and no value is pending in it
 pub record IsWhole (log : List (List ℕ)) (m : Store) : Type 0 where

@@ -1,29 +1,18 @@
 -- Accepted values are made over the log, of commands that clients asked; so the log is one of values.
+use Rattle.law_names.proofs.Runs.{AllValues, Asked, IsAsked, IsValue, Keeps, log_from, row_after, view_at, within}
+use Rattle.law_names.proofs.Table.{Command, Contains, Op, Readings, Session, Store, apply_op, put_number, readings_of, text, value}
 use Rattle.log_copies.proofs.Growing as growing
 use Rattle.log_model.proofs.Committed.{texts, value_told}
-use Rattle.log_model.proofs.Logs.{IsPrefixOf, entry_push, entry_stays, fold_stays, log_prefix_push, incrementals_stay}
-use Rattle.log_model.proofs.Older.{older_itself}
 use Rattle.log_model.proofs.Lists.{length_push}
+use Rattle.log_model.proofs.Logs.{IsPrefixOf, entry_push, entry_stays, fold_stays, incrementals_stay, log_prefix_push}
+use Rattle.log_model.proofs.Older.{older_itself}
 use Rattle.log_model.proofs.Records.{IsVersion}
-use Rattle.log_model.specs.LogOfValues.{AllValues, IsValue, view_at}
-use Rattle.log_model.specs.Windows.{Keeps, log_from, row_after, within}
-use Rattle.mon_bytes.specs.declared.command.Command.{Command}
-use Rattle.mon_msg.specs.Protocol.Readings.{Readings, readings_of}
-use Rattle.mon_msg.specs.Protocol.Value.{value}
-use Rattle.mon_msg.specs.Puts.{put_number}
-use Rattle.mon_tx.specs.Map.{Store, apply_op}
-use Rattle.mon_tx.specs.Text.{text}
 use Rattle.mon_tx.specs.declared.key.Area.TheVariants as area
 use Rattle.mon_tx.specs.declared.key.Key.TheVariants as key
-use Rattle.mon_tx.specs.declared.op.Op.{Op}
-use Rattle.mon_wire.specs.declared.request.Session.{Session}
 use Rattle.quorum_history.proofs.History.{Accepted, Ghost}
 use Rattle.quorum_laws.specs.Commands.{WasAsked}
-use Rattle.quorum_model.specs.Agree.{IsAsked}
-use Rattle.quorum_model.specs.World.{Asked}
 use Rattle.std.proofs.Common.{List, None, Ok, Some, [], ap, arith, cond, inl, inr, length, subst, suc, sym, ℕ, ◌++◌, ◌<◌, ◌^◌, ◌∙◌, ◌∷◌, ◌≡◌, ◌≤◌, ◌⊎◌}
 use Rattle.std.proofs.lemmas.Bool.{cases_order}
-use Rattle.std.specs.List.{Contains}
 
 -- The value of a command that was asked, for a version that the log has or that comes next, over readers that keep the versions before it.
 pub record MadeOver (n : ℕ) (asked : List Asked) (log : List (List ℕ)) (v : ℕ) (x : List Op) : Type 0 where

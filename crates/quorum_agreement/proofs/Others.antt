@@ -1,11 +1,7 @@
 -- A majority of several monitors has others in it.
+use Rattle.law_names.proofs.Table.{Me, count_of, has, is_empty, is_majority, members, only}
 use Rattle.log_copies.proofs.Rows.{HasOthers}
-use Rattle.mon_msg.specs.Protocol.Sets.{is_empty}
-use Rattle.mon_msg.specs.Protocol.Sending.{members}
-use Rattle.mon_msg.specs.declared.view.Me.{Me}
-use Rattle.mon_types.specs.Ranks.{count_of, has, is_majority}
 use Rattle.quorum_walk.proofs.Ranks.{Below, alone_within, has_only_is, within_at}
-use Rattle.mon_msg.specs.Protocol.Sets.{only}
 use Rattle.std.proofs.Common.{Bool, List, [], arith, cond, false, refl, suc, true, zero, ℕ, ◌*◌, ◌+◌, ◌<◌, ◌∷◌, ◌≡◌, ◌≤◌}
 use Rattle.std.proofs.lemmas.Bool.{ltb-true}
 use Rattle.std.proofs.lemmas.List.Sums.{sum_by-cons}

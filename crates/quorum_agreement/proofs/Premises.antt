@@ -1,20 +1,9 @@
 -- What a monitor's history says of its state and of its input, as the step of one event over the log needs it.
+use Rattle.law_names.proofs.Table.{Cell, Me, Op, Phase, Readings, State, SyncStage, Told, are_within, count_of, epoch_of, has, is_even, is_leading, is_majority, same_phase, votes, with_rank}
 use Rattle.log_copies.proofs.Agreeing.{IsRecent, RecentStage}
 use Rattle.log_copies.proofs.Rows.{HasOthers}
-use Rattle.mon_msg.specs.Protocol.Entering.{is_even}
-use Rattle.mon_msg.specs.Protocol.Phases.{is_leading, same_phase, votes}
-use Rattle.mon_msg.specs.Protocol.Readings.{Readings, epoch_of}
-use Rattle.mon_msg.specs.Protocol.Sets.{are_within}
-use Rattle.mon_msg.specs.Protocol.State.{State}
 use Rattle.mon_msg.specs.declared.synchronization.SyncStage.TheVariants as sync
-use Rattle.mon_msg.specs.declared.synchronization.SyncStage.{SyncStage}
-use Rattle.mon_msg.specs.declared.view.Me.{Me}
-use Rattle.mon_tx.specs.Decision.{Cell}
-use Rattle.mon_tx.specs.declared.op.Op.{Op}
-use Rattle.mon_types.specs.Ranks.{count_of, has, with_rank, is_majority}
-use Rattle.mon_wire.specs.declared.parts.Told.{Told}
 use Rattle.mon_wire.specs.declared.phase.Phase.TheVariants as phase
-use Rattle.mon_wire.specs.declared.phase.Phase.{Phase}
 use Rattle.quorum_agreement.proofs.Chosen.{Chosen}
 use Rattle.quorum_agreement.proofs.Others.{others}
 use Rattle.quorum_history.proofs.History.{ALevel, Accepted, Entered, Ghost, Glob, Had}

@@ -1,25 +1,15 @@
 -- What follows from the one log: no two monitors disagree, and what is sent and copied is the log's.
+use Rattle.law_names.proofs.Runs.{Agree, AllValues, Monitors, World, is_marked}
+use Rattle.law_names.proofs.Table.{AllByRecursion, Body, Op, Place as ChunkPlace, Readings, Requester, State, Store, SyncStage, entry, fold, readings_of, text}
+use Rattle.log_copies.proofs.Matching.{one_within, record_there}
 use Rattle.log_copies.proofs.Sending.{BodyMatches}
 use Rattle.log_copies.proofs.Standing.{Agrees, TakesCopy}
-use Rattle.log_copies.proofs.Matching.{one_within, record_there}
 use Rattle.log_copies.proofs.UnderWay.{InStage, Marked}
 use Rattle.log_copies.proofs.Unmarked.{OnLog}
 use Rattle.log_model.proofs.Records.{AreVersions, IsVersion}
-use Rattle.log_model.specs.LogOfValues.{AllValues}
 use Rattle.mon_bytes.specs.declared.entry.KeyPlace.TheVariants as key_place
-use Rattle.mon_kv.specs.Readers.{is_marked}
-use Rattle.mon_msg.specs.Fold.{entry, fold}
-use Rattle.mon_msg.specs.Protocol.Readings.{Readings, readings_of}
-use Rattle.mon_msg.specs.Protocol.State.{State}
-use Rattle.mon_msg.specs.declared.synchronization.Requester.{Requester}
 use Rattle.mon_msg.specs.declared.synchronization.SyncStage.TheVariants as sync
-use Rattle.mon_msg.specs.declared.synchronization.SyncStage.{SyncStage}
-use Rattle.mon_tx.specs.Map.{Store}
-use Rattle.mon_tx.specs.Text.{text}
-use Rattle.mon_tx.specs.declared.op.Op.{Op}
 use Rattle.mon_wire.specs.declared.body.Body.TheVariants as body
-use Rattle.mon_wire.specs.declared.body.Body.{Body}
-use Rattle.mon_wire.specs.declared.parts.Place.{Place as ChunkPlace}
 use Rattle.mon_wire.specs.declared.phase.Phase.TheVariants as phase
 use Rattle.quorum_agreement.proofs.Chosen.{Chosen}
 use Rattle.quorum_agreement.proofs.Invariant.{EnvelopeMatches, LogHolds, OfLog, remembers}
@@ -34,12 +24,8 @@ use Rattle.quorum_laws.proofs.Invariant.{InvOf}
 use Rattle.quorum_laws.proofs.Reading.{state_holds}
 use Rattle.quorum_laws.specs.Values.{IsChosen}
 use Rattle.quorum_model.specs.Agree as agreed
-use Rattle.quorum_model.specs.Agree.{Agree}
-use Rattle.quorum_model.specs.Monitors.{Monitors}
-use Rattle.quorum_model.specs.World.{World}
 use Rattle.quorum_walk.proofs.Sparing.{Own, own_of}
-use Rattle.std.proofs.Common.{Bool, List, None, Option, Some, [], ap, arith, inl, inr, length, refl, subst, suc, sym, true, false, zero, ℕ, ◌<◌, ◌^◌, ◌∙◌, ◌∷◌, ◌≡◌, ◌≤◌}
-use Rattle.std.specs.List.{AllByRecursion}
+use Rattle.std.proofs.Common.{Bool, List, None, Option, Some, [], ap, arith, false, inl, inr, length, refl, subst, suc, sym, true, zero, ℕ, ◌<◌, ◌^◌, ◌∙◌, ◌∷◌, ◌≡◌, ◌≤◌}
 
 -- of one monitor or of several
 pub record OneLog (ms : Monitors) (w : World) : Type 0 where

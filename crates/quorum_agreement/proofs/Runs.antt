@@ -1,4 +1,5 @@
 -- What holds of the log holds after every list of events, and the log only grows.
+use Rattle.law_names.proofs.Runs.{AllFit, Event, Monitors, PlainFits, Stop, World, first_world, goes_on, happens, plain_of, ran_from, run, run_from}
 use Rattle.quorum_agreement.proofs.Beginning.{at_first}
 use Rattle.quorum_agreement.proofs.Grown.{GrowsByOne}
 use Rattle.quorum_agreement.proofs.Invariant.{EnvelopeMatches, LogHolds}
@@ -7,14 +8,8 @@ use Rattle.quorum_agreement.proofs.Worlds.{Follows, all_follow, asking}
 use Rattle.quorum_agreement.specs.Growing.{GrowsBy}
 use Rattle.quorum_laws.proofs.Events.{each_event}
 use Rattle.quorum_model.proofs.Happening.{of_next, run_keeps, runs_apart}
-use Rattle.quorum_model.specs.Events.{AllFit, PlainFits}
-use Rattle.quorum_model.specs.Happens.{Stop, happens}
-use Rattle.quorum_model.specs.Monitors.{Monitors}
-use Rattle.quorum_model.specs.Runs.{goes_on, ran_from, run, run_from}
-use Rattle.quorum_model.specs.World.{Event, World, first_world, plain_of}
-use Rattle.std.proofs.Common.{Err, List, Ok, Result, [], ap, append-nil, arith, inl, inr, length, suc, sym, ℕ, ◌++◌, ◌<◌, ◌∙◌, ◌∷◌, ◌≡◌}
+use Rattle.std.proofs.Common.{Err, IfOk, List, Ok, Result, [], ap, append-nil, arith, inl, inr, length, suc, sym, ℕ, ◌++◌, ◌<◌, ◌∙◌, ◌∷◌, ◌≡◌}
 use Rattle.std.proofs.lemmas.List.{append_assoc}
-use Rattle.std.specs.Prelude.{IfOk}
 
 -- no entry more
 as_it_is : (most : ℕ) (log : List (List ℕ)) → GrowsBy most log log

@@ -1,25 +1,18 @@
 -- What holds of the versions that were acknowledged and of the replies, and that it still holds after further events.
+use Rattle.law_names.proofs.Runs.{Acknowledged, AcknowledgedOnce, Asked, DoneIsAnswered, Envelope, IsFenced, Monitors, Replied, ShowsLog, WasAskedFor, World}
+use Rattle.law_names.proofs.Table.{AllByRecursion, Contains, Reply, State, Store, epoch_of, readings_of, shown}
 use Rattle.log_copies.proofs.Matching.{IsTold, told_stays}
-use Rattle.mon_msg.specs.Protocol.Readings.{epoch_of, readings_of}
-use Rattle.mon_msg.specs.Protocol.Reads.{shown}
-use Rattle.mon_msg.specs.Protocol.State.{State}
-use Rattle.mon_tx.specs.Map.{Store}
 use Rattle.mon_wire.specs.declared.phase.Phase.TheVariants as phase
 use Rattle.mon_wire.specs.declared.reply.Reply.TheVariants as reply
-use Rattle.mon_wire.specs.declared.reply.Reply.{Reply}
 use Rattle.quorum_agreement.proofs.Acknowledging.{IsShownIn, fenced_by}
+use Rattle.quorum_agreement.proofs.Answered.{Routes, Stems, answer_lasts, routes_last, stems_further}
 use Rattle.quorum_agreement.proofs.Held.{IsHeld, Onward, Still, held_lasts}
 use Rattle.quorum_history.proofs.History.{Ghost}
 use Rattle.quorum_laws.proofs.Invariant.{InvOf}
 use Rattle.quorum_laws.specs.Accepting.{readings_at}
-use Rattle.quorum_model.specs.Kept.{AcknowledgedOnce, DoneIsAnswered}
-use Rattle.quorum_model.specs.Monitors.{Monitors}
-use Rattle.quorum_model.specs.Shown.{Fence, IsFenced, ShowsLog, WasAskedFor}
-use Rattle.quorum_model.specs.World.{Acknowledged, Asked, Envelope, Replied, World}
+use Rattle.quorum_model.specs.Shown.{Fence}
 use Rattle.quorum_walk.proofs.Lists.{all_append, all_both, all_map}
 use Rattle.std.proofs.Common.{List, Some, arith, inl, inr, map, subst, suc, sym, ℕ, ◌++◌, ◌≡◌, ◌≤◌}
-use Rattle.std.specs.List.{AllByRecursion, Contains}
-use Rattle.quorum_agreement.proofs.Answered.{Routes, Stems, answer_lasts, routes_last, stems_further}
 
 pub record IsSafe (ms : Monitors) (w : World) (I : InvOf ms w) : Type 0 where
   pub still : (i : ℕ) (s : State) → w.state i ≡ Some s → Still s.phase s.leader

@@ -1,67 +1,42 @@
 -- Every event keeps what is known of the versions that were acknowledged, and of what was replied.
-use Rattle.log_copies.proofs.Standing.{Agrees}
+use Rattle.law_names.proofs.Runs.{Acknowledged, AcknowledgedOnce, AllValues, Asked, DoneIsAnswered, Envelope, IsAsked, IsFenced, Monitors, Replied, WasAskedFor, World, acknowledgement, acknowledgements_of, done_by, done_in, incremental_of, is_active, last_of, log_from, messages_of, replies_of, view_at}
+use Rattle.law_names.proofs.Table.{AllByRecursion, Body, Cell, Change, Command, Contains, Course, Input, Last, Leader, Learn, Me, Op, Origin, Phase, Readings, Reply, Request, Sent, Service, Session, State, Store, Waiting, answer_to, asked_of, booting, cell, changes_after, entry, epoch_of, has, is_leading, is_majority, is_member, is_peon, kept_from, ops_in, played, put_in, readings_of, same_phase, service_first, service_last, service_of, shared_entries, shown, since, text, transaction_in, votes}
 use Rattle.log_copies.proofs.Matching.{IsTold, monitor_keeps, read_last, record_there, shown_told, since_told, told_stays}
+use Rattle.log_copies.proofs.Standing.{Agrees}
 use Rattle.log_copies.proofs.Unmarked.{OnLog}
 use Rattle.log_copies.specs.Synchronizing.{written}
 use Rattle.log_model.proofs.Committed.{ops_again}
 use Rattle.log_model.proofs.Older.{older_itself}
-use Rattle.mon_msg.specs.Protocol.Records.{transaction_in}
 use Rattle.log_model.proofs.Records.{read_version, value_has_text}
 use Rattle.log_model.proofs.RowReadings.{read_some}
 use Rattle.log_model.proofs.RuleCells.{log_high}
-use Rattle.log_model.specs.LogOfValues.{AllValues, view_at}
-use Rattle.log_model.specs.Windows.{log_from}
-use Rattle.mon_bytes.specs.declared.command.Command.{Command}
-use Rattle.mon_msg.specs.Fold.{entry, put_in}
-use Rattle.mon_msg.specs.Protocol.Course.{Course}
-use Rattle.mon_msg.specs.Protocol.Phases.{is_leading, is_member, is_peon, same_phase, votes}
-use Rattle.mon_msg.specs.Protocol.Readings.{Readings, epoch_of, readings_of, shared_entries}
-use Rattle.mon_msg.specs.Protocol.Reads.{changes_after, shown, since}
-use Rattle.mon_msg.specs.Protocol.Services.{kept_from, service_first, service_last}
-use Rattle.mon_msg.specs.Protocol.State.{State, booting}
-use Rattle.mon_msg.specs.Protocol.Value.{service_of}
 use Rattle.mon_msg.specs.declared.clients.Asked as waiting
-use Rattle.mon_msg.specs.declared.clients.Waiting.{Waiting}
 use Rattle.mon_msg.specs.declared.input.Input.TheVariants as input
-use Rattle.mon_msg.specs.declared.input.Input.{Input}
-use Rattle.mon_msg.specs.declared.paxos.Leader.{Leader}
 use Rattle.mon_msg.specs.declared.plan.Origin.TheVariants as origin
-use Rattle.mon_msg.specs.declared.plan.Origin.{Origin}
 use Rattle.mon_msg.specs.declared.plan.Sent.TheVariants as sent
-use Rattle.mon_msg.specs.declared.plan.Sent.{Sent}
-use Rattle.mon_msg.specs.declared.view.Me.{Me}
-use Rattle.mon_tx.specs.Decision.{Cell}
-use Rattle.mon_tx.specs.Decode.{ops_in}
-use Rattle.mon_tx.specs.Keys.{cell}
-use Rattle.mon_tx.specs.Map.{Store}
-use Rattle.mon_tx.specs.Text.{text}
 use Rattle.mon_tx.specs.declared.key.Area.TheVariants as area
 use Rattle.mon_tx.specs.declared.key.Key.TheVariants as key
-use Rattle.mon_tx.specs.declared.op.Op.{Op}
-use Rattle.mon_types.specs.Ranks.{has, is_majority}
 use Rattle.mon_wire.specs.declared.body.Body.TheVariants as body
-use Rattle.mon_wire.specs.declared.body.Body.{Body}
 use Rattle.mon_wire.specs.declared.phase.Phase.TheVariants as phase
-use Rattle.mon_wire.specs.declared.phase.Phase.{Phase}
 use Rattle.mon_wire.specs.declared.reply.Reply.TheVariants as reply
-use Rattle.mon_wire.specs.declared.reply.Reply.{Reply}
 use Rattle.mon_wire.specs.declared.request.Request.TheVariants as request
-use Rattle.mon_wire.specs.declared.request.Request.{Request}
-use Rattle.mon_wire.specs.declared.request.Service.{Service}
-use Rattle.mon_wire.specs.declared.request.Session.{Session}
 use Rattle.quorum_agreement.proofs.Acknowledging.{IsShownIn, NoShowSent, answer_shows_nothing, fenced_by, no_acks, one_ack, plain_acks, plain_shows_nothing, quiet_fenced, quiet_replies, replies_event}
+use Rattle.quorum_agreement.proofs.Answered.{BodyRoutes, ComesFrom, IsFounded, MayRoute, Routes, Stems, asked_makes, asker, asker_is, changed, comes_further, founded_replies, founded_routes, no_answer, plain_founded, reply_then, route_shows_nothing, source_further, stems_further}
 use Rattle.quorum_agreement.proofs.Answering.{Acks, AtOnce, BodyKnown, Completes, Hands, InputKnown, IsRead, Lead, Outcome, Reads, RequestKnown, answers, peon_leads_not}
 use Rattle.quorum_agreement.proofs.Grown.{first_is}
 use Rattle.quorum_agreement.proofs.Held.{IsHeld, Onward, Still, last_is, level_at, shows_it}
 use Rattle.quorum_agreement.proofs.Invariant.{remembers}
+use Rattle.quorum_agreement.proofs.Lone.{active_is}
 use Rattle.quorum_agreement.proofs.Premises.{Completed, accept_completes, leads_others}
 use Rattle.quorum_agreement.proofs.Result.{OneLog}
+use Rattle.quorum_agreement.proofs.Safe.{IsSafe, safe_more, shows_told, stems_again}
 use Rattle.quorum_agreement.proofs.Step.{copy_marked}
 use Rattle.quorum_history.proofs.History.{Accepted, Entered, Handed, hand}
 use Rattle.quorum_history.proofs.Holds.{ActsIn, BodyHolds, Core, FollowsIn, HasSource, InPhase, IsHanded, core_of, epoch_in}
 use Rattle.quorum_history.proofs.Numbers.{level_is}
 use Rattle.quorum_history.proofs.Phases.{no, peon_is_peon, votes_unmarked}
 use Rattle.quorum_history.proofs.Rows.{InputHolds}
+use Rattle.quorum_history.proofs.RowsClients as clients
 use Rattle.quorum_laws.proofs.Chosen.{chosen_once, nothing_lower, stays_nothing}
 use Rattle.quorum_laws.proofs.Events.{Does, IsNoted, ToldOf, member_of}
 use Rattle.quorum_laws.proofs.Invariant.{Further, InvOf, InvWith, WasActive}
@@ -69,31 +44,15 @@ use Rattle.quorum_laws.proofs.Reading.{state_holds}
 use Rattle.quorum_laws.specs.Accepting.{HasAccepted, IsMajorityOf, readings_at}
 use Rattle.quorum_laws.specs.Values.{AcceptedNothing, IsChosen}
 use Rattle.quorum_model.proofs.Made.{first_put, puts_command}
-use Rattle.quorum_model.specs.Acknowledging.{acknowledgement, acknowledgements_of, done_by, done_in, incremental_in, record_kept}
-use Rattle.quorum_model.specs.Agree.{IsAsked}
-use Rattle.quorum_model.specs.Clients.{incremental_of, messages_of, replies_of}
-use Rattle.quorum_model.specs.Growth.{last_of}
-use Rattle.quorum_model.specs.Happens.{is_active}
-use Rattle.quorum_model.specs.Kept.{AcknowledgedOnce, DoneIsAnswered}
-use Rattle.quorum_model.specs.Monitors.{Monitors}
-use Rattle.quorum_model.specs.Shown.{AskedFor, IsFenced, WasAskedFor}
-use Rattle.quorum_model.specs.World.{Acknowledged, Asked, Envelope, Replied, World}
+use Rattle.quorum_model.specs.Acknowledging.{incremental_in, record_kept}
+use Rattle.quorum_model.specs.Shown.{AskedFor}
+use Rattle.quorum_walk.proofs.FineCourses.{Ended, Fit, Val, begun}
 use Rattle.quorum_walk.proofs.Lists.{Among, all_among, all_append, all_both, all_map, all_of}
 use Rattle.quorum_walk.proofs.Sparing.{Own, learned_own, own_of}
 use Rattle.quorum_walk.proofs.Walk.{Then}
-use Rattle.std.proofs.Common.{Bool, IfSome, List, None, Option, Some, [], ap, append-nil, arith, cond, eqb, false, inl, inr, leb, length, map, refl, subst, suc, sym, true, unwrap_or, ℕ, ◌%◌, ◌++◌, ◌-◌, ◌<◌, ◌||◌, ◌∙◌, ◌∷◌, ◌≡◌, ◌≤◌, ◌⊎◌}
+use Rattle.std.proofs.Common.{Bool, IfSome, List, None, Option, Some, [], ap, append-nil, arith, cond, eqb, false, filter, inl, inr, leb, length, map, refl, subst, suc, sym, true, unwrap_or, ℕ, ◌%◌, ◌++◌, ◌-◌, ◌<◌, ◌||◌, ◌∙◌, ◌∷◌, ◌≡◌, ◌≤◌, ◌⊎◌}
 use Rattle.std.proofs.lemmas.Bool.{cases_lt, cases_order, cond_both, eqb-true, false≢true, ltb-true}
 use Rattle.std.proofs.lemmas.List.Elements.{Contains-push}
-use Rattle.std.specs.List.{AllByRecursion, Contains, filter}
-use Rattle.quorum_agreement.proofs.Answered.{BodyRoutes, ComesFrom, IsFounded, MayRoute, Routes, Stems, asked_makes, asker, asker_is, changed, comes_further, founded_replies, founded_routes, no_answer, plain_founded, reply_then, route_shows_nothing, source_further, stems_further}
-use Rattle.quorum_agreement.proofs.Lone.{active_is}
-use Rattle.mon_msg.specs.Protocol.Changes.{Change, Last, Learn}
-use Rattle.mon_msg.specs.Protocol.Played.{played}
-use Rattle.mon_msg.specs.Protocol.Proposing.{asked_of}
-use Rattle.mon_msg.specs.Protocol.Sending.{answer_to}
-use Rattle.quorum_history.proofs.RowsClients as clients
-use Rattle.quorum_walk.proofs.FineCourses.{begun, Ended, Fit, Val}
-use Rattle.quorum_agreement.proofs.Safe.{IsSafe, safe_more, shows_told, stems_again}
 
 -- a list of changes since a version acknowledges nothing
 since_done : (r : Readings) (v : Service) (k : ℕ) → done_in (since r v k) ≡ None

@@ -1,57 +1,38 @@
 -- In every run what is acknowledged is held, and what is shown is the log's.
+use Rattle.law_names.proofs.Runs.{Acknowledged, AllFit, Asked, Envelope, Event, Monitors, Plain, PlainFits, Safe, World, acknowledgements_of, first_world, grown, happens, kept_only, lost, moved, plain_of, put_at, run, unmoved, with_asked}
+use Rattle.law_names.proofs.Table.{AllByRecursion, Contains, Input, Last, Learn, Op, State, Store, encoded, entry, epoch_of, joined, ops_in, reaction_of, readings_of, shared_entries}
 use Rattle.log_copies.specs.Synchronizing.{written}
 use Rattle.log_model.proofs.Logs.{IsPrefixOf, log_prefix_itself, log_prefix_push}
-use Rattle.mon_msg.specs.Fold.{entry}
-use Rattle.mon_msg.specs.Joined.{joined}
-use Rattle.mon_msg.specs.Protocol.Changes.{Last, Learn, encoded}
-use Rattle.mon_msg.specs.Protocol.Reaction.{reaction_of}
-use Rattle.mon_msg.specs.Protocol.Readings.{epoch_of, readings_of, shared_entries}
-use Rattle.mon_msg.specs.Protocol.State.{State}
 use Rattle.mon_msg.specs.declared.input.Input.TheVariants as input
-use Rattle.mon_msg.specs.declared.input.Input.{Input}
-use Rattle.mon_tx.specs.Map.{Store}
+use Rattle.quorum_agreement.proofs.Answered.{Routes}
+use Rattle.quorum_agreement.proofs.Beginning.{at_first}
+use Rattle.quorum_agreement.proofs.Every.{agrees}
 use Rattle.quorum_agreement.proofs.Grown.{GrowsByOne}
 use Rattle.quorum_agreement.proofs.Held.{Onward, is_kept}
 use Rattle.quorum_agreement.proofs.Invariant.{EnvelopeMatches, LogHolds}
 use Rattle.quorum_agreement.proofs.Kept.{accepted_keeps}
 use Rattle.quorum_agreement.proofs.LoneWorlds.{LoneHolds, lone_asking, lone_at_first, lone_follows, lone_reads}
-use Rattle.quorum_agreement.proofs.Beginning.{at_first}
 use Rattle.quorum_agreement.proofs.Result.{OneLog, entries_chosen, lone_log, several_log}
 use Rattle.quorum_agreement.proofs.Runs.{runs_hold}
 use Rattle.quorum_agreement.proofs.Safe.{IsSafe, safe_same}
 use Rattle.quorum_agreement.proofs.SafeStep.{safe_then}
 use Rattle.quorum_agreement.proofs.Worlds.{all_follow, asking, still_among}
+use Rattle.quorum_history.proofs.History.{Ghost}
 use Rattle.quorum_laws.proofs.Beginning as beginning
+use Rattle.quorum_laws.proofs.Elections.{one_active}
 use Rattle.quorum_laws.proofs.Events as events
-use Rattle.quorum_laws.proofs.Events.{all_runs, After, Does, ToldOf, each_event, each_keeps, ended, member_of, same, shares}
+use Rattle.quorum_laws.proofs.Events.{After, Does, ToldOf, all_runs, each_event, each_keeps, ended, member_of, same, shares}
 use Rattle.quorum_laws.proofs.Invariant.{Further, InvOf, InvWith, further_trans}
 use Rattle.quorum_laws.specs.Accepting.{HasAccepted, readings_at}
 use Rattle.quorum_laws.specs.Values.{IsChosen}
-use Rattle.quorum_model.specs.Clients.{with_asked}
-use Rattle.quorum_model.specs.Events.{AllFit, PlainFits}
-use Rattle.quorum_model.specs.Happens.{happens, kept_only, lost, moved, put_at, unmoved}
-use Rattle.quorum_model.specs.Kept.{Kept}
-use Rattle.quorum_model.specs.Monitors.{Monitors}
-use Rattle.quorum_model.specs.Runs.{run}
-use Rattle.quorum_model.specs.Shown.{Fence, Shown}
-use Rattle.quorum_model.specs.World.{Acknowledged, Asked, Envelope, Event, Plain, World, first_world, plain_of}
-use Rattle.quorum_history.proofs.History.{Ghost}
-use Rattle.quorum_walk.proofs.Lists.{Among, all_both, all_map, among_right}
-use Rattle.std.proofs.Common.{Bool, List, None, Some, [], arith, cond, eqb, false, inl, inr, length, ltb, refl, subst, suc, sym, true, ℕ, ◌<◌, ◌∷◌, ◌≡◌, ◌≤◌, ◌⊎◌}
-use Rattle.std.proofs.lemmas.Bool.{cases_order, eq-eqb, eqb-true, ltb-true}
-use Rattle.std.specs.List.{AllByRecursion, Contains}
-use Rattle.std.specs.Prelude.{IfOk}
-use Rattle.quorum_agreement.proofs.Answered.{Routes}
-use Rattle.quorum_model.specs.Growth.{grown}
-use Rattle.quorum_model.specs.Acknowledging.{acknowledgements_of}
-use Rattle.mon_tx.specs.Decode.{ops_in}
-use Rattle.mon_tx.specs.declared.op.Op.{Op}
-use Rattle.quorum_walk.proofs.FineCourses.{EntryFine}
-use Rattle.std.proofs.lemmas.List.Elements.{Contains-append_left}
-use Rattle.quorum_model.specs.Safe.{Safe}
 use Rattle.quorum_model.proofs.Writing.{all_kept}
-use Rattle.quorum_laws.proofs.Elections.{one_active}
-use Rattle.quorum_agreement.proofs.Every.{agrees}
+use Rattle.quorum_model.specs.Kept.{Kept}
+use Rattle.quorum_model.specs.Shown.{Fence, Shown}
+use Rattle.quorum_walk.proofs.FineCourses.{EntryFine}
+use Rattle.quorum_walk.proofs.Lists.{Among, all_both, all_map, among_right}
+use Rattle.std.proofs.Common.{Bool, IfOk, List, None, Some, [], arith, cond, eqb, false, inl, inr, length, ltb, refl, subst, suc, sym, true, ℕ, ◌<◌, ◌∷◌, ◌≡◌, ◌≤◌, ◌⊎◌}
+use Rattle.std.proofs.lemmas.Bool.{cases_order, eq-eqb, eqb-true, ltb-true}
+use Rattle.std.proofs.lemmas.List.Elements.{Contains-append_left}
 
 -- ---- what is put at one place
 

@@ -1,35 +1,21 @@
 -- What one event makes of the log and of its monitor's store, if all that was accepted is made over the log and all of the
 -- log was chosen.
-use Rattle.log_copies.proofs.Sending.{AllMatch, BodyMatches}
-use Rattle.log_copies.proofs.Standing.{Agrees, Allowed, BodyStands, InputStands, InputMatches, TakesCopy, agrees_stays, event}
+use Rattle.law_names.proofs.Runs.{AllValues, Asked, grown, log_from}
+use Rattle.law_names.proofs.Table.{Change, Course, Input, Me, Message, Op, Readings, Sent, State, Store, apply, at_rest, encoded, entry, joined, react, readings_of, shared_entries, text}
 use Rattle.log_copies.proofs.Matching.{monitor_keeps, read_last, record_there}
+use Rattle.log_copies.proofs.Sending.{AllMatch, BodyMatches}
+use Rattle.log_copies.proofs.Standing.{Agrees, Allowed, BodyStands, InputMatches, InputStands, TakesCopy, agrees_stays, event}
 use Rattle.log_copies.proofs.UnderWay.{Marked}
 use Rattle.log_copies.proofs.Unmarked.{OnLog, Situated}
 use Rattle.log_copies.specs.Synchronizing.{written}
-use Rattle.log_model.proofs.Logs.{IsPrefixOf, entry_push, log_prefix_itself, log_prefix_push}
 use Rattle.log_model.proofs.Lists.{length_push}
+use Rattle.log_model.proofs.Logs.{IsPrefixOf, entry_push, log_prefix_itself, log_prefix_push}
 use Rattle.log_model.proofs.Records.{IsVersion}
 use Rattle.log_model.proofs.RowReadings.{read_some}
 use Rattle.log_model.proofs.RuleCells.{log_high}
-use Rattle.log_model.specs.LogOfValues.{AllValues}
-use Rattle.log_model.specs.Windows.{log_from}
 use Rattle.mon_msg.proofs.Joining.{apply-joined}
-use Rattle.mon_msg.specs.Fold.{entry}
-use Rattle.mon_msg.specs.Joined.{joined}
-use Rattle.mon_msg.specs.Protocol.Changes.{Change, encoded}
-use Rattle.mon_msg.specs.Protocol.Course.{Course}
-use Rattle.mon_msg.specs.Protocol.Readings.{Readings, readings_of, shared_entries}
-use Rattle.mon_msg.specs.Protocol.State.{State}
-use Rattle.mon_msg.specs.Protocol.Table.{at_rest, react}
 use Rattle.mon_msg.specs.declared.input.Input.TheVariants as input
-use Rattle.mon_msg.specs.declared.input.Input.{Input}
-use Rattle.mon_msg.specs.declared.plan.Sent.{Sent}
-use Rattle.mon_msg.specs.declared.view.Me.{Me}
-use Rattle.mon_tx.specs.Map.{Store, apply}
-use Rattle.mon_tx.specs.Text.{text}
-use Rattle.mon_tx.specs.declared.op.Op.{Op}
 use Rattle.mon_wire.specs.declared.body.Body.TheVariants as body
-use Rattle.mon_wire.specs.declared.message.Message.{Message}
 use Rattle.quorum_agreement.proofs.Accepting.{Commits, Rests, RestsOrCommits, accept_reacts}
 use Rattle.quorum_agreement.proofs.Chosen.{AllChosen, Chosen, chosen_push, is_version, some_rank}
 use Rattle.quorum_agreement.proofs.Grown.{GrowsByOne, first_is, grown_marked, grown_none, grown_one}
@@ -37,8 +23,6 @@ use Rattle.quorum_agreement.proofs.Made.{AllAsked, AllMade, MadeOver, asked_agai
 use Rattle.quorum_agreement.proofs.Premises.{Completed, accept_completes}
 use Rattle.quorum_history.proofs.History.{Accepted, Ghost, Glob}
 use Rattle.quorum_history.proofs.Holds.{InPhase, core_of}
-use Rattle.quorum_model.specs.Growth.{grown}
-use Rattle.quorum_model.specs.World.{Asked}
 use Rattle.quorum_walk.proofs.Sparing.{own_of}
 use Rattle.quorum_walk.proofs.Walk.{Then}
 use Rattle.std.proofs.Common.{IfSome, List, Ok, Option, [], ap, arith, inl, inr, length, refl, subst, suc, sym, true, ℕ, ◌++◌, ◌<◌, ◌^◌, ◌∙◌, ◌∷◌, ◌≡◌, ◌≤◌}

@@ -1,13 +1,8 @@
 -- The invariant of the log holds again of the world that an event makes.
+use Rattle.law_names.proofs.Runs.{AllValues, Asked, Client, Monitors, Plain, World, kept_only, lost, messages_of, moved, put_at, unmoved, with_asked}
+use Rattle.law_names.proofs.Table.{AllByRecursion, Contains, Op, State, Store, encoded, joined, reaction_of}
 use Rattle.log_copies.proofs.Standing.{Agrees, agrees_stays, crashed}
 use Rattle.log_copies.specs.Synchronizing.{written}
-use Rattle.log_model.specs.LogOfValues.{AllValues}
-use Rattle.mon_msg.specs.Joined.{joined}
-use Rattle.mon_msg.specs.Protocol.Changes.{encoded}
-use Rattle.mon_msg.specs.Protocol.Reaction.{reaction_of}
-use Rattle.mon_msg.specs.Protocol.State.{State}
-use Rattle.mon_tx.specs.Map.{Store}
-use Rattle.mon_tx.specs.declared.op.Op.{Op}
 use Rattle.quorum_agreement.proofs.Chosen.{AllChosen}
 use Rattle.quorum_agreement.proofs.Event.{after, fine_then, votes}
 use Rattle.quorum_agreement.proofs.Grown.{GrowsByOne}
@@ -19,15 +14,10 @@ use Rattle.quorum_history.proofs.History.{Ghost, TriplesHold}
 use Rattle.quorum_laws.proofs.Events.{Does, Keeps, goes_down_holds, goes_on_holds, lost_holds, member_of, shares}
 use Rattle.quorum_laws.proofs.Invariant.{InvOf, InvWith, TriplesKept, was_asked_more}
 use Rattle.quorum_laws.proofs.Whole.{at_put}
-use Rattle.quorum_model.specs.Clients.{messages_of, with_asked}
-use Rattle.quorum_model.specs.Happens.{kept_only, lost, moved, put_at, unmoved}
-use Rattle.quorum_model.specs.Monitors.{Monitors}
-use Rattle.quorum_model.specs.World.{Asked, Client, Plain, World}
 use Rattle.quorum_walk.proofs.Lists.{all_append}
 use Rattle.std.proofs.Common.{Bool, List, None, Option, Some, [], cond, eqb, false, inl, length, ltb, refl, subst, sym, true, ℕ, ◌++◌, ◌<◌, ◌^◌, ◌∷◌, ◌≡◌, ◌≤◌}
 use Rattle.std.proofs.lemmas.Bool.{lt-ltb, ltb-true}
 use Rattle.std.proofs.lemmas.List.Elements.{Contains-append_left}
-use Rattle.std.specs.List.{AllByRecursion, Contains}
 
 -- ---- more is asked, and the history goes on
 

@@ -1,20 +1,14 @@
 -- What holds of the answers of every run.
+use Rattle.law_names.proofs.Runs.{Acknowledged, AllFit, Event, IsFenced, Monitors, Replied, Safe, run}
+use Rattle.law_names.proofs.Table.{AllByRecursion, Contains, Reply}
 use Rattle.log_model.proofs.Lists.{of_all}
 use Rattle.mon_wire.specs.declared.reply.Reply.TheVariants as reply
-use Rattle.mon_wire.specs.declared.reply.Reply.{Reply}
 use Rattle.quorum_agreement.proofs.SafeWorlds.{safe}
 use Rattle.quorum_answers.proofs.Ordering.{AllPairs, Ordered}
 use Rattle.quorum_answers.proofs.Whole.{after_events}
 use Rattle.quorum_answers.specs.Linear.{Completed, Linearizable, Operation, Precedes, Read, Write, its_epoch, its_event}
 use Rattle.quorum_answers.specs.Reads.{EachOnward, EpochsOnward, Shows}
-use Rattle.quorum_model.specs.Events.{AllFit}
-use Rattle.quorum_model.specs.Monitors.{Monitors}
-use Rattle.quorum_model.specs.Runs.{run}
-use Rattle.quorum_model.specs.Safe.{Safe}
-use Rattle.quorum_model.specs.Shown.{IsFenced}
-use Rattle.quorum_model.specs.World.{Acknowledged, Event, Replied}
 use Rattle.std.proofs.Common.{List, arith, ◌<◌, ◌≡◌, ◌≤◌}
-use Rattle.std.specs.List.{AllByRecursion, Contains}
 
 pub each_onward : (ms : Monitors) (events : List Event) → AllFit ms.count events → EachOnward (run ms events)
 each_onward ms events F = let O = (after_events ms events F).1 in O.order

@@ -1,24 +1,11 @@
 -- Every run answers with the next change, if there is one.
+use Rattle.law_names.proofs.Runs.{Agrees, AllFit, Asked, Event, IsShown, Monitors, Plain, PlainFits, Replied, ShowsLog, World, first_read, first_world, happens, kept_only, last_of, lost, moved, plain_of, replies_of, run, service_from, unmoved, with_asked}
+use Rattle.law_names.proofs.Table.{AllByRecursion, Asked as Waits, Me, Readings, Reply, Sent, Service, Session, State, Store, answer_to, booting, changes_after, epoch_of, fits_reply, incrementals, is_member, longest, map_of_log, readings_of, version_of_log}
 use Rattle.log_model.proofs.Committed.{shown_shared}
 use Rattle.log_model.proofs.Logs.{IsPrefixOf}
-use Rattle.log_model.specs.Windows.{Shows, first_read, service_from}
-use Rattle.mon_msg.specs.Fold.{incrementals, map_of_log, version_of_log}
-use Rattle.mon_msg.specs.Protocol.Phases.{is_member}
-use Rattle.mon_msg.specs.Protocol.Readings.{Readings, epoch_of, readings_of}
-use Rattle.mon_msg.specs.Protocol.Reads.{changes_after}
-use Rattle.mon_msg.specs.Protocol.Records.{longest}
-use Rattle.mon_msg.specs.Protocol.Sending.{answer_to}
-use Rattle.mon_msg.specs.Protocol.Services.{fits_reply}
-use Rattle.mon_msg.specs.Protocol.State.{State, booting}
-use Rattle.mon_msg.specs.declared.clients.Asked.{Asked as Waits}
+use Rattle.log_model.specs.Windows.{Shows}
 use Rattle.mon_msg.specs.declared.plan.Sent.TheVariants as sent
-use Rattle.mon_msg.specs.declared.plan.Sent.{Sent}
-use Rattle.mon_msg.specs.declared.view.Me.{Me}
-use Rattle.mon_tx.specs.Map.{Store}
 use Rattle.mon_wire.specs.declared.reply.Reply.TheVariants as reply
-use Rattle.mon_wire.specs.declared.reply.Reply.{Reply}
-use Rattle.mon_wire.specs.declared.request.Service.{Service}
-use Rattle.mon_wire.specs.declared.request.Session.{Session}
 use Rattle.quorum_agreement.proofs.Acknowledging.{NoShow, NoShowSent, answer_shows_nothing, plain_shows_nothing}
 use Rattle.quorum_agreement.proofs.Answering.{IsRead, Outcome}
 use Rattle.quorum_agreement.proofs.Result.{there_marked}
@@ -34,21 +21,10 @@ use Rattle.quorum_history.proofs.Phases.{no, votes_unmarked}
 use Rattle.quorum_laws.proofs.Events.{Does, Keeps, each_event, member_of}
 use Rattle.quorum_laws.proofs.Invariant.{InvOf, InvWith}
 use Rattle.quorum_laws.proofs.Reading.{state_holds}
-use Rattle.quorum_model.specs.Agree.{Agrees}
-use Rattle.quorum_model.specs.Clients.{replies_of, with_asked}
-use Rattle.quorum_model.specs.Events.{AllFit, PlainFits}
-use Rattle.quorum_model.specs.Growth.{last_of}
-use Rattle.quorum_model.specs.Happens.{happens, kept_only, lost, moved, unmoved}
-use Rattle.quorum_model.specs.Monitors.{Monitors}
-use Rattle.quorum_model.specs.Runs.{run}
-use Rattle.quorum_model.specs.Shown.{IsShown, ShowsLog}
-use Rattle.quorum_model.specs.World.{Asked, Event, Plain, Replied, World, first_world, plain_of}
 use Rattle.quorum_walk.proofs.Lists.{all_append, all_both, all_drop, all_map, all_of}
 use Rattle.quorum_walk.proofs.Sparing.{own_of}
-use Rattle.std.proofs.Common.{IsTrue, List, Some, [], ap, arith, eqb, false, inl, inr, leb, length, subst, suc, sym, true, ℕ, ◌∙◌, ◌∷◌, ◌≡◌, ◌≤◌, ◌⊎◌}
+use Rattle.std.proofs.Common.{IfOk, IsTrue, List, Some, [], ap, arith, drop, eqb, false, filter, inl, inr, leb, length, subst, suc, sym, true, ℕ, ◌∙◌, ◌∷◌, ◌≡◌, ◌≤◌, ◌⊎◌}
 use Rattle.std.proofs.lemmas.Bool.{cond_both, false≢true, ltb-true}
-use Rattle.std.specs.List.{AllByRecursion, filter}
-use Rattle.std.specs.Prelude.{IfOk, drop}
 
 -- ---- a reply that says that more changes follow has one
 

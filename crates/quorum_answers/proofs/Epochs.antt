@@ -1,28 +1,14 @@
 -- An event keeps the marks of each epoch.
-use Rattle.mon_bytes.specs.declared.command.Command.{Command}
-use Rattle.mon_msg.specs.Joined.{joined}
-use Rattle.mon_msg.specs.Protocol.Changes.{encoded}
-use Rattle.mon_msg.specs.Protocol.Phases.{is_peon}
-use Rattle.mon_msg.specs.Protocol.Readings.{Readings, epoch_of, readings_of}
-use Rattle.mon_msg.specs.Protocol.State.{State}
+use Rattle.law_names.proofs.Runs.{Asked, Envelope, Monitors, World, is_active, messages_of}
+use Rattle.law_names.proofs.Table.{AllByRecursion, Body, Command, Me, Message, Origin, Phase, Readings, Reply, Sent, State, Store, apply, encoded, epoch_of, has, is_peon, joined, readings_of, text}
 use Rattle.mon_msg.specs.declared.input.Input.TheVariants as input
-use Rattle.mon_msg.specs.declared.plan.Origin.{Origin}
 use Rattle.mon_msg.specs.declared.plan.Sent.TheVariants as sent
-use Rattle.mon_msg.specs.declared.plan.Sent.{Sent}
-use Rattle.mon_msg.specs.declared.view.Me.{Me}
-use Rattle.mon_tx.specs.Map.{Store, apply}
-use Rattle.mon_tx.specs.Text.{text}
-use Rattle.mon_types.specs.Ranks.{has}
 use Rattle.mon_wire.specs.declared.body.Body.TheVariants as body
-use Rattle.mon_wire.specs.declared.body.Body.{Body}
-use Rattle.mon_wire.specs.declared.message.Message.{Message}
 use Rattle.mon_wire.specs.declared.phase.Phase.TheVariants as phase
-use Rattle.mon_wire.specs.declared.phase.Phase.{Phase}
-use Rattle.mon_wire.specs.declared.reply.Reply.{Reply}
 use Rattle.quorum_agreement.proofs.Held.{level_at}
 use Rattle.quorum_agreement.proofs.Premises.{Completed, accept_completes, leads_others}
 use Rattle.quorum_answers.proofs.Event as event
-use Rattle.quorum_answers.proofs.Marks.{AcceptedTo, BodyMark, HasLease, IsLease, Lasts, Mark, NoLease, NotBelow, PhaseMark, SentMark, StateMark, HasNoLess, active_of, lease_lasts, led_unmarked, mark_lasts, one_leader, peon_has, phase_lasts, sent_lasts, was_led}
+use Rattle.quorum_answers.proofs.Marks.{AcceptedTo, BodyMark, HasLease, HasNoLess, IsLease, Lasts, Mark, NoLease, NotBelow, PhaseMark, SentMark, StateMark, active_of, lease_lasts, led_unmarked, mark_lasts, one_leader, peon_has, phase_lasts, sent_lasts, was_led}
 use Rattle.quorum_answers.proofs.Saying as saying
 use Rattle.quorum_answers.proofs.Saying.{all_left, has_answers, is_gathering}
 use Rattle.quorum_history.proofs.History.{AnEpoch, Entered, Had}
@@ -34,16 +20,10 @@ use Rattle.quorum_laws.proofs.Invariant.{EnvelopeHolds, Further, InvOf, InvWith,
 use Rattle.quorum_laws.proofs.Later.{Later}
 use Rattle.quorum_laws.proofs.Reading.{at_least, state_holds}
 use Rattle.quorum_laws.specs.Accepting.{HasAccepted, readings_at}
-use Rattle.quorum_model.specs.Clients.{messages_of}
-use Rattle.quorum_model.specs.Happens.{is_active}
-use Rattle.quorum_model.specs.Monitors.{Monitors}
-use Rattle.quorum_model.specs.World.{Asked, Envelope, World}
 use Rattle.quorum_walk.proofs.FineCourses.{Ended, begun}
 use Rattle.quorum_walk.proofs.Lists.{Among, all_append, all_both, all_map}
 use Rattle.quorum_walk.proofs.Sparing.{own_of}
-use Rattle.std.proofs.Common.{Bool, List, Some, [], ap, arith, inl, inr, refl, subst, suc, sym, true, ℕ, ◌++◌, ◌<◌, ◌∙◌, ◌∷◌, ◌≡◌, ◌≤◌, ◌⊎◌}
-use Rattle.std.specs.List.{AllByRecursion}
-use Rattle.std.specs.Prelude.{is_some}
+use Rattle.std.proofs.Common.{Bool, List, Some, [], ap, arith, inl, inr, is_some, refl, subst, suc, sym, true, ℕ, ◌++◌, ◌<◌, ◌∙◌, ◌∷◌, ◌≡◌, ◌≤◌, ◌⊎◌}
 
 -- this proof needs no fact about a ROUTE
 abbrev AnyRoute : (f e seq : ℕ) → Reply → Type 0

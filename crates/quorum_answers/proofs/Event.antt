@@ -1,24 +1,10 @@
 -- What an event says, whatever is known of the ROUTEs that come.
-use Rattle.mon_bytes.specs.declared.command.Command.{Command}
-use Rattle.mon_msg.specs.Protocol.Course.{Course}
-use Rattle.mon_msg.specs.Protocol.Phases.{same_phase}
-use Rattle.mon_msg.specs.Protocol.Readings.{Readings, epoch_of, readings_of, shared_entries}
-use Rattle.mon_msg.specs.Protocol.State.{State}
-use Rattle.mon_msg.specs.Protocol.Value.{value}
-use Rattle.mon_msg.specs.declared.clients.Waiting.{Waiting}
+use Rattle.law_names.proofs.Runs.{Asked, Envelope, Monitors, World}
+use Rattle.law_names.proofs.Table.{AllByRecursion, Body, Command, Course, Input, Me, Message, Op, Origin, Readings, Reply, Request, State, Waiting, epoch_of, readings_of, same_phase, shared_entries, text, value}
 use Rattle.mon_msg.specs.declared.input.Input.TheVariants as input
-use Rattle.mon_msg.specs.declared.input.Input.{Input}
-use Rattle.mon_msg.specs.declared.plan.Origin.{Origin}
-use Rattle.mon_msg.specs.declared.view.Me.{Me}
-use Rattle.mon_tx.specs.Text.{text}
-use Rattle.mon_tx.specs.declared.op.Op.{Op}
 use Rattle.mon_wire.specs.declared.body.Body.TheVariants as body
-use Rattle.mon_wire.specs.declared.body.Body.{Body}
-use Rattle.mon_wire.specs.declared.message.Message.{Message}
 use Rattle.mon_wire.specs.declared.phase.Phase.TheVariants as phase
-use Rattle.mon_wire.specs.declared.reply.Reply.{Reply}
 use Rattle.mon_wire.specs.declared.request.Request.TheVariants as request
-use Rattle.mon_wire.specs.declared.request.Request.{Request}
 use Rattle.quorum_agreement.proofs.Lone.{active_is}
 use Rattle.quorum_answers.proofs.Rows.{BodyKnown, InputKnown, RequestKnown, reacts}
 use Rattle.quorum_answers.proofs.Saying as saying
@@ -28,12 +14,9 @@ use Rattle.quorum_history.proofs.Rows.{InputHolds}
 use Rattle.quorum_history.proofs.RowsClients as clients
 use Rattle.quorum_laws.proofs.Events.{Does, member_of}
 use Rattle.quorum_laws.proofs.Invariant.{InvWith}
-use Rattle.quorum_model.specs.Monitors.{Monitors}
-use Rattle.quorum_model.specs.World.{Asked, Envelope, World}
 use Rattle.quorum_walk.proofs.Sparing.{own_of}
 use Rattle.quorum_walk.proofs.Walk.{Then}
 use Rattle.std.proofs.Common.{List, refl, subst, true, ℕ, ◌≡◌}
-use Rattle.std.specs.List.{AllByRecursion}
 
 module _ (ms : Monitors) (w : World) (asked : List Asked) (J : InvWith ms w asked) (On : Envelope → Type 0) (d : Does ms w On asked J) where
   abbrev pub me : Me

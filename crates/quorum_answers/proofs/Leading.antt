@@ -1,46 +1,19 @@
 -- A leader's acts, elections and new beginnings, as `Saying` has them.
-use Rattle.election_rules.specs.Ranking.{allows}
+use Rattle.law_names.proofs.Table.{AllByRecursion, Body, Cell, Change, Command, Course, Found, Input, Me, Numbers, Op, Origin, Phase, Readings, Reply, Sent, State, allows, answers_to, be_active, begin, begin_alone, begin_found, begin_with, bootstrap, collect, collect_with, commits_to, commits_with, elect, epoch_of, extend, fits, flat_map, in_next_epoch, in_odd_epoch, is_alone, is_even, learn, longest, members, message_to, missed, next_even, next_number, only, or_zero, others, own_table, promise_of, reign, run_from, settle, value, win}
 use Rattle.log_model.proofs.Records.{run_from_length}
-use Rattle.mon_bytes.specs.declared.command.Command.{Command}
 use Rattle.mon_msg.proofs.Runs.{longest_is}
-use Rattle.mon_msg.specs.Protocol.Changes.{Change, Numbers}
-use Rattle.mon_msg.specs.Protocol.Collecting.{begin_found, collect, collect_with, commits_to, commits_with, missed, reign, settle}
-use Rattle.mon_msg.specs.Protocol.Course.{Course}
-use Rattle.mon_msg.specs.Protocol.Entering.{bootstrap, elect, in_next_epoch, in_odd_epoch, is_even, next_even, own_table, win}
-use Rattle.mon_msg.specs.Protocol.Leading.{be_active, begin, begin_alone, begin_with, extend, is_alone}
-use Rattle.mon_msg.specs.Protocol.Learning.{learn}
-use Rattle.mon_msg.specs.Protocol.Length.{fits}
-use Rattle.mon_msg.specs.Protocol.Readings.{Readings, epoch_of, or_zero, promise_of}
-use Rattle.mon_msg.specs.Protocol.Records.{longest, run_from}
-use Rattle.mon_msg.specs.Protocol.Sending.{answers_to, members, message_to, others}
-use Rattle.mon_msg.specs.Protocol.Sets.{only}
-use Rattle.mon_msg.specs.Protocol.State.{State}
-use Rattle.mon_msg.specs.Protocol.Value.{value}
-use Rattle.mon_msg.specs.declared.input.Input.{Input}
-use Rattle.mon_msg.specs.declared.paxos.Found.{Found}
 use Rattle.mon_msg.specs.declared.plan.Origin.TheVariants as origin
-use Rattle.mon_msg.specs.declared.plan.Origin.{Origin}
-use Rattle.mon_msg.specs.declared.plan.Sent.{Sent}
-use Rattle.mon_msg.specs.declared.view.Me.{Me}
-use Rattle.mon_tx.specs.Decision.{Cell}
-use Rattle.mon_tx.specs.declared.op.Op.{Op}
-use Rattle.mon_types.specs.Proposal.{next_number}
 use Rattle.mon_types.specs.declared.names.Which.TheVariants as which
 use Rattle.mon_wire.specs.declared.body.Body.TheVariants as body
-use Rattle.mon_wire.specs.declared.body.Body.{Body}
 use Rattle.mon_wire.specs.declared.phase.Phase.TheVariants as phase
-use Rattle.mon_wire.specs.declared.phase.Phase.{Phase}
 use Rattle.mon_wire.specs.declared.reply.Reply.TheVariants as reply
-use Rattle.mon_wire.specs.declared.reply.Reply.{Reply}
 use Rattle.quorum_agreement.proofs.Accepting.{then_map}
 use Rattle.quorum_answers.proofs.Saying as saying
 use Rattle.quorum_answers.proofs.Saying.{Learned, NoRefusal, has_answers, learns}
 use Rattle.quorum_walk.proofs.Lists.{all_append, all_flat_map, all_map, all_of}
 use Rattle.quorum_walk.proofs.Walk.{Then, and_then, by_test, done, where_fits}
-use Rattle.std.proofs.Common.{Bool, List, None, Ok, Option, Some, [], ap, arith, eqb, inl, inr, length, length-append, ltb, map, max, not, refl, subst, suc, sym, true, ℕ, ◌&&◌, ◌++◌, ◌-◌, ◌<◌, ◌∙◌, ◌∷◌, ◌≡◌, ◌≤◌}
+use Rattle.std.proofs.Common.{Bool, List, None, Ok, Option, Some, [], ap, arith, eqb, inl, inr, length, length-append, ltb, map, max, not, refl, slice_index_or, subst, suc, sym, true, ℕ, ◌&&◌, ◌++◌, ◌-◌, ◌<◌, ◌∙◌, ◌∷◌, ◌≡◌, ◌≤◌}
 use Rattle.std.proofs.lemmas.Bool.{cond_both, ltb-false, ltb-true}
-use Rattle.std.specs.List.{AllByRecursion, flat_map}
-use Rattle.std.specs.Prelude.{slice_index_or}
 
 module _ (me : Me) (now : ℕ) (w : Readings) (s : State) (came : Input) (From : ℕ → Command → Origin → Type 0) (Routed : (f e seq : ℕ) → Reply → Type 0) (Voted : (f pn v : ℕ) → Type 0) where
   abbrev Outcome : Course → Type 0

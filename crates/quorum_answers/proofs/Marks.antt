@@ -1,13 +1,8 @@
 -- A mark of an epoch is a version below which nobody reads in that epoch. What was shown in an epoch is a mark.
-use Rattle.mon_lease.specs.Lease.{readable, stands}
-use Rattle.mon_msg.specs.Protocol.Phases.{is_leading, is_member, is_peon}
-use Rattle.mon_msg.specs.Protocol.Readings.{epoch_of}
-use Rattle.mon_msg.specs.Protocol.State.{State, lease_of}
-use Rattle.mon_types.specs.Ranks.{has}
+use Rattle.law_names.proofs.Runs.{Envelope, Monitors, World}
+use Rattle.law_names.proofs.Table.{AllByRecursion, Body, Phase, State, epoch_of, has, is_leading, is_member, is_peon, lease_of, readable, stands}
 use Rattle.mon_wire.specs.declared.body.Body.TheVariants as body
-use Rattle.mon_wire.specs.declared.body.Body.{Body}
 use Rattle.mon_wire.specs.declared.phase.Phase.TheVariants as phase
-use Rattle.mon_wire.specs.declared.phase.Phase.{Phase}
 use Rattle.quorum_agreement.proofs.Held.{Still, level_at}
 use Rattle.quorum_answers.proofs.Saying.{has_answers}
 use Rattle.quorum_history.proofs.History.{Entered, Ghost, RolesHold}
@@ -18,15 +13,11 @@ use Rattle.quorum_laws.proofs.Invariant.{Further, InvOf, WasActive}
 use Rattle.quorum_laws.proofs.Later.{Later}
 use Rattle.quorum_laws.proofs.Reading.{accepted_as, state_holds}
 use Rattle.quorum_laws.specs.Accepting.{HasAccepted, readings_at}
-use Rattle.quorum_model.specs.Monitors.{Monitors}
-use Rattle.quorum_model.specs.World.{Envelope, World}
 use Rattle.quorum_walk.proofs.Lists.{Among, all_among, all_append, among_left}
 use Rattle.quorum_walk.proofs.Ranks.{majorities, within_at}
 use Rattle.quorum_walk.proofs.Sparing.{own_of}
-use Rattle.std.proofs.Common.{Bool, List, None, Option, Some, ap, arith, cond, eqb, false, inl, inr, length, ltb, refl, subst, suc, sym, true, ℕ, ◌++◌, ◌+◌, ◌<◌, ◌||◌, ◌∙◌, ◌≡◌, ◌≤◌, ◌⊎◌}
+use Rattle.std.proofs.Common.{Bool, List, None, Option, Some, ap, arith, cond, eqb, false, inl, inr, is_some, length, ltb, refl, subst, suc, sym, true, ℕ, ◌++◌, ◌+◌, ◌<◌, ◌||◌, ◌∙◌, ◌≡◌, ◌≤◌, ◌⊎◌}
 use Rattle.std.proofs.lemmas.Bool.{and_parts, eqb-true, or_cases}
-use Rattle.std.specs.List.{AllByRecursion}
-use Rattle.std.specs.Prelude.{is_some}
 
 -- the body is no LEASE of epoch e with a version below v
 abbrev pub NotBelow : (e v f : ℕ) → Body → Type 0

@@ -1,10 +1,10 @@
 -- Operations of one epoch are in the order of their events, as replies and acknowledgements come.
+use Rattle.law_names.proofs.Runs.{Acknowledged, Replied, World}
+use Rattle.law_names.proofs.Table.{AllByRecursion}
 use Rattle.quorum_answers.specs.Reads.{NoOlder, Shows}
 use Rattle.quorum_answers.specs.Refused.{CoversAll}
-use Rattle.quorum_model.specs.World.{Acknowledged, Replied, World}
 use Rattle.quorum_walk.proofs.Lists.{Among, all_among, all_append, all_both, all_map}
 use Rattle.std.proofs.Common.{List, [], arith, inl, inr, refl, subst, suc, sym, ℕ, ◌++◌, ◌<◌, ◌∷◌, ◌≡◌, ◌≤◌}
-use Rattle.std.specs.List.{AllByRecursion}
 
 -- ---- pairs of items
 

@@ -1,30 +1,18 @@
 -- A command's value over a store that agrees with the log is the one over the log.
+use Rattle.law_names.proofs.Runs.{Agrees, AllValues, IsValue, Keeps, last_of, log_from, row_after, view_at, within}
+use Rattle.law_names.proofs.Table.{Command, Readings, Service, ShownMap, Store, apply_op, incrementals, is_too_long, made, map_after, most_text, put_number, read_map, readings_of, text_length, value, value_if_made}
 use Rattle.log_model.proofs.Committed as committed
 use Rattle.log_model.proofs.Committed.{holds, keeps_shared, value_told}
 use Rattle.log_model.proofs.FoldWindows.{keeps_view}
 use Rattle.log_model.proofs.Logs.{IsPrefixOf, entry_stays, fold_stays, incrementals_stay}
 use Rattle.log_model.proofs.RowReadings.{map_is}
 use Rattle.log_model.proofs.Windows.{row_of}
-use Rattle.log_model.specs.LogOfValues.{AllValues, IsValue, view_at}
-use Rattle.log_model.specs.Windows.{Keeps, log_from, row_after, within}
 use Rattle.mon_bytes.specs.declared.command.Command.TheVariants as command
-use Rattle.mon_bytes.specs.declared.command.Command.{Command}
 use Rattle.mon_bytes.specs.declared.command.CommandRefused.TheVariants as refused
-use Rattle.mon_msg.specs.Fold.{incrementals, map_after}
-use Rattle.mon_msg.specs.Protocol.Commands.{is_too_long, most_text, text_length}
-use Rattle.mon_msg.specs.Protocol.Readings.{Readings, readings_of}
-use Rattle.mon_msg.specs.Protocol.Services.{read_map}
-use Rattle.mon_msg.specs.Protocol.Value.{made, value, value_if_made}
-use Rattle.mon_msg.specs.Puts.{put_number}
-use Rattle.mon_tx.specs.Map.{Store, apply_op}
 use Rattle.mon_tx.specs.declared.key.Area.TheVariants as area
 use Rattle.mon_tx.specs.declared.key.Key.TheVariants as key
-use Rattle.mon_wire.specs.declared.reply.ShownMap.{ShownMap}
 use Rattle.mon_wire.specs.declared.request.Service.TheVariants as service
-use Rattle.mon_wire.specs.declared.request.Service.{Service}
 use Rattle.quorum_agreement.proofs.Held.{last_is}
-use Rattle.quorum_model.specs.Agree.{Agrees}
-use Rattle.quorum_model.specs.Growth.{last_of}
 use Rattle.std.proofs.Common.{Err, List, None, Some, [], ap, arith, cond, get_or-take, length, length-take-le, refl, subst, suc, sym, take, true, ℕ, ◌^◌, ◌∙◌, ◌≡◌, ◌≤◌}
 
 -- what a log's first versions make stays when it grows

@@ -1,36 +1,14 @@
 -- What one monitor shows and acknowledges isn't above what it has, and not below what it showed before.
-use Rattle.mon_bytes.specs.declared.command.Command.{Command}
-use Rattle.mon_msg.specs.Joined.{joined}
-use Rattle.mon_msg.specs.Protocol.Changes.{Change, encoded}
-use Rattle.mon_msg.specs.Protocol.Course.{Course}
-use Rattle.mon_msg.specs.Protocol.Phases.{is_leading, is_member, same_phase, votes}
-use Rattle.mon_msg.specs.Protocol.Played.{played}
-use Rattle.mon_msg.specs.Protocol.Readings.{Readings, epoch_of, readings_of, shared_entries}
-use Rattle.mon_msg.specs.Protocol.Reads.{since}
-use Rattle.mon_msg.specs.Protocol.State.{State, lease_of}
-use Rattle.mon_msg.specs.Protocol.Value.{value}
+use Rattle.law_names.proofs.Runs.{Acknowledged, Asked, Envelope, Monitors, Replied, World, acknowledgement, acknowledgements_of, done_by, done_in, last_of, messages_of, put_at, replies_of}
+use Rattle.law_names.proofs.Table.{AllByRecursion, Body, Change, Command, Course, Input, Leader, Me, Origin, Phase, Readings, Reply, Request, Sent, Session, State, Store, Waiting, apply, encoded, epoch_of, is_leading, is_member, joined, lease_of, played, readable, readings_of, same_phase, shared_entries, since, text, value, votes}
 use Rattle.mon_msg.specs.declared.clients.Asked as waiting
-use Rattle.mon_msg.specs.declared.clients.Waiting.{Waiting}
 use Rattle.mon_msg.specs.declared.input.Input.TheVariants as input
-use Rattle.mon_msg.specs.declared.input.Input.{Input}
-use Rattle.mon_msg.specs.declared.paxos.Leader.{Leader}
-use Rattle.mon_msg.specs.declared.plan.Origin.{Origin}
 use Rattle.mon_msg.specs.declared.plan.Sent.TheVariants as sent
-use Rattle.mon_msg.specs.declared.plan.Sent.{Sent}
-use Rattle.mon_msg.specs.declared.view.Me.{Me}
-use Rattle.mon_tx.specs.Map.{Store, apply}
-use Rattle.mon_tx.specs.Text.{text}
 use Rattle.mon_wire.specs.declared.body.Body.TheVariants as body
-use Rattle.mon_wire.specs.declared.body.Body.{Body}
 use Rattle.mon_wire.specs.declared.phase.Phase.TheVariants as phase
-use Rattle.mon_wire.specs.declared.phase.Phase.{Phase}
-use Rattle.mon_wire.specs.declared.reply.Reply.{Reply}
 use Rattle.mon_wire.specs.declared.request.Request.TheVariants as request
-use Rattle.mon_wire.specs.declared.request.Request.{Request}
-use Rattle.mon_wire.specs.declared.request.Session.{Session}
 use Rattle.quorum_agreement.proofs.Acknowledging.{NoShow, NoShowBody, NoShowSent, answer_shows_nothing, no_acks, no_routes_show, one_ack, plain_acks, plain_shows_nothing}
 use Rattle.quorum_agreement.proofs.Answering.{AtOnce, BodyKnown, Completes, InputKnown, IsRead, Lead, Outcome, RequestKnown, answers, peon_leads_not}
-use Rattle.mon_lease.specs.Lease.{readable}
 use Rattle.quorum_agreement.proofs.Held.{Still, last_is, level_at}
 use Rattle.quorum_answers.proofs.Ordering.{AllPairs, pairs_grow, pairs_of}
 use Rattle.quorum_answers.proofs.Replies.{shows_not, shows_nothing_done, since_shows}
@@ -43,19 +21,12 @@ use Rattle.quorum_laws.proofs.Events.{Does, ToldOf, ended, member_of, same, shar
 use Rattle.quorum_laws.proofs.Invariant.{InvOf, InvWith}
 use Rattle.quorum_laws.proofs.Later.{Later}
 use Rattle.quorum_laws.proofs.Reading.{state_holds}
-use Rattle.quorum_model.specs.Acknowledging.{acknowledgement, acknowledgements_of, done_by, done_in}
-use Rattle.quorum_model.specs.Clients.{messages_of, replies_of}
-use Rattle.quorum_model.specs.Growth.{last_of}
-use Rattle.quorum_model.specs.Happens.{put_at}
-use Rattle.quorum_model.specs.Monitors.{Monitors}
-use Rattle.quorum_model.specs.World.{Acknowledged, Asked, Envelope, Replied, World}
 use Rattle.quorum_walk.proofs.FineCourses.{Ended, Fit, begun}
 use Rattle.quorum_walk.proofs.Lists.{all_append, all_map, all_of}
 use Rattle.quorum_walk.proofs.Sparing.{Own, learned_own, own_of}
 use Rattle.quorum_walk.proofs.Walk.{Then}
-use Rattle.std.proofs.Common.{Bool, List, None, Some, [], ap, arith, cond, eqb, false, inl, inr, refl, subst, suc, sym, true, ℕ, ◌++◌, ◌<◌, ◌||◌, ◌∙◌, ◌∷◌, ◌≡◌, ◌≤◌, ◌⊎◌}
+use Rattle.std.proofs.Common.{Bool, List, None, Some, [], ap, arith, cond, eqb, false, filter, inl, inr, refl, subst, suc, sym, true, ℕ, ◌++◌, ◌<◌, ◌||◌, ◌∙◌, ◌∷◌, ◌≡◌, ◌≤◌, ◌⊎◌}
 use Rattle.std.proofs.lemmas.Bool.{eqb-true}
-use Rattle.std.specs.List.{AllByRecursion, filter}
 
 -- ---- what this proof needs of commands, ROUTEs, votes and requests
 

@@ -1,18 +1,13 @@
 -- Worlds that runs reach, so that what holds of every run holds of them.
+use Rattle.law_names.proofs.Runs.{AllFit, Event, Monitors, PlainFits, Ran, World, first_world, happens, plain_of, ran, ran_from, run, run_from}
 use Rattle.log_model.proofs.Logs.{IsPrefixOf}
 use Rattle.quorum_agreement.proofs.Every.{grows}
 use Rattle.quorum_agreement.specs.Growing.{GrowsBy}
 use Rattle.quorum_model.proofs.Continuing.{ran_on, ran_one}
 use Rattle.quorum_model.proofs.Happening.{of_next, run_keeps}
-use Rattle.quorum_model.specs.Events.{AllFit, PlainFits}
-use Rattle.quorum_model.specs.Happens.{happens}
-use Rattle.quorum_model.specs.Monitors.{Monitors}
-use Rattle.quorum_model.specs.Runs.{Ran, ran, ran_from, run, run_from}
-use Rattle.quorum_model.specs.World.{Event, World, first_world, plain_of}
 use Rattle.quorum_walk.proofs.Lists.{all_append}
-use Rattle.std.proofs.Common.{List, None, Ok, [], ap, arith, length-append, refl, subst, sym, ℕ, ◌++◌, ◌∙◌, ◌∷◌, ◌≡◌}
+use Rattle.std.proofs.Common.{IfOk, List, None, Ok, [], ap, arith, length-append, refl, subst, sym, ℕ, ◌++◌, ◌∙◌, ◌∷◌, ◌≡◌}
 use Rattle.std.proofs.lemmas.List.{get_or_append_left}
-use Rattle.std.specs.Prelude.{IfOk}
 
 -- world w is the end of a run, and none of its events stops it
 pub record Reached (ms : Monitors) (w : World) : Type 0 where

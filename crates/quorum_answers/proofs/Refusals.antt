@@ -1,30 +1,13 @@
 -- Each refusal is the service's, over the log.
+use Rattle.law_names.proofs.Runs.{Acknowledged, Agree, Agrees, AllFit, AllValues, Asked, Envelope, Event, IsKeptIn, Monitors, Plain, PlainFits, Replied, World, first_world, happens, is_marked, kept_only, last_of, lost, messages_of, moved, plain_of, replies_of, run, run_from, unmoved, with_asked}
+use Rattle.law_names.proofs.Table.{AllByRecursion, Body, Command, Contains, Me, Message, Origin, Readings, Reply, Sent, Session, State, Store, apply, encoded, epoch_of, joined, most_text, reaction_of, readings_of, same_phase, text_length, value, votes}
 use Rattle.log_model.proofs.Logs.{IsPrefixOf}
-use Rattle.log_model.specs.LogOfValues.{AllValues}
-use Rattle.mon_bytes.specs.declared.command.Command.{Command}
 use Rattle.mon_bytes.specs.declared.command.CommandRefused.TheVariants as because
-use Rattle.mon_kv.specs.Readers.{is_marked}
-use Rattle.mon_msg.specs.Joined.{joined}
-use Rattle.mon_msg.specs.Protocol.Changes.{encoded}
-use Rattle.mon_msg.specs.Protocol.Commands.{most_text, text_length}
-use Rattle.mon_msg.specs.Protocol.Phases.{same_phase, votes}
-use Rattle.mon_msg.specs.Protocol.Reaction.{reaction_of}
-use Rattle.mon_msg.specs.Protocol.Readings.{Readings, epoch_of, readings_of}
-use Rattle.mon_msg.specs.Protocol.State.{State}
-use Rattle.mon_msg.specs.Protocol.Value.{value}
 use Rattle.mon_msg.specs.declared.input.Input.TheVariants as input
 use Rattle.mon_msg.specs.declared.plan.Origin.TheVariants as origin
-use Rattle.mon_msg.specs.declared.plan.Origin.{Origin}
 use Rattle.mon_msg.specs.declared.plan.Sent.TheVariants as sent
-use Rattle.mon_msg.specs.declared.plan.Sent.{Sent}
-use Rattle.mon_msg.specs.declared.view.Me.{Me}
-use Rattle.mon_tx.specs.Map.{Store, apply}
 use Rattle.mon_wire.specs.declared.body.Body.TheVariants as body
-use Rattle.mon_wire.specs.declared.body.Body.{Body}
-use Rattle.mon_wire.specs.declared.message.Message.{Message}
 use Rattle.mon_wire.specs.declared.phase.Phase.TheVariants as phase
-use Rattle.mon_wire.specs.declared.reply.Reply.{Reply}
-use Rattle.mon_wire.specs.declared.request.Session.{Session}
 use Rattle.quorum_agreement.proofs.Every.{agrees, all_values}
 use Rattle.quorum_agreement.proofs.Held.{last_is}
 use Rattle.quorum_agreement.proofs.Result.{there_marked}
@@ -37,7 +20,7 @@ use Rattle.quorum_answers.proofs.Reached.{Reached, log_prefix_next, reached_firs
 use Rattle.quorum_answers.proofs.Saying as saying
 use Rattle.quorum_answers.proofs.Saying.{NoRefusal}
 use Rattle.quorum_answers.proofs.Whole as whole
-use Rattle.quorum_answers.specs.Refused.{AllRefused, CoversAll, IsRefused, IsRefusalReply}
+use Rattle.quorum_answers.specs.Refused.{AllRefused, CoversAll, IsRefusalReply, IsRefused}
 use Rattle.quorum_history.proofs.History.{Ghost, Handed, hand}
 use Rattle.quorum_history.proofs.Holds.{FollowsIn, InPhase, IsHanded, core_of}
 use Rattle.quorum_history.proofs.Phases.{no, peon_is_peon, votes_unmarked}
@@ -47,22 +30,11 @@ use Rattle.quorum_laws.proofs.Invariant.{Further, InvOf, InvWith, further_trans}
 use Rattle.quorum_laws.proofs.Reading.{state_holds}
 use Rattle.quorum_laws.specs.Accepting.{readings_at}
 use Rattle.quorum_laws.specs.Commands.{WasAsked}
-use Rattle.quorum_model.specs.Agree.{Agree, Agrees}
-use Rattle.quorum_model.specs.Clients.{messages_of, replies_of, with_asked}
-use Rattle.quorum_model.specs.Events.{AllFit, PlainFits}
-use Rattle.quorum_model.specs.Growth.{last_of}
 use Rattle.quorum_model.proofs.Happening.{of_next, runs_apart}
-use Rattle.quorum_model.specs.Happens.{happens, kept_only, lost, moved, unmoved}
-use Rattle.quorum_model.specs.Kept.{IsKeptIn}
-use Rattle.quorum_model.specs.Monitors.{Monitors}
-use Rattle.quorum_model.specs.Runs.{run, run_from}
-use Rattle.quorum_model.specs.World.{Acknowledged, Asked, Envelope, Event, Plain, Replied, World, first_world, plain_of}
 use Rattle.quorum_walk.proofs.Lists.{Among, all_among, all_append, all_map, among_left}
 use Rattle.quorum_walk.proofs.Sparing.{own_of}
-use Rattle.std.proofs.Common.{List, Ok, Some, [], ap, arith, false, inl, inr, length, refl, subst, sym, true, ℕ, ◌++◌, ◌<◌, ◌^◌, ◌∙◌, ◌∷◌, ◌≡◌, ◌≤◌}
+use Rattle.std.proofs.Common.{IfOk, List, Ok, Some, [], ap, arith, false, inl, inr, length, refl, subst, sym, true, ℕ, ◌++◌, ◌<◌, ◌^◌, ◌∙◌, ◌∷◌, ◌≡◌, ◌≤◌}
 use Rattle.std.proofs.lemmas.Bool.{ltb-true}
-use Rattle.std.specs.List.{AllByRecursion, Contains}
-use Rattle.std.specs.Prelude.{IfOk}
 
 -- a ROUTE brings a refusal to a session that handed its command on under this number
 pub record IsHandedBack (before w : World) (g : Ghost) (to e seq : ℕ) (r : Reply) : Type 0 where

@@ -1,14 +1,10 @@
 -- Kinds of replies: one that shows something refuses and acknowledges nothing.
-use Rattle.mon_msg.specs.Protocol.Readings.{Readings}
-use Rattle.mon_msg.specs.Protocol.Reads.{changes_after, shown, since}
-use Rattle.mon_msg.specs.Protocol.Services.{kept_from, service_first, service_last}
+use Rattle.law_names.proofs.Runs.{done_in}
+use Rattle.law_names.proofs.Table.{Readings, Reply, Service, changes_after, kept_from, service_first, service_last, shown, since}
 use Rattle.mon_wire.specs.declared.reply.Reply.TheVariants as reply
-use Rattle.mon_wire.specs.declared.reply.Reply.{Reply}
-use Rattle.mon_wire.specs.declared.request.Service.{Service}
 use Rattle.quorum_agreement.proofs.Acknowledging.{NoShow}
 use Rattle.quorum_answers.specs.Reads.{Shows}
 use Rattle.quorum_answers.specs.Refused.{IsRefusalReply}
-use Rattle.quorum_model.specs.Acknowledging.{done_in}
 use Rattle.std.proofs.Common.{None, leb, map, refl, suc, ℕ, ◌-◌, ◌≡◌}
 use Rattle.std.proofs.lemmas.Bool.{cond_both}
 

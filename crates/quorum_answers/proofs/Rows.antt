@@ -1,51 +1,17 @@
 -- What an event makes of a monitor, as `Saying` has it.
+use Rattle.law_names.proofs.Table.{AllByRecursion, Asked, Body, Change, Command, Course, Entry, Input, Last, MOST_WAITING, Me, Op, Origin, Phase, Promise, Readings, Reply, Request, Sent, Session, State, Unmark, Vote, Waiting, adopt, all_accepted, answer_any, answer_to, answers_to, are_within, asked_of, at_rest, be_active, begin, begin_with, change, commit, disarm, epoch_of, extend, full_sync, has, is_alone, is_one_of, is_peon, is_standing, leader_is, learn, members, message_to, news, news_from, of_leader, of_member, pending, promise_of, react, recent_sync, refusal, same_phase, send_each, shown, since, start, text, too_long, value, with_rank, ◌▸◌}
 use Rattle.mon_bytes.specs.declared.command.Command.TheVariants as command
-use Rattle.mon_bytes.specs.declared.command.Command.{Command}
-use Rattle.mon_bytes.specs.declared.entry.Entry.{Entry}
-use Rattle.mon_msg.specs.Protocol.Changes.{Change, Last, Promise, Unmark, Vote}
-use Rattle.mon_msg.specs.Protocol.Commands.{too_long}
-use Rattle.mon_msg.specs.Protocol.Course.{Course, change, disarm, leader_is, timers_are, ◌▸◌}
-use Rattle.mon_msg.specs.Protocol.Entering.{adopt}
-use Rattle.mon_msg.specs.Protocol.Leader.{all_accepted, is_one_of, of_member}
-use Rattle.mon_msg.specs.Protocol.Leading.{be_active, begin, begin_with, commit, extend, is_alone}
-use Rattle.mon_msg.specs.Protocol.Learning.{learn, news, news_from}
-use Rattle.mon_msg.specs.Protocol.Peon.{of_leader}
-use Rattle.mon_msg.specs.Protocol.Phases.{is_peon, same_phase}
-use Rattle.mon_msg.specs.Protocol.Proposing.{asked_of, refusal}
-use Rattle.mon_msg.specs.Protocol.Readings.{Readings, epoch_of, promise_of}
-use Rattle.mon_msg.specs.Protocol.Reads.{is_standing, shown, since}
-use Rattle.mon_msg.specs.Protocol.Records.{pending}
-use Rattle.mon_msg.specs.Protocol.Sending.{answer_any, answer_to, answers_to, members, message_to, send_each}
-use Rattle.mon_msg.specs.Protocol.Sets.{are_within}
-use Rattle.mon_msg.specs.Protocol.State.{State}
-use Rattle.mon_msg.specs.Protocol.Synchronizing.{full_sync, recent_sync}
-use Rattle.mon_msg.specs.Protocol.Table.{at_rest, react, start}
-use Rattle.mon_msg.specs.Protocol.Value.{value}
-use Rattle.mon_msg.specs.declared.clients.Asked.{Asked}
-use Rattle.mon_msg.specs.declared.clients.Waiting.{Waiting}
+use Rattle.mon_msg.specs.Protocol.Course.{timers_are}
 use Rattle.mon_msg.specs.declared.input.Input.TheVariants as input
-use Rattle.mon_msg.specs.declared.input.Input.{Input}
-use Rattle.mon_msg.specs.declared.limits.TheConstants.{MOST_WAITING}
 use Rattle.mon_msg.specs.declared.paxos.LeaderStage.TheVariants as stage
 use Rattle.mon_msg.specs.declared.plan.Origin.TheVariants as origin
-use Rattle.mon_msg.specs.declared.plan.Origin.{Origin}
 use Rattle.mon_msg.specs.declared.plan.Sent.TheVariants as sent
-use Rattle.mon_msg.specs.declared.plan.Sent.{Sent}
-use Rattle.mon_msg.specs.declared.view.Me.{Me}
-use Rattle.mon_tx.specs.Text.{text}
-use Rattle.mon_tx.specs.declared.op.Op.{Op}
-use Rattle.mon_types.specs.Ranks.{has, with_rank}
 use Rattle.mon_types.specs.declared.names.Which.TheVariants as which
 use Rattle.mon_wire.specs.declared.body.Body.TheVariants as body
-use Rattle.mon_wire.specs.declared.body.Body.{Body}
 use Rattle.mon_wire.specs.declared.phase.Phase.TheVariants as phase
-use Rattle.mon_wire.specs.declared.phase.Phase.{Phase}
 use Rattle.mon_wire.specs.declared.phase.Timer.TheVariants as timer
 use Rattle.mon_wire.specs.declared.reply.Reply.TheVariants as reply
-use Rattle.mon_wire.specs.declared.reply.Reply.{Reply}
 use Rattle.mon_wire.specs.declared.request.Request.TheVariants as request
-use Rattle.mon_wire.specs.declared.request.Request.{Request}
-use Rattle.mon_wire.specs.declared.request.Session.{Session}
 use Rattle.quorum_agreement.proofs.Accepting.{begun, begun_is, then_map}
 use Rattle.quorum_agreement.proofs.Lone.{active_is}
 use Rattle.quorum_answers.proofs.Leading as leaders
@@ -56,10 +22,8 @@ use Rattle.quorum_answers.specs.Refused.{IsRefusalReply}
 use Rattle.quorum_history.proofs.Phases.{no}
 use Rattle.quorum_walk.proofs.Lists.{Among, all_append, all_map, all_of}
 use Rattle.quorum_walk.proofs.Walk.{Then, and_then, and_three, by_test, done, or_three, where_fits}
-use Rattle.std.proofs.Common.{List, None, Option, Some, T, [], ap, arith, eqb, false, inl, inr, length, length-drop, ltb, map, not, refl, subst, suc, sym, true, ℕ, ◌&&◌, ◌++◌, ◌+◌, ◌-◌, ◌||◌, ◌∙◌, ◌∷◌, ◌≡◌, ◌≤◌, ◌⊎◌}
+use Rattle.std.proofs.Common.{List, None, Option, Some, T, [], ap, arith, eqb, false, filter, inl, inr, is_some, length, length-drop, ltb, map, not, refl, subst, suc, sym, true, ℕ, ◌&&◌, ◌++◌, ◌+◌, ◌-◌, ◌||◌, ◌∙◌, ◌∷◌, ◌≡◌, ◌≤◌, ◌⊎◌}
 use Rattle.std.proofs.lemmas.Bool.{and_parts, cond_both, eqb-true, ltb-false, not-false, or_parts}
-use Rattle.std.specs.List.{AllByRecursion, filter}
-use Rattle.std.specs.Prelude.{is_some}
 use Rattle.table_walk.proofs.Acts.{Acts, accepted_by}
 use Rattle.table_walk.proofs.Steps.{CommandOf, FoundOf, HeardFrom, InHand, MayAnswer, MayCommit, MayHold, MaySay, MaySend, MayWrite, Nothing, ReadOf, Steps, ValueOf, brought, busy_queue, busy_sessions, leading, not_readable, origin_of, refused, shows_map, shows_since, too_much, unread, unserved}
 use Rattle.table_walk.proofs.Table.{walked}

@@ -1,48 +1,21 @@
 -- What an event sends, how a leader's last version and a peon's lease come about, and why a command is refused.
-use Rattle.mon_bytes.specs.declared.command.Command.{Command}
-use Rattle.mon_bytes.specs.declared.command.CommandRefused.{CommandRefused}
-use Rattle.mon_msg.specs.Protocol.Changes.{Change, Last}
-use Rattle.mon_msg.specs.Protocol.Commands.{is_too_long, too_long}
-use Rattle.mon_msg.specs.Protocol.Course.{Course}
-use Rattle.mon_msg.specs.Protocol.Leading.{is_alone}
-use Rattle.mon_msg.specs.Protocol.Learning.{learn, learn_changes}
-use Rattle.mon_msg.specs.Protocol.Phases.{is_leading, is_peon, same_phase}
-use Rattle.mon_msg.specs.Protocol.Proposing.{asked_of, refusal}
-use Rattle.mon_msg.specs.Protocol.Readings.{Readings, epoch_of}
-use Rattle.mon_msg.specs.Protocol.Sending.{message_to}
-use Rattle.mon_msg.specs.Protocol.Sets.{are_within}
-use Rattle.mon_msg.specs.Protocol.State.{State}
-use Rattle.mon_msg.specs.Protocol.Value.{value}
-use Rattle.mon_msg.specs.declared.clients.Asked.{Asked}
+use Rattle.law_names.proofs.Runs.{is_active}
+use Rattle.law_names.proofs.Table.{AllByRecursion, Asked, Body, Change, Command, CommandRefused, Course, Input, Last, Me, Message, Op, Origin, Phase, Readings, Reply, Sent, Session, State, are_within, asked_of, epoch_of, is_alone, is_leading, is_peon, is_too_long, learn, learn_changes, message_to, refusal, same_phase, too_long, value, with_rank}
 use Rattle.mon_msg.specs.declared.input.Input.TheVariants as input
-use Rattle.mon_msg.specs.declared.input.Input.{Input}
 use Rattle.mon_msg.specs.declared.plan.Origin.TheVariants as origin
-use Rattle.mon_msg.specs.declared.plan.Origin.{Origin}
 use Rattle.mon_msg.specs.declared.plan.Sent.TheVariants as sent
-use Rattle.mon_msg.specs.declared.plan.Sent.{Sent}
-use Rattle.mon_msg.specs.declared.view.Me.{Me}
-use Rattle.mon_tx.specs.declared.op.Op.{Op}
-use Rattle.mon_types.specs.Ranks.{with_rank}
 use Rattle.mon_types.specs.declared.names.Which.TheVariants as which
 use Rattle.mon_wire.specs.declared.body.Body.TheVariants as body
-use Rattle.mon_wire.specs.declared.body.Body.{Body}
-use Rattle.mon_wire.specs.declared.message.Message.{Message}
 use Rattle.mon_wire.specs.declared.phase.Phase.TheVariants as phase
-use Rattle.mon_wire.specs.declared.phase.Phase.{Phase}
-use Rattle.mon_wire.specs.declared.reply.Reply.{Reply}
-use Rattle.mon_wire.specs.declared.request.Session.{Session}
 use Rattle.quorum_answers.specs.Refused.{IsRefusalReply}
 use Rattle.quorum_history.proofs.Holds.{epoch_in}
 use Rattle.quorum_history.proofs.Phases.{no, peon_is_peon}
-use Rattle.quorum_model.specs.Happens.{is_active}
 use Rattle.quorum_walk.proofs.FineCourses.{Fit}
 use Rattle.quorum_walk.proofs.Lists.{Among, all_append, all_map, all_of}
 use Rattle.quorum_walk.proofs.Sparing.{Own, Spares, learned_own}
 use Rattle.quorum_walk.proofs.Walk.{Then, done, where_fits}
-use Rattle.std.proofs.Common.{Bool, Err, List, Ok, Option, [], ap, append-nil, arith, false, inl, inr, length, map, refl, subst, suc, sym, true, ℕ, ◌++◌, ◌+◌, ◌<◌, ◌∙◌, ◌∷◌, ◌≡◌, ◌≤◌, ◌⊎◌}
+use Rattle.std.proofs.Common.{Bool, Err, List, Ok, Option, [], ap, append-nil, arith, false, inl, inr, is_some, length, map, refl, subst, suc, sym, true, ℕ, ◌++◌, ◌+◌, ◌<◌, ◌∙◌, ◌∷◌, ◌≡◌, ◌≤◌, ◌⊎◌}
 use Rattle.std.proofs.lemmas.List.{append_assoc}
-use Rattle.std.specs.List.{AllByRecursion}
-use Rattle.std.specs.Prelude.{is_some}
 
 -- ---- a leader's phases
 

@@ -1,33 +1,18 @@
 -- Each incremental of a log fits into a reply, so a reply has the next one.
+use Rattle.law_names.proofs.Runs.{Asked, IsAsked, IsCommand, incremental_of, view_at}
+use Rattle.law_names.proofs.Table.{AllByRecursion, Command, CommandRefused, Op, Readings, Service, ShownMap, area_of, entry, fits_reply, incrementals, longest, made, ops_in, put_in, read_map, same_area, service_of, value}
 use Rattle.log_model.proofs.Committed.{ops_again}
 use Rattle.log_model.proofs.KvSteps as kv_steps
-use Rattle.log_model.proofs.LogSteps as log_steps
 use Rattle.log_model.proofs.Lists.{length_push}
-use Rattle.log_model.specs.LogOfValues.{IsCommand, view_at}
+use Rattle.log_model.proofs.LogSteps as log_steps
 use Rattle.mon_bytes.specs.declared.command.Command.TheVariants as command
-use Rattle.mon_bytes.specs.declared.command.Command.{Command}
-use Rattle.mon_bytes.specs.declared.command.CommandRefused.{CommandRefused}
-use Rattle.mon_msg.specs.Fold.{entry, incrementals, put_in}
-use Rattle.mon_msg.specs.Protocol.Readings.{Readings}
-use Rattle.mon_msg.specs.Protocol.Records.{longest, longest_onto}
-use Rattle.mon_msg.specs.Protocol.Services.{fits_reply, read_map}
-use Rattle.mon_msg.specs.Protocol.Value.{made, service_of, value}
-use Rattle.mon_msg.specs.Puts.{area_of}
-use Rattle.mon_tx.specs.Decode.{ops_in}
-use Rattle.mon_tx.specs.Keys.{same_area}
-use Rattle.mon_tx.specs.declared.op.Op.{Op}
+use Rattle.mon_msg.specs.Protocol.Records.{longest_onto}
 use Rattle.mon_wire.specs.declared.reply.ShownMap.TheVariants as map
-use Rattle.mon_wire.specs.declared.reply.ShownMap.{ShownMap}
-use Rattle.mon_wire.specs.declared.request.Service.{Service}
 use Rattle.quorum_model.proofs.Made.{puts_in}
-use Rattle.quorum_model.specs.Agree.{IsAsked}
-use Rattle.quorum_model.specs.Clients.{incremental_of}
-use Rattle.quorum_model.specs.World.{Asked}
 use Rattle.quorum_walk.proofs.Lists.{all_append}
-use Rattle.std.proofs.Common.{Bool, Err, List, Ok, Result, [], ap, arith, false, length, ltb, refl, subst, suc, sym, true, zero, ℕ, ◌++◌, ◌+◌, ◌<◌, ◌∙◌, ◌∷◌, ◌≡◌, ◌≤◌}
+use Rattle.std.proofs.Common.{Bool, Err, List, Ok, Result, [], ap, arith, false, length, ltb, refl, subst, suc, sum_by, sym, true, zero, ℕ, ◌++◌, ◌+◌, ◌<◌, ◌∙◌, ◌∷◌, ◌≡◌, ◌≤◌}
 use Rattle.std.proofs.lemmas.Bool.{cond_both, le-leb, ltb-false}
 use Rattle.std.proofs.lemmas.List.Sums.{sum_by-cons}
-use Rattle.std.specs.List.{AllByRecursion, sum_by}
 
 -- ---- an incremental is short
 

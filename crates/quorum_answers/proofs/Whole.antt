@@ -1,22 +1,15 @@
 -- What is shown and acknowledged in one epoch is in the order of its events, after every event of a run.
-use Rattle.mon_msg.specs.Joined.{joined}
-use Rattle.mon_msg.specs.Protocol.Changes.{encoded}
-use Rattle.mon_msg.specs.Protocol.Phases.{votes}
-use Rattle.mon_msg.specs.Protocol.Reaction.{reaction_of}
-use Rattle.mon_msg.specs.Protocol.Readings.{Readings, epoch_of, readings_of}
-use Rattle.mon_msg.specs.Protocol.State.{State}
+use Rattle.law_names.proofs.Runs.{Acknowledged, AllFit, Asked, Envelope, Event, Monitors, Plain, PlainFits, Replied, World, acknowledgements_of, first_world, happens, kept_only, last_of, lost, messages_of, moved, plain_of, put_at, replies_of, run, unmoved, with_asked}
+use Rattle.law_names.proofs.Table.{AllByRecursion, Input, Readings, Sent, State, Store, apply, encoded, epoch_of, joined, reaction_of, readings_of, votes}
 use Rattle.mon_msg.specs.declared.input.Input.TheVariants as input
-use Rattle.mon_msg.specs.declared.input.Input.{Input}
 use Rattle.mon_msg.specs.declared.plan.Sent.TheVariants as sent
-use Rattle.mon_msg.specs.declared.plan.Sent.{Sent}
-use Rattle.mon_tx.specs.Map.{Store, apply}
 use Rattle.mon_wire.specs.declared.phase.Phase.TheVariants as phase
 use Rattle.quorum_agreement.proofs.Acknowledging.{NoShowSent}
 use Rattle.quorum_agreement.proofs.Held.{Still, last_is, level_at}
 use Rattle.quorum_agreement.proofs.Kept.{accepted_keeps}
 use Rattle.quorum_agreement.proofs.SafeWorlds.{put_same}
 use Rattle.quorum_answers.proofs.Epochs.{mark_goes, mark_now, sent_now, up_now}
-use Rattle.quorum_answers.proofs.Marks.{Lasts, Mark, PhaseMark, Reads, reads, SentMark, StateMark, leader_has, led_unmarked, mark_lasts, phase_lasts, sent_lasts}
+use Rattle.quorum_answers.proofs.Marks.{Lasts, Mark, PhaseMark, Reads, SentMark, StateMark, leader_has, led_unmarked, mark_lasts, phase_lasts, reads, sent_lasts}
 use Rattle.quorum_answers.proofs.Ordering.{AllPairs, Covered, Dated, NewRead, NewWrite, Ordered, ReadRead, ReadWrite, WriteWrite, all_there, ordered_then}
 use Rattle.quorum_answers.proofs.Own as own
 use Rattle.quorum_answers.proofs.Own.{IsBelow, IsHad, Onward, Quiet, answers_vote, member_votes, more_replies, same_replies}
@@ -32,21 +25,11 @@ use Rattle.quorum_laws.proofs.Invariant.{Further, InvOf, InvWith, further_trans}
 use Rattle.quorum_laws.proofs.Later.{Later}
 use Rattle.quorum_laws.proofs.Reading.{state_holds}
 use Rattle.quorum_laws.specs.Accepting.{HasAccepted, readings_at}
-use Rattle.quorum_model.specs.Acknowledging.{acknowledgements_of}
-use Rattle.quorum_model.specs.Clients.{messages_of, replies_of, with_asked}
-use Rattle.quorum_model.specs.Events.{AllFit, PlainFits}
-use Rattle.quorum_model.specs.Growth.{last_of}
 use Rattle.quorum_model.proofs.Happening.{of_next, run_keeps}
-use Rattle.quorum_model.specs.Happens.{happens, kept_only, lost, moved, put_at, unmoved}
-use Rattle.quorum_model.specs.Monitors.{Monitors}
-use Rattle.quorum_model.specs.Runs.{run}
-use Rattle.quorum_model.specs.World.{Acknowledged, Asked, Envelope, Event, Plain, Replied, World, first_world, plain_of}
 use Rattle.quorum_walk.proofs.Lists.{Among, all_append, all_both, all_map}
 use Rattle.quorum_walk.proofs.Sparing.{own_of}
-use Rattle.std.proofs.Common.{Bool, List, None, Some, [], ap, append-nil, arith, cond, eqb, false, inl, inr, ltb, refl, subst, suc, sym, true, ℕ, ◌<◌, ◌∙◌, ◌∷◌, ◌≡◌, ◌≤◌, ◌⊎◌}
+use Rattle.std.proofs.Common.{Bool, IfOk, List, None, Some, [], ap, append-nil, arith, cond, eqb, false, inl, inr, ltb, refl, subst, suc, sym, true, ℕ, ◌<◌, ◌∙◌, ◌∷◌, ◌≡◌, ◌≤◌, ◌⊎◌}
 use Rattle.std.proofs.lemmas.Bool.{cases_lt, cases_order, eqb-true, ltb-true}
-use Rattle.std.specs.List.{AllByRecursion}
-use Rattle.std.specs.Prelude.{IfOk}
 
 abbrev pub ReadMarked : (n : ℕ) → World → Ghost → Replied → Type 0
 ReadMarked n w g r = Shows r.reply → Mark n w g r.epoch r.last

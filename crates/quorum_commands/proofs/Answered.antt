@@ -1,30 +1,18 @@
 -- A request that is answered otherwise than by Done makes no version.
-use Rattle.mon_msg.specs.Protocol.Readings.{Readings, epoch_of, readings_of}
-use Rattle.mon_msg.specs.Protocol.Sending.{answer_to}
-use Rattle.mon_msg.specs.Protocol.State.{State}
+use Rattle.law_names.proofs.Runs.{Asked, Envelope, Monitors, Plain, Replied, World, command_of, messages_of, replies_of, with_asked}
+use Rattle.law_names.proofs.Table.{AllByRecursion, Body, Command, Input, Me, Op, Origin, Readings, Sent, Session, State, Store, answer_to, epoch_of, readings_of}
 use Rattle.mon_msg.specs.declared.input.Input.TheVariants as input
-use Rattle.mon_msg.specs.declared.input.Input.{Input}
 use Rattle.mon_msg.specs.declared.plan.Origin.TheVariants as origin
-use Rattle.mon_msg.specs.declared.plan.Origin.{Origin}
 use Rattle.mon_msg.specs.declared.plan.Sent.TheVariants as sent
-use Rattle.mon_msg.specs.declared.plan.Sent.{Sent}
-use Rattle.mon_msg.specs.declared.view.Me.{Me}
-use Rattle.mon_bytes.specs.declared.command.Command.{Command}
-use Rattle.mon_tx.specs.Map.{Store}
-use Rattle.mon_tx.specs.declared.op.Op.{Op}
 use Rattle.mon_wire.specs.declared.body.Body.TheVariants as body
-use Rattle.mon_wire.specs.declared.body.Body.{Body}
-use Rattle.mon_wire.specs.declared.request.Session.{Session}
 use Rattle.quorum_agreement.proofs.Answered.{asker}
 use Rattle.quorum_agreement.proofs.LoneWorlds.{IsWhole}
 use Rattle.quorum_agreement.proofs.Result.{OneLog}
-use Rattle.quorum_commands.proofs.Sends.{IsCalm, IsCalmBody}
 use Rattle.quorum_commands.proofs.Coming.{Does, me, phase_holds}
-use Rattle.quorum_laws.proofs.Meetings.{sent_known}
-use Rattle.quorum_model.proofs.Happening.{Brought}
 use Rattle.quorum_commands.proofs.Exchange.{Alike, at_second, exchanged, only_one, other_is, second_is, tickets_exchanged}
 use Rattle.quorum_commands.proofs.Idle.{BodyReturns}
 use Rattle.quorum_commands.proofs.Places.{AskedAt, IsSettled, Nowhere, Places, StillAt, Tickets}
+use Rattle.quorum_commands.proofs.Sends.{IsCalm, IsCalmBody}
 use Rattle.quorum_commands.proofs.Sources.{AskedBy, HasAsker, SettledBy, asks_more, newest_settled}
 use Rattle.quorum_commands.proofs.Steps.{Leaves, Refuses, Says, Stills, leaves}
 use Rattle.quorum_commands.specs.Unmade.{AcknowledgesNone}
@@ -32,15 +20,13 @@ use Rattle.quorum_history.proofs.History.{Ghost, Handed, hand}
 use Rattle.quorum_history.proofs.Holds.{FollowsIn, InPhase, IsHanded, core_of}
 use Rattle.quorum_history.proofs.Phases.{peon_is_peon}
 use Rattle.quorum_laws.proofs.Invariant.{Further, InvOf}
-use Rattle.quorum_model.specs.Clients.{command_of, messages_of, replies_of, with_asked}
-use Rattle.quorum_model.specs.Monitors.{Monitors}
-use Rattle.quorum_model.specs.World.{Asked, Envelope, Plain, Replied, World}
+use Rattle.quorum_laws.proofs.Meetings.{sent_known}
+use Rattle.quorum_model.proofs.Happening.{Brought}
 use Rattle.quorum_walk.proofs.Lists.{all_among, all_map}
 use Rattle.quorum_walk.proofs.Sparing.{own_of}
 use Rattle.std.proofs.Common.{List, Option, [], ap, inl, inr, length, subst, sym, ℕ, ◌<◌, ◌∙◌, ◌∷◌, ◌≡◌}
 use Rattle.std.proofs.lemmas.Bool.{cases_eq}
 use Rattle.std.proofs.lemmas.Option.{slice_get_within}
-use Rattle.std.specs.List.{AllByRecursion}
 
 -- ---- what was answered
 

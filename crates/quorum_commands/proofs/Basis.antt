@@ -1,5 +1,6 @@
 -- What is known of every world of a run, of one monitor or of several.
-use Rattle.mon_msg.specs.Fold.{entry}
+use Rattle.law_names.proofs.Runs.{Event, Monitors, PlainFits, World, first_world, happens, plain_of}
+use Rattle.law_names.proofs.Table.{entry}
 use Rattle.quorum_agreement.proofs.Beginning.{at_first}
 use Rattle.quorum_agreement.proofs.Grown.{GrowsByOne}
 use Rattle.quorum_agreement.proofs.Invariant.{EnvelopeMatches, LogHolds}
@@ -10,14 +11,9 @@ use Rattle.quorum_laws.proofs.Events as laws
 use Rattle.quorum_laws.proofs.Invariant.{InvOf}
 use Rattle.quorum_laws.specs.Accepting.{HasAccepted}
 use Rattle.quorum_laws.specs.Values.{IsChosen}
-use Rattle.quorum_model.specs.Events.{PlainFits}
-use Rattle.quorum_model.specs.Happens.{happens}
-use Rattle.quorum_model.specs.Monitors.{Monitors}
-use Rattle.quorum_model.specs.World.{Event, World, first_world, plain_of}
 use Rattle.quorum_walk.proofs.Ranks.{majorities}
-use Rattle.std.proofs.Common.{List, arith, inl, inr, length, suc, sym, ℕ, ◌<◌, ◌≡◌, ◌⊎◌}
+use Rattle.std.proofs.Common.{IfOk, List, arith, inl, inr, length, suc, sym, ℕ, ◌<◌, ◌≡◌, ◌⊎◌}
 use Rattle.std.proofs.lemmas.Bool.{cases_order}
-use Rattle.std.specs.Prelude.{IfOk}
 
 pub record Basis (ms : Monitors) : Type 1 where
   pub holds : World → Type 0

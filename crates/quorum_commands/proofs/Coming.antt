@@ -1,40 +1,26 @@
 -- The input that an event brings to a monitor, and what the monitor does with it.
-use Rattle.log_copies.proofs.Standing.{Agrees}
+use Rattle.law_names.proofs.Runs.{Event, Keeps, Monitors, Plain, PlainFits, World, happens, kept_only, lost, moved, plain_of, unmoved}
+use Rattle.law_names.proofs.Table.{AllByRecursion, Course, Me, Store, apply, at_rest, encoded, is_leading, joined, reaction_of, readings_of, shared_entries}
 use Rattle.log_copies.proofs.Matching.{monitor_keeps, read_last}
-use Rattle.log_model.specs.Windows.{Keeps}
+use Rattle.log_copies.proofs.Standing.{Agrees}
 use Rattle.mon_msg.proofs.Changed.{readings-joined}
-use Rattle.mon_msg.specs.Joined.{joined}
-use Rattle.mon_msg.specs.Protocol.Changes.{encoded}
-use Rattle.mon_msg.specs.Protocol.Course.{Course}
-use Rattle.mon_msg.specs.Protocol.Phases.{is_leading}
-use Rattle.mon_msg.specs.Protocol.Reaction.{reaction_of}
-use Rattle.mon_msg.specs.Protocol.Readings.{readings_of, shared_entries}
-use Rattle.mon_msg.specs.Protocol.Table.{at_rest}
-use Rattle.mon_msg.specs.declared.view.Me.{Me}
-use Rattle.mon_tx.specs.Map.{Store, apply}
 use Rattle.quorum_agreement.proofs.Invariant.{remembers}
 use Rattle.quorum_agreement.proofs.Result.{OneLog}
 use Rattle.quorum_agreement.proofs.Step.{copy_marked}
 use Rattle.quorum_history.proofs.Holds.{InPhase, core_of}
 use Rattle.quorum_history.proofs.Phases.{no, votes_unmarked}
-use Rattle.quorum_model.proofs.Members.{member_of}
 use Rattle.quorum_laws.proofs.Invariant.{InvOf}
+use Rattle.quorum_laws.proofs.Meetings.{fine, fits, on}
 use Rattle.quorum_laws.proofs.Values.{made, sharing}
-use Rattle.quorum_model.specs.Events.{PlainFits}
-use Rattle.quorum_model.specs.Happens.{happens, kept_only, lost, moved, unmoved}
-use Rattle.quorum_model.specs.Monitors.{Monitors}
-use Rattle.quorum_model.specs.World.{Event, Plain, World, plain_of}
-use Rattle.quorum_walk.proofs.FineCourses.{begun, still, Ended, EntryFine, Fine, fit_fits}
+use Rattle.quorum_model.proofs.Happening as happening
+use Rattle.quorum_model.proofs.Happening.{Arrived, reacted}
+use Rattle.quorum_model.proofs.Members.{member_of}
+use Rattle.quorum_walk.proofs.FineCourses.{Ended, EntryFine, Fine, begun, fit_fits, still}
 use Rattle.quorum_walk.proofs.FineTable.{react_fine}
 use Rattle.quorum_walk.proofs.Sparing.{own_of}
 use Rattle.quorum_walk.proofs.Walk.{Then}
-use Rattle.std.proofs.Common.{Ok, arith, false, inl, inr, length, refl, subst, sym, true, ℕ, ◌∙◌, ◌≡◌, ◌≤◌}
+use Rattle.std.proofs.Common.{IfOk, Ok, arith, false, inl, inr, length, refl, subst, sym, true, ℕ, ◌∙◌, ◌≡◌, ◌≤◌}
 use Rattle.std.proofs.lemmas.Bool.{ltb-true}
-use Rattle.std.specs.List.{AllByRecursion}
-use Rattle.std.specs.Prelude.{IfOk}
-use Rattle.quorum_laws.proofs.Meetings.{fine, fits, on}
-use Rattle.quorum_model.proofs.Happening as happening
-use Rattle.quorum_model.proofs.Happening.{Arrived, reacted}
 
 -- what comes to a monitor with a fitting event, and what it does
 pub record Does (ms : Monitors) (w : World) (p : Plain) : Type 0 where

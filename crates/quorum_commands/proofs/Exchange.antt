@@ -1,26 +1,15 @@
 -- Two requests of one command of one monitor may exchange their places.
-use Rattle.log_model.specs.LogOfValues.{view_at}
-use Rattle.mon_bytes.specs.declared.command.Command.{Command}
-use Rattle.mon_msg.specs.Protocol.Value.{value}
-use Rattle.mon_msg.specs.Protocol.State.{State}
-use Rattle.mon_msg.specs.declared.clients.Waiting.{Waiting}
-use Rattle.mon_tx.specs.Map.{Store}
-use Rattle.mon_tx.specs.declared.op.Op.{Op}
+use Rattle.law_names.proofs.Runs.{Asked, Envelope, IsAsked, command_of, view_at}
+use Rattle.law_names.proofs.Table.{Body, Command, Contains, Op, Session, State, Store, Waiting, value}
 use Rattle.mon_wire.specs.declared.body.Body.TheVariants as body
-use Rattle.mon_wire.specs.declared.body.Body.{Body}
-use Rattle.mon_wire.specs.declared.request.Session.{Session}
 use Rattle.quorum_agreement.proofs.Answered.{asker}
 use Rattle.quorum_agreement.proofs.Made.{MadeOver}
-use Rattle.quorum_commands.proofs.Places.{AllWait, AskedAt, BodyForwards, Begun, Forwards, HasOwn, MadeAt, Place, Places, Queued, Tickets, WaitsIn}
+use Rattle.quorum_commands.proofs.Places.{AllWait, AskedAt, Begun, BodyForwards, Forwards, HasOwn, MadeAt, Place, Places, Queued, Tickets, WaitsIn}
 use Rattle.quorum_laws.specs.Commands.{WasAsked}
-use Rattle.quorum_model.specs.Agree.{IsAsked}
-use Rattle.quorum_model.specs.Clients.{command_of}
-use Rattle.quorum_model.specs.World.{Asked, Envelope}
 use Rattle.quorum_walk.proofs.Lists.{all_map}
 use Rattle.std.proofs.Common.{Bool, List, None, Ok, Option, Some, [], ap, arith, cond, eqb, inl, inr, refl, slice_get, slice_index_or, subst, suc, sym, zero, ℕ, ◌<◌, ◌∙◌, ◌∷◌, ◌≡◌}
 use Rattle.std.proofs.lemmas.Bool.{cases_eq, eq-eqb, ne_eqb}
 use Rattle.std.proofs.lemmas.Option.{slice_get_within}
-use Rattle.std.specs.List.{Contains}
 
 pub only_one : (x y : Asked) → Contains (x ∷ []) y → y ≡ x
 only_one x y c = by c.0 c.1 c.2

@@ -1,46 +1,18 @@
 -- What a monitor does in an event in which it takes no command and hands none on: those that wait there wait on, or are forgotten.
-use Rattle.mon_bytes.specs.declared.command.Command.{Command}
-use Rattle.mon_bytes.specs.declared.entry.Entry.{Entry}
-use Rattle.mon_msg.specs.Protocol.Changes.{Boot, Change, Epoch, Last, Numbers, Promise, Unmark}
-use Rattle.mon_msg.specs.Protocol.Course.{Course, change}
-use Rattle.mon_msg.specs.Protocol.Entering.{is_even}
-use Rattle.mon_msg.specs.Protocol.Leading.{begin_with}
-use Rattle.mon_msg.specs.Protocol.Peon.{of_leader}
-use Rattle.mon_msg.specs.Protocol.Phases.{is_leading, is_peon, same_phase, votes}
-use Rattle.mon_msg.specs.Protocol.Played.{play}
-use Rattle.mon_msg.specs.Protocol.Readings.{Readings, epoch_of}
-use Rattle.mon_msg.specs.Protocol.Records.{pending}
-use Rattle.mon_msg.specs.Protocol.Sending.{answers_to, members, message_to}
-use Rattle.mon_msg.specs.Protocol.State.{State, no_clients}
-use Rattle.mon_msg.specs.Protocol.Synchronizing.{full_sync}
-use Rattle.mon_msg.specs.Protocol.Table.{at_rest, react}
-use Rattle.mon_msg.specs.Protocol.Value.{value}
-use Rattle.mon_msg.specs.declared.clients.Asked.{Asked}
-use Rattle.mon_msg.specs.declared.clients.Clients.{Clients}
+use Rattle.law_names.proofs.Table.{Asked, Body, Boot, Change, Clients, Command, Course, Entry, Epoch, Input, Last, Me, Numbers, Op, Origin, Phase, Promise, Readings, Reply, Sent, Session, State, Timer, Unmark, answers_to, at_rest, begin_with, change, epoch_of, full_sync, is_even, is_leading, is_peon, members, message_to, no_clients, of_leader, pending, play, react, same_phase, value, votes}
 use Rattle.mon_msg.specs.declared.input.Input.TheVariants as input
-use Rattle.mon_msg.specs.declared.input.Input.{Input}
 use Rattle.mon_msg.specs.declared.plan.Origin.TheVariants as origin
-use Rattle.mon_msg.specs.declared.plan.Origin.{Origin}
 use Rattle.mon_msg.specs.declared.plan.Sent.TheVariants as sent
-use Rattle.mon_msg.specs.declared.plan.Sent.{Sent}
 use Rattle.mon_msg.specs.declared.synchronization.SyncStage.TheVariants as sync
-use Rattle.mon_msg.specs.declared.view.Me.{Me}
-use Rattle.mon_tx.specs.declared.op.Op.{Op}
 use Rattle.mon_wire.specs.declared.body.Body.TheVariants as body
-use Rattle.mon_wire.specs.declared.body.Body.{Body}
 use Rattle.mon_wire.specs.declared.phase.Phase.TheVariants as phase
-use Rattle.mon_wire.specs.declared.phase.Phase.{Phase}
-use Rattle.mon_wire.specs.declared.phase.Timer.{Timer}
 use Rattle.mon_wire.specs.declared.reply.Reply.TheVariants as reply
-use Rattle.mon_wire.specs.declared.reply.Reply.{Reply}
-use Rattle.mon_wire.specs.declared.request.Session.{Session}
 use Rattle.quorum_commands.proofs.Sends.{AllFair, HandsNone, IsFair}
 use Rattle.quorum_commands.specs.Unmade.{AcknowledgesNone}
 use Rattle.quorum_history.proofs.Phases.{no}
 use Rattle.quorum_history.proofs.Rows.{body_brings, brings}
-use Rattle.std.proofs.Common.{List, None, Option, Some, [], ap, arith, eqb, false, inl, inr, ltb, map, not, refl, subst, suc, sym, true, ℕ, ◌++◌, ◌<◌, ◌∙◌, ◌∷◌, ◌≡◌, ◌⊎◌}
+use Rattle.std.proofs.Common.{List, None, Option, Some, [], ap, arith, eqb, false, filter, inl, inr, ltb, map, not, refl, subst, suc, sym, true, ℕ, ◌++◌, ◌<◌, ◌∙◌, ◌∷◌, ◌≡◌, ◌⊎◌}
 use Rattle.std.proofs.lemmas.Bool.{cond_both, eqb-false, eqb-true, not-true}
-use Rattle.std.specs.List.{filter}
 use Rattle.table_walk.proofs.Acts.{acts_of}
 use Rattle.table_walk.proofs.Lists.{Among, all_append, all_map, all_of}
 use Rattle.table_walk.proofs.Steps.{ActSteps, FoundOf, HeardFrom, HeardLast, InHand, IsOwn, MayAnswer, MayCopy, MayLead, MayLearn, MayRaise, MaySay, MaySend, MayTell, MayWrite, Nothing, Steps, ValueOf, accepted_by_all, alone, brought, chosen, copied_chunk, copied_last_chunk, from_chunk, from_commit, from_last, from_last_chunk, leads_still, only_member, stood, unserved}

@@ -1,26 +1,14 @@
 -- Where the command of each request is, and which of that lasts.
+use Rattle.law_names.proofs.Runs.{Asked, Envelope, IsAsked}
+use Rattle.law_names.proofs.Table.{AllByRecursion, Body, Command, Op, Session, State, Store, Waiting, entry, epoch_of, is_leading, readings_of, text}
 use Rattle.log_model.proofs.Logs.{IsPrefixOf}
-use Rattle.mon_bytes.specs.declared.command.Command.{Command}
-use Rattle.mon_msg.specs.Fold.{entry}
-use Rattle.mon_msg.specs.Protocol.Phases.{is_leading}
-use Rattle.mon_msg.specs.Protocol.Readings.{epoch_of, readings_of}
-use Rattle.mon_msg.specs.Protocol.State.{State}
-use Rattle.mon_msg.specs.declared.clients.Waiting.{Waiting}
-use Rattle.mon_tx.specs.Map.{Store}
-use Rattle.mon_tx.specs.Text.{text}
-use Rattle.mon_tx.specs.declared.op.Op.{Op}
 use Rattle.mon_wire.specs.declared.body.Body.TheVariants as body
-use Rattle.mon_wire.specs.declared.body.Body.{Body}
-use Rattle.mon_wire.specs.declared.request.Session.{Session}
 use Rattle.quorum_agreement.proofs.Answered.{asker}
 use Rattle.quorum_agreement.proofs.Made.{MadeOver, made_stays}
 use Rattle.quorum_laws.specs.Accepting.{AcceptedIn}
 use Rattle.quorum_laws.specs.Commands.{WasAsked}
-use Rattle.quorum_model.specs.Agree.{IsAsked}
-use Rattle.quorum_model.specs.World.{Asked, Envelope}
 use Rattle.std.proofs.Common.{Bool, List, None, Option, Some, [], ap, arith, cond, eqb, false, inl, inr, length, refl, slice_get, slice_index_or, subst, suc, sym, true, zero, ℕ, ◌++◌, ◌+◌, ◌<◌, ◌∙◌, ◌∷◌, ◌≡◌, ◌≤◌, ◌⊎◌}
 use Rattle.std.proofs.lemmas.Bool.{eq-eqb, eqb-true}
-use Rattle.std.specs.List.{AllByRecursion}
 
 -- where the command of a request is
 pub data Place : Type 0 where

@@ -1,14 +1,9 @@
 -- Every run keeps what is known of requests, so that each version of the log is of its own.
-use Rattle.mon_msg.specs.Fold.{entry}
-use Rattle.mon_msg.specs.Joined.{joined}
-use Rattle.mon_msg.specs.Protocol.Changes.{encoded}
-use Rattle.mon_msg.specs.Protocol.Reaction.{reaction_of}
-use Rattle.mon_msg.specs.Protocol.Readings.{epoch_of, readings_of}
-use Rattle.mon_msg.specs.Protocol.State.{State}
-use Rattle.mon_tx.specs.Map.{Store}
-use Rattle.mon_wire.specs.declared.request.Session.{Session}
+use Rattle.law_names.proofs.Runs.{AllFit, Asked, Envelope, Event, Monitors, Plain, PlainFits, World, first_world, happens, kept_only, lost, messages_of, moved, plain_of, put_at, run, unmoved, with_asked}
+use Rattle.law_names.proofs.Table.{AllByRecursion, Session, State, Store, encoded, entry, epoch_of, joined, reaction_of, readings_of}
 use Rattle.quorum_agreement.proofs.Grown.{GrowsByOne}
 use Rattle.quorum_agreement.proofs.LoneWorlds.{IsWhole}
+use Rattle.quorum_agreement.proofs.SafeWorlds.{put_same}
 use Rattle.quorum_commands.proofs.Basis.{Basis, basis}
 use Rattle.quorum_commands.proofs.Coming.{Does, each_event, next}
 use Rattle.quorum_commands.proofs.Places.{Begun, Lasts, Nowhere, Place, Places, Tickets}
@@ -16,24 +11,15 @@ use Rattle.quorum_commands.proofs.Sources.{Anybody, SettledBy, anybody, asks_lon
 use Rattle.quorum_commands.proofs.Steps.{Here, Leaves, leaves}
 use Rattle.quorum_commands.proofs.Worlds.{asked_more, fewer, goes_last, goes_on}
 use Rattle.quorum_commands.specs.Once.{CommittedOnce, IsOf}
-use Rattle.quorum_agreement.proofs.SafeWorlds.{put_same}
 use Rattle.quorum_laws.proofs.Events as laws
 use Rattle.quorum_laws.proofs.Events.{event_holds}
 use Rattle.quorum_laws.proofs.Invariant.{InvOf}
 use Rattle.quorum_laws.proofs.Later.{Later, Stays}
 use Rattle.quorum_laws.specs.Accepting.{AcceptedIn}
-use Rattle.quorum_model.specs.Clients.{messages_of, with_asked}
-use Rattle.quorum_model.specs.Events.{AllFit, PlainFits}
 use Rattle.quorum_model.proofs.Happening.{Leads, of_next, run_leads, runs_apart}
-use Rattle.quorum_model.specs.Happens.{happens, kept_only, lost, moved, put_at, unmoved}
-use Rattle.quorum_model.specs.Monitors.{Monitors}
-use Rattle.quorum_model.specs.Runs.{run}
-use Rattle.quorum_model.specs.World.{Asked, Envelope, Event, Plain, World, first_world, plain_of}
-use Rattle.std.proofs.Common.{Bool, Err, List, None, Ok, Option, Result, Some, [], ap, arith, cond, eqb, false, inl, inr, length, refl, subst, suc, sym, true, ℕ, ◌++◌, ◌<◌, ◌∙◌, ◌∷◌, ◌≡◌, ◌≤◌, ◌⊎◌}
+use Rattle.std.proofs.Common.{Bool, Err, IfOk, List, None, Ok, Option, Result, Some, [], ap, arith, cond, eqb, false, inl, inr, length, refl, subst, suc, sym, true, ℕ, ◌++◌, ◌<◌, ◌∙◌, ◌∷◌, ◌≡◌, ◌≤◌, ◌⊎◌}
 use Rattle.std.proofs.lemmas.Bool.{cases_lt, eqb-false, ltb-true}
 use Rattle.std.proofs.lemmas.Option.{slice_get_within}
-use Rattle.std.specs.List.{AllByRecursion}
-use Rattle.std.specs.Prelude.{IfOk}
 
 -- ---- what is put at one place
 

@@ -1,12 +1,9 @@
 -- What a monitor sends that hands no command on, and what refuses none.
+use Rattle.law_names.proofs.Table.{AllByRecursion, Body, Sent, Session}
 use Rattle.mon_msg.specs.declared.plan.Sent.TheVariants as sent
-use Rattle.mon_msg.specs.declared.plan.Sent.{Sent}
 use Rattle.mon_wire.specs.declared.body.Body.TheVariants as body
-use Rattle.mon_wire.specs.declared.body.Body.{Body}
-use Rattle.mon_wire.specs.declared.request.Session.{Session}
 use Rattle.quorum_commands.specs.Unmade.{AcknowledgesNone}
 use Rattle.std.proofs.Common.{List}
-use Rattle.std.specs.List.{AllByRecursion}
 use Rattle.table_walk.proofs.Lists.{all_map}
 
 -- no command is handed on, and only an acknowledgement is handed back

@@ -1,50 +1,31 @@
 -- The sources of the commands that an event of a monitor may take: each command has a request of its own.
+use Rattle.law_names.proofs.Runs.{Asked, Client, Deliver, IsCommand, Monitors, Plain, PlainFits, Ring, Start, World, command_of, with_asked}
+use Rattle.law_names.proofs.Table.{AllByRecursion, Body, Command, Input, Me, Message, Origin, Readings, Request, Session, State, Timer, Waiting, booting, epoch_of, is_leading, readings_of, same_phase, shared_entries, text, value}
 use Rattle.mon_bytes.specs.declared.command.Command.TheVariants as command
-use Rattle.mon_bytes.specs.declared.command.Command.{Command}
-use Rattle.log_model.specs.LogOfValues.{IsCommand}
-use Rattle.mon_msg.specs.Protocol.Phases.{is_leading, same_phase}
-use Rattle.mon_msg.specs.Protocol.Readings.{Readings, epoch_of, readings_of, shared_entries}
-use Rattle.mon_msg.specs.Protocol.State.{State, booting}
-use Rattle.mon_msg.specs.Protocol.Value.{value}
-use Rattle.mon_msg.specs.declared.clients.Waiting.{Waiting}
 use Rattle.mon_msg.specs.declared.input.Input.TheVariants as input
-use Rattle.mon_msg.specs.declared.input.Input.{Input}
 use Rattle.mon_msg.specs.declared.plan.Origin.TheVariants as origin
-use Rattle.mon_msg.specs.declared.plan.Origin.{Origin}
-use Rattle.mon_msg.specs.declared.view.Me.{Me}
-use Rattle.mon_tx.specs.Text.{text}
 use Rattle.mon_wire.specs.declared.body.Body.TheVariants as body
-use Rattle.mon_wire.specs.declared.body.Body.{Body}
-use Rattle.mon_wire.specs.declared.message.Message.{Message}
 use Rattle.mon_wire.specs.declared.phase.Phase.TheVariants as phase
 use Rattle.mon_wire.specs.declared.phase.Timer.TheVariants as timer
-use Rattle.mon_wire.specs.declared.phase.Timer.{Timer}
 use Rattle.mon_wire.specs.declared.request.Request.TheVariants as request
-use Rattle.mon_wire.specs.declared.request.Request.{Request}
-use Rattle.mon_wire.specs.declared.request.Session.{Session}
 use Rattle.quorum_agreement.proofs.Answered.{asker}
 use Rattle.quorum_agreement.proofs.Lone.{active_is}
 use Rattle.quorum_commands.proofs.Coming.{Does, me, phase_holds}
-use Rattle.quorum_laws.proofs.Meetings.{sent_known}
-use Rattle.quorum_model.proofs.Happening.{Brought}
 use Rattle.quorum_commands.proofs.Idle.{BodyReturns}
-use Rattle.quorum_commands.proofs.Places.{AllWait, AskedAt, BodyForwards, Forwards, IsAt, IsForwarded, IsSettled, Place, Places, Nowhere, Handed, Queued, StillAt, Tickets, Waits, WaitsIn, asked_still, get_contained, get_more, get_pushed}
+use Rattle.quorum_commands.proofs.Places.{AllWait, AskedAt, BodyForwards, Forwards, Handed, IsAt, IsForwarded, IsSettled, Nowhere, Place, Places, Queued, StillAt, Tickets, Waits, WaitsIn, asked_still, get_contained, get_more, get_pushed}
 use Rattle.quorum_commands.proofs.Taking.{BodyKnown, InputKnown, Outcome, RequestKnown, TimerKnown, takes}
 use Rattle.quorum_history.proofs.History.{Handed as HandedOn}
 use Rattle.quorum_history.proofs.Holds.{ActsIn, BodyHolds, HasSource, InPhase, MessageHolds, Waits as HeldAs, core_of}
 use Rattle.quorum_history.proofs.Phases.{no}
 use Rattle.quorum_laws.proofs.Invariant.{EnvelopeFine, EnvelopeHolds, InvOf}
+use Rattle.quorum_laws.proofs.Meetings.{sent_known}
 use Rattle.quorum_laws.specs.Commands.{WasAsked}
-use Rattle.quorum_model.specs.Clients.{command_of, with_asked}
-use Rattle.quorum_model.specs.Events.{PlainFits}
-use Rattle.quorum_model.specs.Monitors.{Monitors}
-use Rattle.quorum_model.specs.World.{Asked, Client, Deliver, Plain, Ring, Start, World}
+use Rattle.quorum_model.proofs.Happening.{Brought}
 use Rattle.quorum_walk.proofs.FineCourses.{MessageFine}
 use Rattle.quorum_walk.proofs.Sparing.{own_of}
 use Rattle.quorum_walk.proofs.Walk.{Then}
 use Rattle.std.proofs.Common.{IfSome, List, Option, Some, [], ap, arith, get_or-set_other, get_or-set_same, inl, inr, length, length-append, length-set, ltb, refl, slice_get, slice_index_or, slice_set, subst, suc, sym, true, ℕ, ◌<◌, ◌∙◌, ◌∷◌, ◌≡◌, ◌≤◌, ◌⊎◌}
 use Rattle.std.proofs.lemmas.Bool.{cases_eq, ltb-true}
-use Rattle.std.specs.List.{AllByRecursion}
 
 -- ---- how places are distinguished
 

@@ -1,44 +1,23 @@
 -- What an event of a monitor does to the requests that are under way there.
-use Rattle.mon_bytes.specs.declared.command.Command.{Command}
-use Rattle.mon_msg.specs.Protocol.Changes.{Change, Last, Learn, Vote}
-use Rattle.mon_msg.specs.Protocol.Phases.{is_leading, is_member, votes}
-use Rattle.mon_msg.specs.Protocol.Proposing.{asked_of}
-use Rattle.mon_msg.specs.Protocol.Readings.{Readings, epoch_of, readings_of, shared_entries}
-use Rattle.mon_msg.specs.Protocol.Records.{found_as, pending_of, record_at}
-use Rattle.mon_msg.specs.Protocol.Sending.{answer_to}
-use Rattle.mon_msg.specs.Protocol.State.{State, booting, no_clients}
-use Rattle.mon_msg.specs.Protocol.Table.{at_rest}
-use Rattle.mon_msg.specs.Protocol.Value.{value}
-use Rattle.mon_msg.specs.declared.clients.Clients.{Clients}
-use Rattle.mon_msg.specs.declared.clients.Waiting.{Waiting}
+use Rattle.law_names.proofs.Runs.{Asked, Monitors, Plain, World, with_asked}
+use Rattle.law_names.proofs.Table.{AllByRecursion, Body, Change, Clients, Command, Input, Last, Learn, Me, Op, Origin, Readings, Reply, Sent, Session, State, Store, Vote, Waiting, answer_to, asked_of, at_rest, booting, epoch_of, found_as, is_leading, is_member, no_clients, pending_of, readings_of, record_at, shared_entries, text, value, votes}
 use Rattle.mon_msg.specs.declared.input.Input.TheVariants as input
-use Rattle.mon_msg.specs.declared.input.Input.{Input}
 use Rattle.mon_msg.specs.declared.plan.Origin.TheVariants as origin
-use Rattle.mon_msg.specs.declared.plan.Origin.{Origin}
 use Rattle.mon_msg.specs.declared.plan.Sent.TheVariants as sent
-use Rattle.mon_msg.specs.declared.plan.Sent.{Sent}
-use Rattle.mon_msg.specs.declared.view.Me.{Me}
-use Rattle.mon_tx.specs.Map.{Store}
-use Rattle.mon_tx.specs.Text.{text}
-use Rattle.mon_tx.specs.declared.op.Op.{Op}
 use Rattle.mon_wire.specs.declared.body.Body.TheVariants as body
-use Rattle.mon_wire.specs.declared.body.Body.{Body}
 use Rattle.mon_wire.specs.declared.phase.Phase.TheVariants as phase
-use Rattle.mon_wire.specs.declared.reply.Reply.{Reply}
-use Rattle.mon_wire.specs.declared.request.Session.{Session}
 use Rattle.quorum_agreement.proofs.Answered.{asker, asker_is}
 use Rattle.quorum_agreement.proofs.Answering.{peon_leads_not}
 use Rattle.quorum_agreement.proofs.LoneWorlds.{IsWhole}
 use Rattle.quorum_agreement.proofs.Premises.{requests_in}
 use Rattle.quorum_agreement.proofs.Result.{OneLog}
 use Rattle.quorum_commands.proofs.Coming.{Does, leads_unmarked, me, next, phase_holds, versions}
-use Rattle.quorum_commands.proofs.Sends.{AllFair, HandsNone, IsCalm, IsFair, Nobody, fair_calm}
 use Rattle.quorum_commands.proofs.Idle.{Alone, Idle, Leads, SameClients}
-use Rattle.quorum_commands.proofs.Places.{AllWait, AskedAt, HasOwn, IsAt, IsForwarded, MadeAt, MadeOf, Moves, Place, Places, Nowhere, Handed, Queued, Begun, StillAt, Tickets, Waits, is_moved, moved_to, moves, own_lasts, wait_last, wait_push, was_there}
+use Rattle.quorum_commands.proofs.Places.{AllWait, AskedAt, Begun, Handed, HasOwn, IsAt, IsForwarded, MadeAt, MadeOf, Moves, Nowhere, Place, Places, Queued, StillAt, Tickets, Waits, is_moved, moved_to, moves, own_lasts, wait_last, wait_push, was_there}
+use Rattle.quorum_commands.proofs.Sends.{AllFair, HandsNone, IsCalm, IsFair, Nobody, fair_calm}
 use Rattle.quorum_commands.proofs.Sources as sources
 use Rattle.quorum_commands.proofs.Sources.{HasAsker, SettledBy, asks_longer, asks_more}
 use Rattle.quorum_commands.proofs.Taking.{Becomes, Commits, Hands, Outcome, Proposes, Takes, TakesNone}
-use Rattle.quorum_model.proofs.Happening.{Brought}
 use Rattle.quorum_history.proofs.History.{ext_refl}
 use Rattle.quorum_history.proofs.Holds.{Core, FollowsIn, Good, InPhase, StageHolds, core_of}
 use Rattle.quorum_history.proofs.Phases.{electing_is, no, peon_is_peon, votes_in_odd}
@@ -46,16 +25,13 @@ use Rattle.quorum_history.proofs.Rows.{HasForm, InputHolds, brings, reacts_plain
 use Rattle.quorum_history.proofs.Steps.{tied_refl}
 use Rattle.quorum_laws.proofs.Invariant.{InvOf}
 use Rattle.quorum_laws.proofs.Later.{Stays, is_in}
-use Rattle.quorum_model.specs.Clients.{with_asked}
-use Rattle.quorum_model.specs.Monitors.{Monitors}
-use Rattle.quorum_model.specs.World.{Asked, Plain, World}
+use Rattle.quorum_model.proofs.Happening.{Brought}
 use Rattle.quorum_walk.proofs.Lists.{Among, all_map}
 use Rattle.quorum_walk.proofs.Sparing.{own_of}
 use Rattle.quorum_walk.proofs.Walk.{Then}
 use Rattle.std.proofs.Common.{Bool, List, None, Ok, Some, [], ap, arith, cond, false, inl, inr, length, refl, slice_index_or, subst, suc, sym, true, ℕ, ◌++◌, ◌+◌, ◌<◌, ◌∙◌, ◌∷◌, ◌≡◌, ◌≤◌, ◌⊎◌}
-use Rattle.std.proofs.lemmas.Bool.{ltb-true, ltb-false, ne_eqb}
+use Rattle.std.proofs.lemmas.Bool.{ltb-false, ltb-true, ne_eqb}
 use Rattle.std.proofs.lemmas.Option.{slice_get_within}
-use Rattle.std.specs.List.{AllByRecursion}
 
 -- the place of a value that the change votes for; Nowhere for other changes
 abbrev vote_place : Change → Place

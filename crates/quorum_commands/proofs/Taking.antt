@@ -1,62 +1,25 @@
 -- What a monitor does with a command that comes to it, or that waits there: it is refused, waits, becomes the next version's
 -- value, or is forwarded. Each is done once.
+use Rattle.law_names.proofs.Table.{Body, Command, CommandRefused, Course, Entry, Input, Last, Learn, MOST_WAITING, Me, Message, Op, Origin, Phase, Readings, Reply, Request, Sent, Session, State, Timer, Vote, Waiting, Which, answer_any, answer_to, ask, asked_of, at_leader, at_peon, at_rest, begin, begin_alone, begin_made, begin_with, disarm, end_of, epoch_of, has, has_queue, hear, hear_client, hear_forward, is_alone, is_heard, is_leading, is_member, is_one_of, is_peon, is_standing, is_too_long, leads_in, learn, lease_of, may_propose, members, message_to, of_member, propose, propose_due, propose_first, propose_next, react, read, readable, refusal, same_phase, service_last, service_of, shown, since, timer_comes, too_long, value, ◌▸◌}
 use Rattle.mon_bytes.specs.declared.command.Command.TheVariants as command
-use Rattle.mon_bytes.specs.declared.command.Command.{Command}
-use Rattle.mon_bytes.specs.declared.command.CommandRefused.{CommandRefused}
-use Rattle.mon_bytes.specs.declared.entry.Entry.{Entry}
-use Rattle.mon_lease.specs.Lease.{readable}
-use Rattle.mon_msg.specs.Protocol.Changes.{Last, Learn, Vote}
-use Rattle.mon_msg.specs.Protocol.Commands.{ask, at_leader, at_peon, hear_forward, is_too_long, may_propose, propose_due, too_long}
-use Rattle.mon_msg.specs.Protocol.Course.{Course, disarm, leads_in, ◌▸◌}
-use Rattle.mon_msg.specs.Protocol.Hearing.{hear, hear_client, is_heard}
-use Rattle.mon_msg.specs.Protocol.Leader.{is_one_of, of_member}
-use Rattle.mon_msg.specs.Protocol.Leading.{begin, begin_alone, begin_with, has_queue, is_alone}
-use Rattle.mon_msg.specs.Protocol.Learning.{learn}
-use Rattle.mon_msg.specs.Protocol.Phases.{is_leading, is_member, is_peon, same_phase}
-use Rattle.mon_msg.specs.Protocol.Proposing.{asked_of, begin_made, propose, propose_first, propose_next, refusal}
-use Rattle.mon_msg.specs.Protocol.Readings.{Readings, epoch_of}
-use Rattle.mon_msg.specs.Protocol.Reads.{is_standing, read, shown, since}
-use Rattle.mon_msg.specs.Protocol.Sending.{answer_any, answer_to, members, message_to}
-use Rattle.mon_msg.specs.Protocol.Services.{service_last}
-use Rattle.mon_msg.specs.Protocol.State.{State, lease_of}
-use Rattle.mon_msg.specs.Protocol.Table.{at_rest, react, timer_comes}
-use Rattle.mon_msg.specs.Protocol.Timers.{end_of}
-use Rattle.mon_msg.specs.Protocol.Value.{service_of, value}
-use Rattle.mon_msg.specs.declared.clients.Waiting.{Waiting}
 use Rattle.mon_msg.specs.declared.input.Input.TheVariants as input
-use Rattle.mon_msg.specs.declared.input.Input.{Input}
-use Rattle.mon_msg.specs.declared.limits.TheConstants.{MOST_WAITING}
 use Rattle.mon_msg.specs.declared.paxos.LeaderStage.TheVariants as stage
 use Rattle.mon_msg.specs.declared.plan.Origin.TheVariants as origin
-use Rattle.mon_msg.specs.declared.plan.Origin.{Origin}
 use Rattle.mon_msg.specs.declared.plan.Sent.TheVariants as sent
-use Rattle.mon_msg.specs.declared.plan.Sent.{Sent}
-use Rattle.mon_msg.specs.declared.view.Me.{Me}
-use Rattle.mon_tx.specs.declared.op.Op.{Op}
-use Rattle.mon_types.specs.Ranks.{has}
 use Rattle.mon_types.specs.declared.names.Which.TheVariants as which
-use Rattle.mon_types.specs.declared.names.Which.{Which}
 use Rattle.mon_wire.specs.declared.body.Body.TheVariants as body
-use Rattle.mon_wire.specs.declared.body.Body.{Body}
-use Rattle.mon_wire.specs.declared.message.Message.{Message}
 use Rattle.mon_wire.specs.declared.phase.Phase.TheVariants as phase
-use Rattle.mon_wire.specs.declared.phase.Phase.{Phase}
 use Rattle.mon_wire.specs.declared.phase.Timer.TheVariants as timer
-use Rattle.mon_wire.specs.declared.phase.Timer.{Timer}
 use Rattle.mon_wire.specs.declared.reply.Reply.TheVariants as reply
-use Rattle.mon_wire.specs.declared.reply.Reply.{Reply}
 use Rattle.mon_wire.specs.declared.request.Request.TheVariants as request
-use Rattle.mon_wire.specs.declared.request.Request.{Request}
-use Rattle.mon_wire.specs.declared.request.Session.{Session}
 use Rattle.quorum_agreement.proofs.Accepting.{then_map}
 use Rattle.quorum_agreement.proofs.Lone.{active_is}
 use Rattle.quorum_commands.proofs.Idle.{BodyReturns, Heard, Idle, Returns, idles, says}
 use Rattle.quorum_commands.proofs.Sends.{AllFair, IsFair, Nobody}
 use Rattle.quorum_history.proofs.Phases.{any_leads, no}
 use Rattle.quorum_history.proofs.Rows.{body_brings, brings, timer_brings}
-use Rattle.std.proofs.Common.{Bool, Err, List, Ok, Option, Result, Some, [], ap, eqb, false, inl, inr, leb, length, ltb, not, refl, subst, suc, sym, true, ℕ, ◌&&◌, ◌++◌, ◌<◌, ◌∙◌, ◌∷◌, ◌≡◌, ◌⊎◌}
+use Rattle.std.proofs.Common.{Bool, Err, List, Ok, Option, Result, Some, [], ap, eqb, false, inl, inr, is_some, leb, length, ltb, not, refl, slice_index_or, slice_set, subst, suc, sym, true, ℕ, ◌&&◌, ◌++◌, ◌<◌, ◌∙◌, ◌∷◌, ◌≡◌, ◌⊎◌}
 use Rattle.std.proofs.lemmas.Bool.{and_parts, eqb-false, eqb-true, not-false, not-true}
-use Rattle.std.specs.Prelude.{is_some, slice_index_or, slice_set}
 use Rattle.table_walk.proofs.Learning.{LearnedOne, learns_one}
 use Rattle.table_walk.proofs.Lists.{all_of}
 use Rattle.table_walk.proofs.Walk.{Then, and_then, and_three, by_test, done, where_fits}

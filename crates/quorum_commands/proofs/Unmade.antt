@@ -1,5 +1,6 @@
 -- Every run keeps what is known of the requests that were answered.
-use Rattle.mon_msg.specs.Protocol.Reaction.{reaction_of}
+use Rattle.law_names.proofs.Runs.{AllFit, Asked, Event, Monitors, Plain, PlainFits, Replied, World, first_world, happens, kept_only, lost, messages_of, moved, plain_of, replies_of, run, unmoved, with_asked}
+use Rattle.law_names.proofs.Table.{reaction_of}
 use Rattle.quorum_commands.proofs.Answered.{Answers, Back, Becomes, IsKnown, answers_last, becomes, may_answer}
 use Rattle.quorum_commands.proofs.Basis.{Basis, basis}
 use Rattle.quorum_commands.proofs.Coming.{Does, each_event, next}
@@ -12,16 +13,9 @@ use Rattle.quorum_history.proofs.History.{Ghost}
 use Rattle.quorum_laws.proofs.Beginning.{at_first}
 use Rattle.quorum_laws.proofs.Events as laws
 use Rattle.quorum_laws.proofs.Invariant.{Further, InvOf}
-use Rattle.quorum_model.specs.Clients.{messages_of, replies_of, with_asked}
-use Rattle.quorum_model.specs.Events.{AllFit, PlainFits}
 use Rattle.quorum_model.proofs.Happening.{of_next, run_keeps}
-use Rattle.quorum_model.specs.Happens.{happens, kept_only, lost, moved, unmoved}
-use Rattle.quorum_model.specs.Monitors.{Monitors}
-use Rattle.quorum_model.specs.Runs.{run}
-use Rattle.quorum_model.specs.World.{Asked, Event, Plain, Replied, World, first_world, plain_of}
 use Rattle.quorum_walk.proofs.Lists.{all_append, all_map}
-use Rattle.std.proofs.Common.{List, ap, arith, length, suc, sym, ℕ, ◌<◌, ◌∙◌, ◌≡◌}
-use Rattle.std.specs.Prelude.{IfOk}
+use Rattle.std.proofs.Common.{IfOk, List, ap, arith, length, suc, sym, ℕ, ◌<◌, ◌∙◌, ◌≡◌}
 
 -- of the requests of a world, and of those that were answered
 pub record Kept (ms : Monitors) (w : World) : Type 0 where

@@ -1,56 +1,34 @@
 -- What an event leaves of all requests, and of the log.
+use Rattle.law_names.proofs.Runs.{AllValues, Asked, Envelope, IsAsked, IsValue, Keeps, Monitors, Plain, World, log_from, messages_of, put_at, view_at, with_asked}
+use Rattle.law_names.proofs.Table.{AllByRecursion, Body, Change, Command, Last, Learn, Op, Readings, Sent, Session, State, Store, apply, apply_op, cell, encoded, entry, epoch_of, is_leading, joined, put_number, readings_of, text, value}
 use Rattle.log_copies.proofs.Growing as growing
 use Rattle.log_copies.proofs.Matching.{monitor_keeps, read_last, record_there}
+use Rattle.log_copies.specs.Versions.{HasVersions}
 use Rattle.log_model.proofs.Committed.{texts, value_told}
 use Rattle.log_model.proofs.Lists.{length_push}
 use Rattle.log_model.proofs.Logs.{IsPrefixOf, entry_push, entry_stays, fold_stays, log_prefix_itself}
 use Rattle.log_model.proofs.RowReadings.{read_some}
 use Rattle.log_model.proofs.RuleCells.{log_high}
-use Rattle.log_model.specs.LogOfValues.{AllValues, IsValue, view_at}
-use Rattle.log_model.specs.Windows.{Keeps, log_from}
-use Rattle.log_copies.specs.Versions.{HasVersions}
-use Rattle.mon_bytes.specs.declared.command.Command.{Command}
-use Rattle.mon_msg.specs.Fold.{entry}
-use Rattle.mon_msg.specs.Joined.{joined}
-use Rattle.mon_msg.specs.Protocol.Changes.{Change, Last, Learn, encoded}
-use Rattle.mon_msg.specs.Protocol.Phases.{is_leading}
-use Rattle.mon_msg.specs.Protocol.Readings.{Readings, epoch_of, readings_of}
-use Rattle.mon_msg.specs.Protocol.State.{State}
-use Rattle.mon_msg.specs.Protocol.Value.{value}
-use Rattle.mon_msg.specs.Puts.{put_number}
 use Rattle.mon_msg.specs.declared.plan.Sent.TheVariants as sent
-use Rattle.mon_msg.specs.declared.plan.Sent.{Sent}
-use Rattle.mon_tx.specs.Map.{Store, apply, apply_op}
-use Rattle.mon_tx.specs.Keys.{cell}
-use Rattle.mon_tx.specs.Text.{text}
 use Rattle.mon_tx.specs.declared.key.Area.TheVariants as area
 use Rattle.mon_tx.specs.declared.key.Key.TheVariants as key
-use Rattle.mon_tx.specs.declared.op.Op.{Op}
 use Rattle.mon_wire.specs.declared.body.Body.TheVariants as body
-use Rattle.mon_wire.specs.declared.body.Body.{Body}
-use Rattle.mon_wire.specs.declared.request.Session.{Session}
-use Rattle.quorum_agreement.proofs.SafeWorlds.{grown_log_prefix}
 use Rattle.quorum_agreement.proofs.Grown.{GrowsByOne, first_is}
 use Rattle.quorum_agreement.proofs.Kept.{accepted_added}
 use Rattle.quorum_agreement.proofs.LoneWorlds.{IsWhole}
 use Rattle.quorum_agreement.proofs.Made.{MadeOver, is_value, version_asked_stays}
 use Rattle.quorum_agreement.proofs.Result.{OneLog}
+use Rattle.quorum_agreement.proofs.SafeWorlds.{grown_log_prefix}
 use Rattle.quorum_commands.proofs.Coming.{Does, ended, next, tells}
-use Rattle.quorum_commands.proofs.Places.{BodyForwards, Begun, Forwards, Handed, IsAt, IsForwarded, Lasts, LoggedAt, MadeAt, Moves, Nowhere, Place, Places, Queued, StillAt, Tickets, Waits, WaitsIn, apart_at, made_still, own_lasts, wait_last}
+use Rattle.quorum_commands.proofs.Places.{Begun, BodyForwards, Forwards, Handed, IsAt, IsForwarded, Lasts, LoggedAt, MadeAt, Moves, Nowhere, Place, Places, Queued, StillAt, Tickets, Waits, WaitsIn, apart_at, made_still, own_lasts, wait_last}
 use Rattle.quorum_commands.proofs.Sources.{SettledBy, asks_more}
 use Rattle.quorum_commands.proofs.Steps.{BodySends, CommitsOwn, Here, Leaves, SendsOwn, leaves}
 use Rattle.quorum_laws.proofs.Invariant.{EnvelopeHolds, InvOf}
 use Rattle.quorum_laws.proofs.Whole.{at_put}
 use Rattle.quorum_laws.specs.Accepting.{AcceptedIn}
-use Rattle.quorum_model.specs.Agree.{IsAsked}
-use Rattle.quorum_model.specs.Clients.{messages_of, with_asked}
-use Rattle.quorum_model.specs.Happens.{put_at}
-use Rattle.quorum_model.specs.Monitors.{Monitors}
-use Rattle.quorum_model.specs.World.{Asked, Envelope, Plain, World}
 use Rattle.quorum_walk.proofs.Lists.{all_append, all_both, all_map}
 use Rattle.std.proofs.Common.{List, None, Option, Some, [], ap, arith, inl, inr, length, refl, slice_index_or, subst, suc, sym, ℕ, ◌++◌, ◌<◌, ◌^◌, ◌∙◌, ◌∷◌, ◌≡◌, ◌≤◌, ◌⊎◌}
 use Rattle.std.proofs.lemmas.Bool.{cases_order, ltb-true}
-use Rattle.std.specs.List.{AllByRecursion}
 
 -- ---- the log
 

@@ -1,23 +1,15 @@
 -- Further events of some monitors, one after the other, which lead to a world of some kind.
 use Rattle.calm_sizes.specs.Sizes.{AllShort, longest}
+use Rattle.law_names.proofs.Runs.{AllFit, Arrives, Deliver, Envelope, Event, Monitors, Ran, Stop, World, goes_on, happens, ran, ran_from, run_from}
+use Rattle.law_names.proofs.Table.{Command, Message, Session, has}
 use Rattle.log_model.proofs.Logs.{IsPrefixOf, log_prefix_itself}
-use Rattle.mon_bytes.specs.declared.command.Command.{Command}
-use Rattle.mon_types.specs.Ranks.{has}
-use Rattle.mon_wire.specs.declared.message.Message.{Message}
-use Rattle.mon_wire.specs.declared.request.Session.{Session}
 use Rattle.quorum_elects.specs.Ways.{AreSteps, Clock, IsStep, OthersRest}
 use Rattle.quorum_model.proofs.Continuing.{at, ran_on}
-use Rattle.quorum_model.specs.Events.{AllFit}
-use Rattle.quorum_model.specs.Happens.{Stop, happens}
-use Rattle.quorum_model.specs.Monitors.{Monitors}
-use Rattle.quorum_model.specs.Runs.{Ran, goes_on, ran, ran_from, run_from}
-use Rattle.quorum_model.specs.World.{Arrives, Deliver, Envelope, Event, World}
 use Rattle.quorum_near.proofs.Whole.{Holds, held}
 use Rattle.quorum_walk.proofs.Lists.{Among}
-use Rattle.std.proofs.Common.{Bool, Err, IsSomeAnd, List, None, Ok, Option, Result, Some, [], ap, arith, inl, inr, length, refl, subst, suc, sym, true, zero, ℕ, ◌*◌, ◌++◌, ◌+◌, ◌<◌, ◌∙◌, ◌∷◌, ◌≡◌, ◌≤◌}
+use Rattle.std.proofs.Common.{Bool, Err, IsSomeAnd, List, None, Ok, Option, Result, Some, [], ap, arith, inl, inr, length, refl, slice_get, subst, suc, sym, true, zero, ℕ, ◌*◌, ◌++◌, ◌+◌, ◌<◌, ◌∙◌, ◌∷◌, ◌≡◌, ◌≤◌}
 use Rattle.std.proofs.Math.Nat.{mul-suc}
 use Rattle.std.proofs.lemmas.List.{length-append}
-use Rattle.std.specs.List.{slice_get}
 
 -- ---- messages that were sent since
 

@@ -1,9 +1,6 @@
 -- A majority that is near the whole log elects a leader, in every run.
-use Rattle.election_rules.specs.Ranking.{allows}
-use Rattle.mon_bytes.specs.declared.command.Command.{Command}
-use Rattle.mon_msg.specs.Protocol.Readings.{epoch_of}
-use Rattle.mon_types.specs.Ranks.{has}
-use Rattle.mon_wire.specs.declared.request.Session.{Session}
+use Rattle.law_names.proofs.Runs.{AllFit, Event, Monitors, Ran, World, first_world, last_of, ran, run}
+use Rattle.law_names.proofs.Table.{Command, Session, allows, epoch_of, has}
 use Rattle.quorum_agreement.proofs.Invariant.{LogHolds}
 use Rattle.quorum_elects.proofs.Can.{Can, Sane, Scope, reached_holds}
 use Rattle.quorum_elects.proofs.Majorities.{Candidacy, Majority, epoch_at, scope}
@@ -17,18 +14,13 @@ use Rattle.quorum_elects.proofs.Steps.{AsksFit, steps_fit}
 use Rattle.quorum_elects.proofs.Stores.{near_short}
 use Rattle.quorum_elects.proofs.Voting.{Counting, Elected, Following, Reigning, called, count_end, count_one, follow_all, vote_all, voted_counting, won_following}
 use Rattle.quorum_elects.specs.Electing as electing
-use Rattle.quorum_elects.specs.Electing.{election, chosen_leader}
+use Rattle.quorum_elects.specs.Electing.{chosen_leader, election}
 use Rattle.quorum_elects.specs.Leading.{HasLeader}
 use Rattle.quorum_elects.specs.Plans.{PlannedWay}
 use Rattle.quorum_elects.specs.Ready.{AllNear, IsReady, LacksAtMost}
 use Rattle.quorum_elects.specs.Ways.{Clock, HasWay, OthersRest}
 use Rattle.quorum_laws.specs.Accepting.{IsMajorityOf, readings_at}
 use Rattle.quorum_model.proofs.Continuing.{at, ran_on}
-use Rattle.quorum_model.specs.Events.{AllFit}
-use Rattle.quorum_model.specs.Growth.{last_of}
-use Rattle.quorum_model.specs.Monitors.{Monitors}
-use Rattle.quorum_model.specs.Runs.{Ran, ran, run}
-use Rattle.quorum_model.specs.World.{Event, World, first_world}
 use Rattle.quorum_near.proofs.LowWorlds.{AllLow, first_of}
 use Rattle.quorum_near.proofs.Whole.{Holds, last_read, mark_read, within}
 use Rattle.quorum_near.specs.Near.{HasPending, IsNear}

@@ -1,16 +1,15 @@
 -- What goes round some ranks, one after the other.
-use Rattle.mon_types.specs.Ranks.{has, with_rank}
+use Rattle.law_names.proofs.Runs.{World}
+use Rattle.law_names.proofs.Table.{has, range_with_len, with_rank}
 use Rattle.quorum_elects.proofs.Can.{Scope}
 use Rattle.quorum_elects.proofs.Planning.{Plays, passes, plays_all, plays_weaker}
 use Rattle.quorum_elects.proofs.Ranks.{has_self, in_or_out, same_or_not, up_to}
 use Rattle.quorum_elects.proofs.Tests.{itself_is, outside_is}
 use Rattle.quorum_elects.specs.Electing.{is_other}
 use Rattle.quorum_elects.specs.Plans.{PlanStep}
-use Rattle.quorum_model.specs.World.{World}
 use Rattle.quorum_walk.proofs.Ranks.{has_with}
 use Rattle.std.proofs.Common.{Bool, List, [], arith, false, inl, inr, length, map, subst, suc, sym, true, ℕ, ◌*◌, ◌<◌, ◌∙◌, ◌∷◌, ◌≡◌, ◌≤◌, ◌⊎◌}
 use Rattle.std.proofs.lemmas.Bool.{false≢true}
-use Rattle.std.specs.List.{range_with_len}
 
 -- a member of a quorum other than its leader
 abbrev pub Peon : List Bool → (leader f : ℕ) → Type 0

@@ -1,9 +1,6 @@
 -- A majority that begins again, and the one of it that is to lead.
-use Rattle.election_rules.specs.Ranking.{allows}
-use Rattle.mon_bytes.specs.declared.command.Command.{Command}
-use Rattle.mon_msg.specs.Protocol.Readings.{epoch_of}
-use Rattle.mon_types.specs.Ranks.{has}
-use Rattle.mon_wire.specs.declared.request.Session.{Session}
+use Rattle.law_names.proofs.Runs.{Monitors, World}
+use Rattle.law_names.proofs.Table.{Command, Session, allows, epoch_of, has}
 use Rattle.quorum_elects.proofs.Can.{Scope}
 use Rattle.quorum_elects.proofs.Ranking.{IsBefore}
 use Rattle.quorum_elects.proofs.Rows.{odd_from}
@@ -11,8 +8,6 @@ use Rattle.quorum_elects.proofs.Standing.{Close}
 use Rattle.quorum_elects.specs.Ready.{NumbersHaveRoom}
 use Rattle.quorum_elects.specs.Ways.{Clock}
 use Rattle.quorum_laws.specs.Accepting.{IsMajorityOf, readings_at}
-use Rattle.quorum_model.specs.Monitors.{Monitors}
-use Rattle.quorum_model.specs.World.{World}
 use Rattle.std.proofs.Common.{Bool, List, Option, length, true, ℕ, ◌<◌, ◌≡◌, ◌≤◌}
 
 -- A majority q of a map, in the world from which it goes on: each of its members is near c versions, and its numbers have room.

@@ -2,46 +2,22 @@
 use Rattle.calm_sizes.proofs.AnyRuns.{OnSomeLog, goes_on_then, goes_on_within, would_be}
 use Rattle.calm_sizes.proofs.Stores.{ChangeShort, short_behind}
 use Rattle.calm_sizes.specs.Sizes.{AllShort, OwnShort, longest}
+use Rattle.law_names.proofs.Runs.{Arrives, Envelope, Plain, PlainFits, Ran, Reacts, Replied, World, arrival, first_world, grown, happens, is_marked, last_of, meeting, meeting_at, meets, messages_of, most_size, moved, plain_of, records_after, replies_of, size_of, state_at}
+use Rattle.law_names.proofs.Table.{AllByRecursion, Contains, Course, Fits, Input, Me, Message, Readings, Reply, Sent, Session, State, Store, Which, any_reaction, apply, encoded, epoch_of, has, joined, played, react, reaction_of, readings_of, shared_entries}
 use Rattle.log_model.proofs.Logs.{IsPrefixOf, log_prefix_itself}
-use Rattle.mon_kv.specs.Readers.{is_marked, most_size, size_of}
 use Rattle.mon_msg.proofs.Changed.{readings-joined}
-use Rattle.mon_msg.specs.Joined.{joined}
-use Rattle.mon_msg.specs.Protocol.Changes.{encoded}
-use Rattle.mon_msg.specs.Protocol.Course.{Course}
-use Rattle.mon_msg.specs.Protocol.Played.{Fits, played}
-use Rattle.mon_msg.specs.Protocol.Reaction.{any_reaction, reaction_of}
-use Rattle.mon_msg.specs.Protocol.Readings.{Readings, epoch_of, readings_of, shared_entries}
-use Rattle.mon_msg.specs.Protocol.State.{State}
-use Rattle.mon_msg.specs.Protocol.Table.{react}
-use Rattle.mon_msg.specs.declared.input.Input.{Input}
-use Rattle.mon_msg.specs.declared.plan.Sent.{Sent}
 use Rattle.mon_msg.specs.declared.plan.Sent.TheVariants as send
-use Rattle.mon_msg.specs.declared.view.Me.{Me}
-use Rattle.mon_tx.specs.Map.{Store, apply}
-use Rattle.mon_types.specs.Ranks.{has}
-use Rattle.mon_types.specs.declared.names.Which.{Which}
-use Rattle.mon_wire.specs.declared.message.Message.{Message}
-use Rattle.mon_wire.specs.declared.reply.Reply.{Reply}
-use Rattle.mon_wire.specs.declared.request.Session.{Session}
 use Rattle.quorum_elects.proofs.Can.{Can, New, Onward, Reached, Sane, Scope, new_added}
 use Rattle.quorum_elects.proofs.Walking.{Surely}
 use Rattle.quorum_elects.specs.Ways.{IsStep}
 use Rattle.quorum_laws.specs.Accepting.{readings_at}
 use Rattle.quorum_model.proofs.Continuing.{ran_on, ran_one}
 use Rattle.quorum_model.proofs.Members.{me_is, member_of}
-use Rattle.quorum_model.specs.Clients.{messages_of, replies_of}
-use Rattle.quorum_model.specs.Events.{PlainFits}
-use Rattle.quorum_model.specs.Growth.{grown, last_of, records_after}
-use Rattle.quorum_model.specs.Happens.{happens, moved}
-use Rattle.quorum_model.specs.Meets.{Reacts, arrival, meeting, meeting_at, meets, state_at}
-use Rattle.quorum_model.specs.Runs.{Ran}
-use Rattle.quorum_model.specs.World.{Arrives, Envelope, Plain, Replied, World, first_world, plain_of}
 use Rattle.quorum_walk.proofs.Lists.{Among, all_append}
 use Rattle.std.proofs.Common.{Bool, Err, List, Ok, Option, Result, Some, [], ap, arith, cond, eqb, false, inl, inr, length, ltb, refl, subst, suc, sym, true, ℕ, ◌++◌, ◌-◌, ◌∙◌, ◌∷◌, ◌≡◌, ◌≤◌}
 use Rattle.std.proofs.lemmas.Bool.{cond_both, eq-eqb, false≢true, ne_eqb}
-use Rattle.std.proofs.lemmas.List.{get_or_append_left, length-append}
 use Rattle.std.proofs.lemmas.List.Elements.{Contains-append_right}
-use Rattle.std.specs.List.{AllByRecursion, Contains}
+use Rattle.std.proofs.lemmas.List.{get_or_append_left, length-append}
 
 -- A sound course: its readings are those after its changes, its numbers fit, and it writes no long value. It leaves the
 -- monitor in no full synchronization.

@@ -1,15 +1,13 @@
 -- Events that follow a plan, one after the other.
+use Rattle.law_names.proofs.Runs.{Event, Monitors, World, ran_from, run_from}
+use Rattle.law_names.proofs.Table.{AllByRecursion, flat_map, range_with_len}
 use Rattle.quorum_elects.proofs.Can.{Can, Onward, Scope, onward_not, run_splits, run_stays, then, weaker}
 use Rattle.quorum_elects.specs.Plans.{ArePlanned, Follow, PlanStep, Planned}
 use Rattle.quorum_elects.specs.Ways.{Clock}
 use Rattle.quorum_model.proofs.Continuing.{at}
-use Rattle.quorum_model.specs.Monitors.{Monitors}
-use Rattle.quorum_model.specs.Runs.{ran_from, run_from}
-use Rattle.quorum_model.specs.World.{Event, World}
 use Rattle.quorum_walk.proofs.Lists.{all_of}
 use Rattle.std.proofs.Common.{List, [], ap, arith, map, refl, subst, suc, sym, zero, ℕ, ◌*◌, ◌++◌, ◌+◌, ◌<◌, ◌∙◌, ◌∷◌, ◌≡◌, ◌≤◌}
 use Rattle.std.proofs.Math.Nat.{mul-suc}
-use Rattle.std.specs.List.{AllByRecursion, flat_map, range_with_len}
 
 -- ---- lists and plans
 

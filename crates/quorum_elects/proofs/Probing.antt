@@ -1,13 +1,7 @@
 -- The members of a majority start, ask one another, and become candidates.
-use Rattle.election_rules.specs.declared.scores.Scores.{Scores}
-use Rattle.mon_msg.specs.Protocol.Phases.{same_phase}
-use Rattle.mon_msg.specs.Protocol.Readings.{Readings, readings_of, shared_entries}
-use Rattle.mon_msg.specs.Protocol.Sets.{only}
-use Rattle.mon_msg.specs.Protocol.State.{State, booting, quorum_of}
-use Rattle.mon_msg.specs.Protocol.Table.{react}
+use Rattle.law_names.proofs.Runs.{Monitors, World}
+use Rattle.law_names.proofs.Table.{Readings, Scores, State, Store, booting, count_of, has, is_majority, no_ranks, only, quorum_of, react, readings_of, same_phase, shared_entries, with_rank}
 use Rattle.mon_msg.specs.declared.input.Input.TheVariants as input
-use Rattle.mon_tx.specs.Map.{Store}
-use Rattle.mon_types.specs.Ranks.{count_of, has, is_majority, no_ranks, with_rank}
 use Rattle.mon_wire.specs.declared.body.Body.TheVariants as body
 use Rattle.mon_wire.specs.declared.kind.Kind.TheVariants as kind
 use Rattle.mon_wire.specs.declared.phase.Phase.TheVariants as phase
@@ -28,13 +22,10 @@ use Rattle.quorum_elects.specs.Plans as plans
 use Rattle.quorum_elects.specs.Plans.{PlanStep}
 use Rattle.quorum_laws.specs.Accepting.{IsMajorityOf, readings_at}
 use Rattle.quorum_model.proofs.Members.{member_of}
-use Rattle.quorum_model.specs.Monitors.{Monitors}
-use Rattle.quorum_model.specs.World.{World}
 use Rattle.quorum_walk.proofs.Ranks.{has_only, has_only_is, has_with}
-use Rattle.std.proofs.Common.{Bool, List, Option, Some, ap, arith, false, inl, inr, length, ltb, refl, subst, suc, sym, true, ℕ, ◌&&◌, ◌*◌, ◌<◌, ◌∙◌, ◌∷◌, ◌≡◌, ◌≤◌, ◌⊎◌, []}
+use Rattle.std.proofs.Common.{Bool, List, Option, Some, [], ap, arith, false, inl, inr, length, ltb, refl, subst, suc, sym, true, unwrap_or, ℕ, ◌&&◌, ◌*◌, ◌<◌, ◌∙◌, ◌∷◌, ◌≡◌, ◌≤◌, ◌⊎◌}
 use Rattle.std.proofs.lemmas.Bool.{cases_lt, false≢true, le-ltb, lt-ltb, ltb-false, ltb-true}
 use Rattle.std.proofs.lemmas.List.{length-set}
-use Rattle.std.specs.Prelude.{unwrap_or}
 
 module _ (G : Majority) where
   abbrev ms : Monitors

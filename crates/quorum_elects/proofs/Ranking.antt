@@ -2,18 +2,16 @@
 use Rattle.election_rules.proofs.MergeLemmas.{length-merged, merged-other, merged-own}
 use Rattle.election_rules.proofs.RankingLaws.{strict}
 use Rattle.election_rules.proofs.TotalLemmas.{sum_for-more}
-use Rattle.election_rules.specs.Ranking.{allows, outranks, score}
+use Rattle.election_rules.specs.Ranking.{outranks, score}
 use Rattle.election_rules.specs.Table.{full, is_older, merged, newer, no_row, row_of, start_row, start_scores, sum_for, total}
 use Rattle.election_rules.specs.declared.row.Row.{Row}
-use Rattle.election_rules.specs.declared.rule.Rule.{Rule}
 use Rattle.election_rules.specs.declared.rule.Rule.TheVariants.{Classic, Connectivity, Disallow}
-use Rattle.election_rules.specs.declared.scores.Scores.{Scores}
-use Rattle.mon_msg.specs.Protocol.Elections.{merged_if_sent, table_or}
+use Rattle.law_names.proofs.Table.{Rule, Scores, allows, table_or}
+use Rattle.mon_msg.specs.Protocol.Elections.{merged_if_sent}
 use Rattle.quorum_elects.proofs.Ranks.{same_or_not}
-use Rattle.std.proofs.Common.{Bool, IfSome, None, Option, Some, ap, arith, cond, eqb, false, inl, inr, length, refl, replicate, slice_index, subst, suc, sym, true, zero, ℕ, ◌*◌, ◌+◌, ◌-◌, ◌<◌, ◌∙◌, ◌≡◌, ◌≤◌, ◌⊎◌}
+use Rattle.std.proofs.Common.{Bool, IfSome, None, Option, Some, ap, arith, cond, eqb, false, inl, inr, length, refl, replicate, slice_index, subst, suc, sym, take, true, zero, ℕ, ◌*◌, ◌+◌, ◌-◌, ◌<◌, ◌∙◌, ◌≡◌, ◌≤◌, ◌⊎◌}
 use Rattle.std.proofs.lemmas.Bool.{cases_lt, eq-eqb, le-ltb, lt-ltb, ne_eqb}
 use Rattle.std.proofs.lemmas.List.{get_or-replicate, get_or-set_other, get_or-set_same, length-replicate, length-set}
-use Rattle.std.specs.Prelude.{take}
 
 -- no connection ever failed
 abbrev pub IsFullRow : Row → Type 0

@@ -1,5 +1,5 @@
 -- Ranks and sets of ranks.
-use Rattle.mon_types.specs.Ranks.{count_of, has, with_rank}
+use Rattle.law_names.proofs.Table.{count_of, has, with_rank}
 use Rattle.quorum_elects.specs.Electing.{highest, lowest}
 use Rattle.std.proofs.Common.{Bool, List, [], ap, arith, cond, false, inl, inr, length, ltb, refl, subst, suc, sym, true, zero, ℕ, ◌&&◌, ◌<◌, ◌∙◌, ◌∷◌, ◌≡◌, ◌≤◌, ◌⊎◌}
 use Rattle.std.proofs.lemmas.Bool.{and_parts, cases_lt, cases_order, cond_both, false≢true, ltb-false, ltb-true}

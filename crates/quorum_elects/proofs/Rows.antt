@@ -1,27 +1,12 @@
 -- The rows by which monitors start and probe, and how one becomes a candidate.
 use Rattle.calm_sizes.proofs.Stores.{ChangeShort}
 use Rattle.election_rules.specs.Table.{start_scores}
-use Rattle.election_rules.specs.declared.rule.Rule.{Rule}
-use Rattle.election_rules.specs.declared.scores.Scores.{Scores}
-use Rattle.mon_bytes.specs.declared.entry.Entry.{Entry}
-use Rattle.mon_msg.specs.Protocol.Changes.{Boot, Change, Epoch}
-use Rattle.mon_msg.specs.Protocol.Course.{Course, arm_if, change, change_if, elector_is, prober_is, ◌▸◌}
-use Rattle.mon_msg.specs.Protocol.Entering.{elect, is_even, own_table, scores_count}
+use Rattle.law_names.proofs.Runs.{Monitors}
+use Rattle.law_names.proofs.Table.{Boot, Change, Course, Entry, Epoch, Fits, Me, Readings, Rule, Scores, State, arm_if, armed, at_rest, booting, change, change_if, count_of, elect, elector_is, epoch_of, epoch_or_first, first_elector, is_even, is_majority, lag, message_to, no_ranks, only, only_ping, own_table, play, prober_is, quorum_of, react, same_phase, scores_count, start_elector, with_rank, ◌▸◌}
 use Rattle.mon_msg.specs.Protocol.Hearing.{fits_rule}
-use Rattle.mon_msg.specs.Protocol.Phases.{same_phase}
-use Rattle.mon_msg.specs.Protocol.Played.{Fits, play}
-use Rattle.mon_msg.specs.Protocol.Probing.{lag}
-use Rattle.mon_msg.specs.Protocol.Readings.{Readings, epoch_of, epoch_or_first}
-use Rattle.mon_msg.specs.Protocol.Sending.{message_to}
 use Rattle.mon_msg.specs.Protocol.Sending as sending
-use Rattle.mon_msg.specs.Protocol.Sets.{only}
-use Rattle.mon_msg.specs.Protocol.State.{State, booting, quorum_of, start_elector}
-use Rattle.mon_msg.specs.Protocol.Table.{at_rest, first_elector, react}
-use Rattle.mon_msg.specs.Protocol.Timers.{armed, only_ping}
 use Rattle.mon_msg.specs.declared.input.Input.TheVariants as input
 use Rattle.mon_msg.specs.declared.plan.Sent.TheVariants as send
-use Rattle.mon_msg.specs.declared.view.Me.{Me}
-use Rattle.mon_types.specs.Ranks.{count_of, is_majority, no_ranks, with_rank}
 use Rattle.mon_wire.specs.declared.body.Body.TheVariants as body
 use Rattle.mon_wire.specs.declared.phase.Phase.TheVariants as phase
 use Rattle.mon_wire.specs.declared.phase.Timer.TheVariants as timer
@@ -31,16 +16,14 @@ use Rattle.quorum_elects.proofs.Standing.{Close, CloseAt, HasNumbers, IsCandidat
 use Rattle.quorum_elects.proofs.Walking.{Surely, by_test, done, so, weaken}
 use Rattle.quorum_elects.specs.Ready.{HasRoom}
 use Rattle.quorum_model.proofs.Members.{member_of}
-use Rattle.quorum_model.specs.Monitors.{Monitors}
 use Rattle.quorum_walk.proofs.Lists.{Among, all_append, among_right}
 use Rattle.quorum_walk.proofs.Parity.{odd_of_even}
 use Rattle.quorum_walk.proofs.Sparing.{played_more}
-use Rattle.table_rows.proofs.Electing.{elects_next, elects_now, near_reply_row, probe_row, probes, probing, standing, start_row}
-use Rattle.table_rows.proofs.Hearing.{another}
-use Rattle.std.proofs.Common.{Bool, List, None, Ok, Option, Some, [], ap, arith, cond, false, inl, inr, length, ltb, map, not, refl, subst, suc, sym, true, ℕ, ◌&&◌, ◌+◌, ◌<◌, ◌^◌, ◌∙◌, ◌∷◌, ◌≡◌, ◌≤◌, ◌⊎◌}
+use Rattle.std.proofs.Common.{Bool, List, None, Ok, Option, Some, [], ap, arith, cond, false, inl, inr, is_some, length, ltb, map, not, refl, subst, suc, sym, true, ℕ, ◌&&◌, ◌+◌, ◌<◌, ◌^◌, ◌∙◌, ◌∷◌, ◌≡◌, ◌≤◌, ◌⊎◌}
 use Rattle.std.proofs.lemmas.Bool.{and_parts, cond_both, false≢true, le-ltb, lt-ltb, ltb-true}
 use Rattle.std.proofs.lemmas.List.{length-set}
-use Rattle.std.specs.Prelude.{is_some}
+use Rattle.table_rows.proofs.Electing.{elects_next, elects_now, near_reply_row, probe_row, probes, probing, standing, start_row}
+use Rattle.table_rows.proofs.Hearing.{another}
 
 -- ---- numbers, tables and changes
 

@@ -1,28 +1,16 @@
 -- What monitors keep and remember on their way into a quorum, and what they send.
-use Rattle.mon_msg.specs.Protocol.Entering.{is_even}
-use Rattle.mon_msg.specs.Protocol.Readings.{Readings, epoch_of, or_zero, promise_of}
-use Rattle.mon_msg.specs.Protocol.Sending.{members, others}
-use Rattle.mon_msg.specs.Protocol.Sets.{only}
-use Rattle.mon_msg.specs.Protocol.State.{State, no_clients}
-use Rattle.mon_msg.specs.Protocol.Timers.{is_armed}
-use Rattle.mon_msg.specs.declared.plan.Sent.{Sent}
+use Rattle.law_names.proofs.Runs.{World}
+use Rattle.law_names.proofs.Table.{Body, Me, Message, Readings, Sent, State, epoch_of, has, is_armed, is_even, members, no_clients, only, or_zero, others, promise_of, range_with_len}
 use Rattle.mon_msg.specs.declared.plan.Sent.TheVariants as send
-use Rattle.mon_msg.specs.declared.view.Me.{Me}
-use Rattle.mon_types.specs.Ranks.{has}
-use Rattle.mon_wire.specs.declared.body.Body.{Body}
-use Rattle.mon_wire.specs.declared.message.Message.{Message}
 use Rattle.mon_wire.specs.declared.phase.Phase.TheVariants as phase
 use Rattle.mon_wire.specs.declared.phase.Timer.TheVariants as timer
 use Rattle.quorum_elects.proofs.Ranking.{IsFull}
 use Rattle.quorum_elects.proofs.Values.{FoundShort}
 use Rattle.quorum_elects.specs.Ready.{HasRoom}
 use Rattle.quorum_laws.specs.Accepting.{readings_at}
-use Rattle.quorum_model.specs.World.{World}
 use Rattle.quorum_walk.proofs.Lists.{Among}
-use Rattle.std.proofs.Common.{Bool, List, None, Option, Some, [], ap, arith, cond, eqb, false, inl, inr, length, map, not, refl, suc, sym, true, zero, ℕ, ◌&&◌, ◌+◌, ◌<◌, ◌^◌, ◌∙◌, ◌∷◌, ◌≡◌, ◌≤◌, ◌⊎◌}
+use Rattle.std.proofs.Common.{Bool, List, None, Option, Some, [], ap, arith, cond, eqb, false, filter, inl, inr, length, map, not, refl, slice_index_or, slice_set, suc, sym, true, zero, ℕ, ◌&&◌, ◌+◌, ◌<◌, ◌^◌, ◌∙◌, ◌∷◌, ◌≡◌, ◌≤◌, ◌⊎◌}
 use Rattle.std.proofs.lemmas.Bool.{cases_order, false≢true, ne_eqb}
-use Rattle.std.specs.List.{range_with_len}
-use Rattle.std.specs.Prelude.{filter, slice_index_or, slice_set}
 
 -- ---- stores
 

@@ -1,17 +1,8 @@
 -- Single events at a monitor of which something is known.
-use Rattle.mon_bytes.specs.declared.command.Command.{Command}
+use Rattle.law_names.proofs.Runs.{AllFit, Arrival, Arrives, Client, Crash, Deliver, Envelope, Event, Monitors, PlainFits, RequestFits, Ring, Start, World, plain_of, request_of, run_from}
+use Rattle.law_names.proofs.Table.{Command, Course, Message, Readings, Request, Session, State, Store, Timer, booting, has, react, readings_of, shared_entries}
 use Rattle.mon_decode.specs.Headers.{kind_in}
-use Rattle.mon_msg.specs.Protocol.Course.{Course}
-use Rattle.mon_msg.specs.Protocol.Readings.{Readings, readings_of, shared_entries}
-use Rattle.mon_msg.specs.Protocol.State.{State, booting}
-use Rattle.mon_msg.specs.Protocol.Table.{react}
 use Rattle.mon_msg.specs.declared.input.Input.TheVariants as input
-use Rattle.mon_tx.specs.Map.{Store}
-use Rattle.mon_types.specs.Ranks.{has}
-use Rattle.mon_wire.specs.declared.message.Message.{Message}
-use Rattle.mon_wire.specs.declared.phase.Timer.{Timer}
-use Rattle.mon_wire.specs.declared.request.Request.{Request}
-use Rattle.mon_wire.specs.declared.request.Session.{Session}
 use Rattle.quorum_elects.proofs.Can.{New, Sane, Scope, new_step}
 use Rattle.quorum_elects.proofs.Moving.{Did, Moved, Sound, comes_by}
 use Rattle.quorum_elects.proofs.Planning.{Does}
@@ -20,15 +11,8 @@ use Rattle.quorum_elects.proofs.Walking.{Surely}
 use Rattle.quorum_elects.specs.Plans.{ArePlanned, Asks, Hears, IsPlanned, Planned, Rings, Starts}
 use Rattle.quorum_elects.specs.Ways.{AreSteps, Clock, IsAskedBy, IsStep}
 use Rattle.quorum_model.proofs.Members.{member_of}
-use Rattle.quorum_model.specs.CalmSchedule.{request_of}
-use Rattle.quorum_model.specs.Events.{AllFit, PlainFits, RequestFits}
-use Rattle.quorum_model.specs.Meets.{Arrival}
-use Rattle.quorum_model.specs.Monitors.{Monitors}
-use Rattle.quorum_model.specs.Runs.{run_from}
-use Rattle.quorum_model.specs.World.{Client, Arrives, Crash, Deliver, Envelope, Event, Ring, Start, World, plain_of}
-use Rattle.std.proofs.Common.{Bool, IfSome, List, None, Option, Some, [], ap, ltb, refl, subst, suc, sym, true, ℕ, ◌<◌, ◌∙◌, ◌∷◌, ◌≡◌}
+use Rattle.std.proofs.Common.{Bool, IfSome, List, None, Option, Some, [], ap, ltb, option_map, refl, subst, suc, sym, true, ℕ, ◌<◌, ◌∙◌, ◌∷◌, ◌≡◌}
 use Rattle.std.proofs.lemmas.Bool.{ltb-true}
-use Rattle.std.specs.Option.{option_map}
 
 -- ---- who remembers what
 

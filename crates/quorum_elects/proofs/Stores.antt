@@ -1,22 +1,19 @@
 -- A monitor that has versions of the log and no long value of its own has no long value at all.
 use Rattle.calm_sizes.proofs.Shorts.{fold_short}
 use Rattle.calm_sizes.specs.Sizes.{AllShort, OwnShort, longest}
+use Rattle.law_names.proofs.Runs.{AllValues, Monitors, World}
+use Rattle.law_names.proofs.Table.{Store, get, is_local, number, shared}
 use Rattle.log_copies.proofs.Standing.{Agrees}
 use Rattle.log_copies.specs.Versions.{HasVersions}
 use Rattle.log_model.proofs.Places.{get_kept}
-use Rattle.log_model.specs.LogOfValues.{AllValues}
-use Rattle.mon_tx.specs.Keys.{is_local, number, shared}
-use Rattle.mon_tx.specs.Map.{Place, Store}
+use Rattle.mon_tx.specs.Map.{Place}
 use Rattle.mon_tx.specs.declared.key.Area.TheVariants as area
 use Rattle.mon_tx.specs.declared.key.Key.TheVariants as key
 use Rattle.quorum_agreement.proofs.Invariant.{LogHolds, remembers}
 use Rattle.quorum_agreement.proofs.Step.{copy_marked}
 use Rattle.quorum_laws.specs.Accepting.{readings_at}
-use Rattle.quorum_model.specs.Monitors.{Monitors}
-use Rattle.quorum_model.specs.World.{World}
 use Rattle.std.proofs.Common.{Bool, List, None, ap, arith, cond, false, inl, inr, length, not, refl, sym, true, ℕ, ◌<◌, ◌^◌, ◌∙◌, ◌≡◌, ◌≤◌}
 use Rattle.std.proofs.lemmas.Bool.{false≢true}
-use Rattle.std.specs.FinMap.{get}
 
 -- what isn't a monitor's own is shared
 shared_there : (m : Store) (q : Place) → is_local (number m area.Paxos key.LastCommitted) q ≡ false → get (shared m) q ≡ get m q

@@ -1,14 +1,10 @@
 -- Tests of steps, decided.
-use Rattle.mon_msg.specs.Protocol.Phases.{same_phase}
-use Rattle.mon_msg.specs.Protocol.State.{State}
-use Rattle.mon_types.specs.Ranks.{has, no_ranks}
-use Rattle.mon_wire.specs.declared.phase.Phase.{Phase}
+use Rattle.law_names.proofs.Runs.{World}
+use Rattle.law_names.proofs.Table.{Phase, State, has, no_ranks, same_phase}
 use Rattle.quorum_elects.specs.Electing.{is_in, is_other, quorum_at}
-use Rattle.quorum_model.specs.World.{World}
-use Rattle.std.proofs.Common.{Bool, List, Option, Some, ap, eqb, false, not, refl, true, ℕ, ◌&&◌, ◌∙◌, ◌≡◌}
+use Rattle.std.proofs.Common.{Bool, List, Option, Some, ap, eqb, false, if◌then◌else◌, not, refl, true, ℕ, ◌&&◌, ◌∙◌, ◌≡◌}
 use Rattle.std.proofs.lemmas.Bool.{eq-eqb, ne_eqb}
 use Rattle.std.specs.Option.{option_map_or}
-use Rattle.std.specs.Prelude.{if◌then◌else◌}
 
 pub chosen : {A : Type 0} (x y : A) (b : Bool) → b ≡ true → (if b then x else y) ≡ x
 chosen x y b e = ap (λ (c : Bool). if c then x else y) e

@@ -1,12 +1,9 @@
 -- A pending value is no longer than a value may be.
-use Rattle.mon_msg.specs.Protocol.Readings.{Readings}
-use Rattle.mon_msg.specs.Protocol.Records.{found_as, most_value, pending, pending_of, record_at, if_short_value}
-use Rattle.mon_msg.specs.declared.paxos.Found.{Found}
-use Rattle.mon_tx.specs.Text.{text}
-use Rattle.mon_tx.specs.declared.op.Op.{Op}
-use Rattle.std.proofs.Common.{IfSome, List, None, Option, Some, eqb, leb, length, suc, ℕ, ◌≤◌}
+use Rattle.law_names.proofs.Table.{Found, Op, Readings, found_as, most_value, pending, pending_of, record_at, text}
+use Rattle.mon_msg.specs.Protocol.Records.{if_short_value}
+use Rattle.std.proofs.Common.{IfSome, List, None, Option, Some, eqb, leb, length, option_map, suc, ℕ, ◌≤◌}
 use Rattle.std.proofs.lemmas.Bool.{cond_both, leb-true}
-use Rattle.std.specs.Option.{option_and_then, option_map}
+use Rattle.std.specs.Option.{option_and_then}
 
 -- a value that was found is short
 abbrev pub FoundShort : Option Found → Type 0

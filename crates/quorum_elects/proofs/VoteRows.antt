@@ -1,43 +1,27 @@
 -- The rows of elections, as a monitor meets them on its way into a quorum.
-use Rattle.election_rules.specs.declared.scores.Scores.{Scores}
-use Rattle.mon_bytes.specs.declared.entry.Entry.{Entry}
-use Rattle.mon_msg.specs.Protocol.Changes.{Epoch, Numbers}
-use Rattle.mon_msg.specs.Protocol.Collecting.{collect_with}
-use Rattle.mon_msg.specs.Protocol.Course.{Course, change, disarm, elector_is}
-use Rattle.mon_msg.specs.Protocol.Elections.{is_allowed, is_whole, may_defer, merge, stands_before, table_or}
-use Rattle.mon_msg.specs.Protocol.Entering.{adopt, elect, is_even, win}
-use Rattle.mon_msg.specs.Protocol.Leading.{is_alone}
-use Rattle.mon_msg.specs.Protocol.Phases.{same_phase, votes}
-use Rattle.mon_msg.specs.Protocol.Readings.{Readings, epoch_of}
-use Rattle.mon_msg.specs.Protocol.Sending.{members, message_to}
-use Rattle.mon_msg.specs.Protocol.State.{State}
-use Rattle.mon_msg.specs.Protocol.Table.{at_rest, react}
-use Rattle.mon_msg.specs.Protocol.Timers.{only_ping}
+use Rattle.law_names.proofs.Runs.{Monitors}
+use Rattle.law_names.proofs.Table.{Course, Entry, Epoch, Me, Numbers, Phase, Readings, Scores, State, adopt, at_rest, change, collect_with, disarm, elect, elector_is, epoch_of, has, is_allowed, is_alone, is_even, is_majority, is_whole, may_defer, members, merge, message_to, only_ping, react, same_phase, stands_before, table_or, votes, win, with_rank}
 use Rattle.mon_msg.specs.declared.input.Input.TheVariants as input
 use Rattle.mon_msg.specs.declared.plan.Sent.TheVariants as send
-use Rattle.mon_msg.specs.declared.view.Me.{Me}
-use Rattle.mon_types.specs.Ranks.{has, is_majority, with_rank}
 use Rattle.mon_wire.specs.declared.body.Body.TheVariants as body
-use Rattle.mon_wire.specs.declared.phase.Phase.{Phase}
 use Rattle.mon_wire.specs.declared.phase.Phase.TheVariants as phase
 use Rattle.mon_wire.specs.declared.phase.Timer.TheVariants as timer
 use Rattle.quorum_agreement.proofs.Others.{others}
 use Rattle.quorum_elects.proofs.Moving.{Sound}
 use Rattle.quorum_elects.proofs.Ranking.{FullIf, IsBefore, IsFull, before_is, before_not, full_after, full_or}
-use Rattle.quorum_elects.proofs.Rows.{Fitting, elected, fits_there, odd_from, pinged, sound_more}
 use Rattle.quorum_elects.proofs.Rows as rows
+use Rattle.quorum_elects.proofs.Rows.{Fitting, elected, fits_there, odd_from, pinged, sound_more}
 use Rattle.quorum_elects.proofs.Standing.{Close, HasNumbers, IsCandidate, IsCollector, IsPeon, IsVoter, SaysTo, among_map, among_members, letter}
 use Rattle.quorum_elects.proofs.Values.{pending_short}
 use Rattle.quorum_elects.proofs.Walking.{Surely, by_test, done, never, so, weaken}
 use Rattle.quorum_model.proofs.Members.{member_of}
-use Rattle.quorum_model.specs.Monitors.{Monitors}
 use Rattle.quorum_walk.proofs.Lists.{Among, among_left, among_right}
 use Rattle.quorum_walk.proofs.Parity.{even_of_odd}
 use Rattle.quorum_walk.proofs.Ranks.{has_with_is, whole_major}
-use Rattle.table_rows.proofs.Electing.{ack_row, collects, election_ends_row, later_propose_row, number_above, propose_row, reigning, victory_row, wins}
 use Rattle.std.proofs.Common.{Bool, List, Option, Some, [], ap, arith, cond, false, inl, inr, length, ltb, map, refl, subst, suc, sym, true, ℕ, ◌&&◌, ◌++◌, ◌+◌, ◌<◌, ◌^◌, ◌∙◌, ◌≡◌, ◌≤◌, ◌⊎◌}
 use Rattle.std.proofs.lemmas.Bool.{and_parts, cases_order, cond_both, ltb-true}
 use Rattle.std.proofs.lemmas.List.{length-set}
+use Rattle.table_rows.proofs.Electing.{ack_row, collects, election_ends_row, later_propose_row, number_above, propose_row, reigning, victory_row, wins}
 
 module _ (ms : Monitors) (several : 1 < ms.count) (c : ℕ) (i : ℕ) (lt : ltb i ms.count ≡ true) (sh : List Entry) (now : ℕ) where
   abbrev n : ℕ

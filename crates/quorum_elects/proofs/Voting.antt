@@ -1,9 +1,6 @@
 -- The member that is to lead becomes a candidate of the greatest epoch, and is elected.
-use Rattle.mon_msg.specs.Protocol.Course.{Course}
-use Rattle.mon_msg.specs.Protocol.Entering.{is_even}
-use Rattle.mon_msg.specs.Protocol.Readings.{shared_entries}
-use Rattle.mon_msg.specs.Protocol.Sets.{only}
-use Rattle.mon_types.specs.Ranks.{count_of, has, is_majority, no_ranks, with_rank}
+use Rattle.law_names.proofs.Runs.{Monitors, World}
+use Rattle.law_names.proofs.Table.{Course, count_of, has, is_even, is_majority, no_ranks, only, shared_entries, with_rank}
 use Rattle.mon_wire.specs.declared.body.Body.TheVariants as body
 use Rattle.mon_wire.specs.declared.kind.Kind.TheVariants as kind
 use Rattle.mon_wire.specs.declared.phase.Phase.TheVariants as phase
@@ -23,8 +20,6 @@ use Rattle.quorum_elects.proofs.VoteRows.{Defers, Reigns, acked, calls, defers, 
 use Rattle.quorum_elects.specs.Electing as electing
 use Rattle.quorum_elects.specs.Plans.{Hears, Rings}
 use Rattle.quorum_laws.specs.Accepting.{IsMajorityOf, readings_at}
-use Rattle.quorum_model.specs.Monitors.{Monitors}
-use Rattle.quorum_model.specs.World.{World}
 use Rattle.quorum_walk.proofs.Ranks.{has_only, has_only_is, has_with, has_with_is}
 use Rattle.std.proofs.Common.{Bool, List, [], ap, arith, false, inl, inr, length, ltb, subst, suc, sym, true, ℕ, ◌&&◌, ◌*◌, ◌+◌, ◌<◌, ◌^◌, ◌∙◌, ◌∷◌, ◌≡◌, ◌≤◌, ◌⊎◌}
 use Rattle.std.proofs.lemmas.Bool.{cases_lt, false≢true, le-ltb, lt-ltb, ltb-true}

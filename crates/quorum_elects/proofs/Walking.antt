@@ -1,9 +1,7 @@
 -- How a row is walked if no number runs out: by its tests, its checked numbers and its steps.
-use Rattle.mon_msg.specs.Protocol.Course.{checked, ◌>>=◌}
-use Rattle.mon_types.specs.declared.names.Which.{Which}
-use Rattle.std.proofs.Common.{Bool, Err, Ok, Result, false, leb, subst, sym, true, ℕ, ◌^◌, ◌∙◌, ◌≡◌, ◌≤◌}
+use Rattle.law_names.proofs.Table.{Which, checked, ◌>>=◌}
+use Rattle.std.proofs.Common.{Bool, Err, Ok, Result, false, if◌then◌else◌, leb, subst, sym, true, ℕ, ◌^◌, ◌∙◌, ◌≡◌, ◌≤◌}
 use Rattle.std.proofs.lemmas.Bool.{cond_both, false≢true, le-leb}
-use Rattle.std.specs.Prelude.{if◌then◌else◌}
 
 abbrev pub Holds : {A : Type 0} → (A → Type 0) → Result A Which → Type 0
 Holds P (Ok x) = P x

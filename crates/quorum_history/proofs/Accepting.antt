@@ -1,13 +1,8 @@
 -- The elementary step by which a monitor accepts a value.
-use Rattle.mon_msg.specs.Protocol.Changes.{Change, Numbers, Vote}
+use Rattle.law_names.proofs.Table.{Cell, Change, Numbers, Op, Sent, Vote, is_majority, text}
 use Rattle.mon_msg.specs.Protocol.Played.{with_record}
-use Rattle.mon_types.specs.Ranks.{is_majority}
-use Rattle.mon_msg.specs.declared.plan.Sent.{Sent}
-use Rattle.mon_tx.specs.Decision.{Cell}
-use Rattle.mon_tx.specs.Text.{text}
-use Rattle.mon_tx.specs.declared.op.Op.{Op}
 use Rattle.quorum_history.proofs.Growing.{grows_by, grows_not}
-use Rattle.quorum_history.proofs.History.{ALevel, ANumber, APromise, Accepted, AnEpoch, Entry, Ext, Ghost, Glob, Had, HadIn, Hand, NewTriple, HasBlocker, Rising, Sign, Triple, TriplesHold, triple}
+use Rattle.quorum_history.proofs.History.{ALevel, ANumber, APromise, Accepted, AnEpoch, Entry, Ext, Ghost, Glob, Had, HadIn, Hand, HasBlocker, NewTriple, Rising, Sign, Triple, TriplesHold, triple}
 use Rattle.quorum_history.proofs.Holds.{Disk, Kept, Numbered, Tied, With, level_in, number_in_own, number_of, promise_in}
 use Rattle.quorum_history.proofs.Numbers.{level_is}
 use Rattle.quorum_history.proofs.Steps.{further, refuses_later}

@@ -1,17 +1,5 @@
 -- The acts of elections, and those by which a monitor begins to synchronize, keep what holds.
-use Rattle.election_rules.specs.Ranking.{allows}
-use Rattle.mon_msg.specs.Protocol.Changes.{Epoch, Mark}
-use Rattle.mon_msg.specs.Protocol.Collecting.{reign}
-use Rattle.mon_msg.specs.Protocol.Course.{Course, change, forget_clients, in_phase, prober_is, ◌▸◌}
-use Rattle.mon_msg.specs.Protocol.Entering.{adopt, bootstrap, elect, in_odd_epoch, is_even, next_even, own_table}
-use Rattle.mon_msg.specs.Protocol.Readings.{Readings, epoch_of}
-use Rattle.mon_msg.specs.Protocol.Records.{pending}
-use Rattle.mon_msg.specs.Protocol.Sets.{only}
-use Rattle.mon_msg.specs.Protocol.Synchronizing.{floor_of, full_sync, pending_version, recent_sync}
-use Rattle.mon_msg.specs.declared.clients.Waiting.{Waiting}
-use Rattle.mon_msg.specs.declared.view.Me.{Me}
-use Rattle.mon_tx.specs.declared.op.Op.{Op}
-use Rattle.mon_types.specs.Ranks.{has, is_majority}
+use Rattle.law_names.proofs.Table.{AllByRecursion, Course, Epoch, Mark, Me, Op, Readings, Waiting, adopt, allows, bootstrap, change, elect, epoch_of, floor_of, forget_clients, full_sync, has, in_odd_epoch, in_phase, is_even, is_majority, next_even, only, own_table, pending, pending_version, prober_is, recent_sync, reign, ◌▸◌}
 use Rattle.mon_types.specs.declared.names.Which.TheVariants as which
 use Rattle.mon_wire.specs.declared.body.Body.TheVariants as body
 use Rattle.mon_wire.specs.declared.phase.Phase.TheVariants as phase
@@ -26,7 +14,6 @@ use Rattle.quorum_walk.proofs.Sparing.{own_of}
 use Rattle.quorum_walk.proofs.Walk.{Then, and_then, by_test, done, where_fits}
 use Rattle.std.proofs.Common.{Bool, List, None, Some, [], ap, arith, false, inl, inr, ltb, not, refl, subst, suc, sym, true, ℕ, ◌&&◌, ◌<◌, ◌∙◌, ◌∷◌, ◌≡◌, ◌≤◌, ◌⊎◌}
 use Rattle.std.proofs.lemmas.Bool.{and_parts, cases_eq, false≢true, not-true}
-use Rattle.std.specs.List.{AllByRecursion}
 
 module _ (me : Me) (now : ℕ) (g : Ghost) (Known : ℕ → List Op → Type 0) where
   -- it won with those who deferred to it

@@ -1,27 +1,11 @@
 -- The acts of a leader keep what holds.
-use Rattle.mon_msg.specs.Protocol.Collecting.{begin_found, catch_up, collect, collect_with, commits_to, commits_with, missed, reign, settle}
-use Rattle.mon_msg.specs.Protocol.Course.{Course, disarm, leader_is, ◌▸◌}
-use Rattle.mon_msg.specs.Protocol.Leading.{be_active, begin, begin_alone, begin_with, commit, extend, is_alone}
-use Rattle.mon_msg.specs.Protocol.Learning.{learn}
-use Rattle.mon_msg.specs.Protocol.Readings.{Readings, epoch_of, or_zero, promise_of}
-use Rattle.mon_msg.specs.Protocol.Records.{pending, pending_of}
-use Rattle.mon_msg.specs.Protocol.Sending.{answers_to, members, send_each}
-use Rattle.mon_msg.specs.Protocol.Sets.{only}
-use Rattle.mon_msg.specs.Protocol.Value.{value}
-use Rattle.mon_msg.specs.declared.paxos.Found.{Found}
+use Rattle.law_names.proofs.Table.{AllByRecursion, Cell, Course, Found, Me, Op, Origin, Readings, Reply, answers_to, be_active, begin, begin_alone, begin_found, begin_with, catch_up, collect, collect_with, commit, commits_to, commits_with, disarm, epoch_of, extend, flat_map, has, is_alone, leader_is, learn, members, missed, next_number, only, or_zero, pending, pending_of, promise_of, reign, send_each, settle, value, ◌▸◌}
 use Rattle.mon_msg.specs.declared.paxos.LeaderStage.TheVariants as stage
 use Rattle.mon_msg.specs.declared.plan.Origin.TheVariants as origin
-use Rattle.mon_msg.specs.declared.plan.Origin.{Origin}
-use Rattle.mon_msg.specs.declared.view.Me.{Me}
-use Rattle.mon_tx.specs.Decision.{Cell}
 use Rattle.mon_tx.specs.Text.{most}
-use Rattle.mon_tx.specs.declared.op.Op.{Op}
-use Rattle.mon_types.specs.Proposal.{next_number}
-use Rattle.mon_types.specs.Ranks.{has}
 use Rattle.mon_types.specs.declared.names.Which.TheVariants as which
 use Rattle.mon_wire.specs.declared.body.Body.TheVariants as body
 use Rattle.mon_wire.specs.declared.phase.Timer.TheVariants as timer
-use Rattle.mon_wire.specs.declared.reply.Reply.{Reply}
 use Rattle.quorum_history.proofs.Accepting.{MayAccept, accepted, accepted_cases, accepts}
 use Rattle.quorum_history.proofs.Frame.{accepted_lasts, gathers_last, heard_lasts, leads_last, reigns_last}
 use Rattle.quorum_history.proofs.History.{ALevel, ANumber, Accepted, Ext, Ghost, Glob, triple}
@@ -36,10 +20,8 @@ use Rattle.quorum_walk.proofs.Parity.{next_is}
 use Rattle.quorum_walk.proofs.Ranks.{alone_within, has_only_is, within_at}
 use Rattle.quorum_walk.proofs.Sparing.{Own, own_of}
 use Rattle.quorum_walk.proofs.Walk.{Then, and_then, by_test, done, where_fits}
-use Rattle.std.proofs.Common.{Bool, IfSome, List, None, Option, Some, [], ap, arith, eqb, false, inl, inr, ltb, max, refl, subst, suc, sym, true, ℕ, ◌%◌, ◌<◌, ◌∷◌, ◌≡◌, ◌≤◌, ◌⊎◌}
+use Rattle.std.proofs.Common.{Bool, IfSome, List, None, Option, Some, [], ap, arith, eqb, false, inl, inr, ltb, max, refl, slice_index_or, subst, suc, sym, true, ℕ, ◌%◌, ◌<◌, ◌∷◌, ◌≡◌, ◌≤◌, ◌⊎◌}
 use Rattle.std.proofs.lemmas.Bool.{cases_eq, cases_lt, cond_both, eqb-false, eqb-true, ne_eqb}
-use Rattle.std.specs.List.{AllByRecursion, flat_map}
-use Rattle.std.specs.Prelude.{slice_index_or}
 
 pub sound : (me : Me) (g : Ghost) (Known : ℕ → List Op → Type 0) (P : Ghost → Type 0) (x : Course) → At me g Known P x → Sound me g Known x
 sound me g Known P x A = weaken P Nothing A (λ h E G D p. tt)

@@ -1,31 +1,16 @@
 -- What holds of all other monitors, and of the messages that were sent, still holds after what one monitor does.
-use Rattle.mon_bytes.specs.declared.command.Command.{Command}
-use Rattle.mon_msg.specs.Protocol.Table.{start}
-use Rattle.mon_msg.specs.Protocol.Value.{value}
-use Rattle.mon_msg.specs.declared.clients.Waiting.{Waiting}
-use Rattle.mon_msg.specs.declared.paxos.Found.{Found}
+use Rattle.law_names.proofs.Table.{Body, Cell, Command, Found, Message, Op, Origin, Phase, Sent, Session, SyncStage, Told, Waiting, start, value}
 use Rattle.mon_msg.specs.declared.plan.Origin.TheVariants as origin
-use Rattle.mon_msg.specs.declared.plan.Origin.{Origin}
 use Rattle.mon_msg.specs.declared.plan.Sent.TheVariants as sent
-use Rattle.mon_msg.specs.declared.plan.Sent.{Sent}
 use Rattle.mon_msg.specs.declared.synchronization.SyncStage.TheVariants as sync
-use Rattle.mon_msg.specs.declared.synchronization.SyncStage.{SyncStage}
-use Rattle.mon_tx.specs.Decision.{Cell}
-use Rattle.mon_tx.specs.declared.op.Op.{Op}
 use Rattle.mon_wire.specs.declared.body.Body.TheVariants as body
-use Rattle.mon_wire.specs.declared.body.Body.{Body}
-use Rattle.mon_wire.specs.declared.message.Message.{Message}
-use Rattle.mon_wire.specs.declared.parts.Told.{Told}
 use Rattle.mon_wire.specs.declared.phase.Phase.TheVariants as phase
-use Rattle.mon_wire.specs.declared.phase.Phase.{Phase}
-use Rattle.mon_wire.specs.declared.request.Session.{Session}
 use Rattle.quorum_history.proofs.History.{ALevel, ANumber, APromise, Accepted, AnEpoch, Entered, Ext, Ghost, Had, Handed, Joined, NewTriple, asking, entry, had_before, had_lasts, hand, triple}
 use Rattle.quorum_history.proofs.Holds.{Answers, BodyHolds, Core, Disk, Followed, FollowsIn, FoundCovers, Gathers, HasSource, Heard, InPhase, IsFound, IsHanded, Kept, LeadsIn, MessageHolds, Nowhere, Numbered, Proposes, Reigns, Repeats, SentHolds, StageHolds, Voted, Waits, epoch_in, number_of}
 use Rattle.quorum_walk.proofs.Lists.{all_map}
 use Rattle.quorum_walk.proofs.Sparing.{Own}
 use Rattle.quorum_walk.proofs.Walk.{done}
-use Rattle.std.proofs.Common.{Bool, IfSome, List, None, Option, Some, arith, inl, inr, length, subst, suc, sym, true, ℕ, ◌%◌, ◌+◌, ◌<◌, ◌∙◌, ◌≡◌, ◌≤◌, ◌⊎◌}
-use Rattle.std.specs.Prelude.{is_some}
+use Rattle.std.proofs.Common.{Bool, IfSome, List, None, Option, Some, arith, inl, inr, is_some, length, subst, suc, sym, true, ℕ, ◌%◌, ◌+◌, ◌<◌, ◌∙◌, ◌≡◌, ◌≤◌, ◌⊎◌}
 
 module _ (i : ℕ) (g h : Ghost) (E : Ext i g h) where
   -- ---- what held before still holds

@@ -1,9 +1,5 @@
 -- What happened, as lists that only grow, and what a step of one monitor may add to them.
-use Rattle.mon_bytes.specs.declared.command.Command.{Command}
-use Rattle.mon_msg.specs.Protocol.Entering.{is_even}
-use Rattle.mon_tx.specs.declared.op.Op.{Op}
-use Rattle.mon_types.specs.Ranks.{has, is_majority}
-use Rattle.mon_wire.specs.declared.request.Session.{Session}
+use Rattle.law_names.proofs.Table.{Command, Op, Session, has, is_even, is_majority}
 use Rattle.quorum_history.proofs.Growing.{Grows, grows_as, grows_more, grows_not}
 use Rattle.quorum_walk.proofs.FineCourses.{Val}
 use Rattle.quorum_walk.proofs.Lists.{Among}

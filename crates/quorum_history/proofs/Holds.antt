@@ -1,40 +1,15 @@
 -- What holds of a monitor in its phase, and of what it says, in a history.
-use Rattle.mon_bytes.specs.declared.command.Command.{Command}
-use Rattle.mon_msg.specs.Protocol.Changes.{Change, Numbers, Vote}
-use Rattle.mon_msg.specs.Protocol.Course.{Course}
-use Rattle.mon_msg.specs.Protocol.Entering.{is_even}
-use Rattle.mon_msg.specs.Protocol.Readings.{epoch_or_first, or_zero}
-use Rattle.mon_msg.specs.Protocol.Sets.{are_within}
-use Rattle.mon_msg.specs.Protocol.State.{State}
-use Rattle.mon_msg.specs.Protocol.Table.{start}
-use Rattle.mon_msg.specs.declared.clients.Asked.{Asked}
-use Rattle.mon_msg.specs.declared.clients.Waiting.{Waiting}
-use Rattle.mon_msg.specs.declared.paxos.Found.{Found}
+use Rattle.law_names.proofs.Table.{AllByRecursion, Asked, Body, Cell, Change, Command, Course, Found, Me, Message, Numbers, Op, Origin, Phase, Sent, Session, State, SyncStage, Told, Vote, Waiting, are_within, epoch_or_first, has, is_even, or_zero, start, text}
 use Rattle.mon_msg.specs.declared.plan.Origin.TheVariants as origin
-use Rattle.mon_msg.specs.declared.plan.Origin.{Origin}
 use Rattle.mon_msg.specs.declared.plan.Sent.TheVariants as sent
-use Rattle.mon_msg.specs.declared.plan.Sent.{Sent}
 use Rattle.mon_msg.specs.declared.synchronization.SyncStage.TheVariants as sync
-use Rattle.mon_msg.specs.declared.synchronization.SyncStage.{SyncStage}
-use Rattle.mon_msg.specs.declared.view.Me.{Me}
-use Rattle.mon_tx.specs.Decision.{Cell}
-use Rattle.mon_tx.specs.Text.{text}
-use Rattle.mon_tx.specs.declared.op.Op.{Op}
-use Rattle.mon_types.specs.Ranks.{has}
 use Rattle.mon_wire.specs.declared.body.Body.TheVariants as body
-use Rattle.mon_wire.specs.declared.body.Body.{Body}
-use Rattle.mon_wire.specs.declared.message.Message.{Message}
-use Rattle.mon_wire.specs.declared.parts.Told.{Told}
 use Rattle.mon_wire.specs.declared.phase.Phase.TheVariants as phase
-use Rattle.mon_wire.specs.declared.phase.Phase.{Phase}
-use Rattle.mon_wire.specs.declared.request.Session.{Session}
 use Rattle.quorum_history.proofs.History.{ALevel, ANumber, APromise, Accepted, AnEpoch, Ask, Asks, Entered, Entry, Ext, Ghost, Glob, Had, HadIn, Hand, Handed, Joined, Rising, Sign, Triple, entry, hand, triple}
 use Rattle.quorum_walk.proofs.Lists.{Among}
 use Rattle.quorum_walk.proofs.Sparing.{Own, own_of}
 use Rattle.quorum_walk.proofs.Walk.{done}
-use Rattle.std.proofs.Common.{Bool, IfSome, List, None, Option, Some, [], false, length, suc, true, ℕ, ◌%◌, ◌+◌, ◌<◌, ◌≡◌, ◌≤◌, ◌⊎◌}
-use Rattle.std.specs.List.{AllByRecursion}
-use Rattle.std.specs.Prelude.{if◌then◌else◌, is_some}
+use Rattle.std.proofs.Common.{Bool, IfSome, List, None, Option, Some, [], false, if◌then◌else◌, is_some, length, suc, true, ℕ, ◌%◌, ◌+◌, ◌<◌, ◌≡◌, ◌≤◌, ◌⊎◌}
 
 -- ---- what its store's readers return
 

@@ -1,14 +1,6 @@
 -- What a monitor has once it learned or copied values.
-use Rattle.mon_bytes.specs.declared.command.Command.{Command}
-use Rattle.mon_msg.specs.Protocol.Changes.{Change, Last}
-use Rattle.mon_msg.specs.Protocol.Chunks.{copy_changes, record_changes}
-use Rattle.mon_msg.specs.Protocol.Course.{Course, change, change_all, ◌▸◌}
-use Rattle.mon_msg.specs.Protocol.Learning.{learn, learn_changes}
-use Rattle.mon_msg.specs.Protocol.Played.{played}
-use Rattle.mon_msg.specs.declared.view.Me.{Me}
-use Rattle.mon_tx.specs.declared.op.Op.{Op}
+use Rattle.law_names.proofs.Table.{AllByRecursion, Change, Command, Course, Last, Me, Op, Session, change, change_all, copy_changes, learn, learn_changes, played, record_changes, ◌▸◌}
 use Rattle.mon_types.specs.declared.names.Which.TheVariants as which
-use Rattle.mon_wire.specs.declared.request.Session.{Session}
 use Rattle.quorum_history.proofs.History.{ALevel, Accepted, Ext, Ghost, Had, Handed}
 use Rattle.quorum_history.proofs.Holds.{At, Disk, With}
 use Rattle.quorum_history.proofs.Numbers.{copies, learns, with_last}
@@ -20,7 +12,6 @@ use Rattle.quorum_walk.proofs.Sparing.{Copied, Own, learned_own, own_of}
 use Rattle.quorum_walk.proofs.Walk.{Then, done, where_fits}
 use Rattle.std.proofs.Common.{List, [], arith, false, length, refl, subst, suc, sym, true, ℕ, ◌++◌, ◌+◌, ◌<◌, ◌∷◌, ◌≡◌, ◌≤◌}
 use Rattle.std.proofs.lemmas.List.{append_assoc}
-use Rattle.std.specs.List.{AllByRecursion}
 
 -- a course that learned the values of the versions from v on, up to the last one
 abbrev pub learned_by : (v : ℕ) → List (List Op) → (last : ℕ) → Course → Course

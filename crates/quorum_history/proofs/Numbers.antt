@@ -1,12 +1,5 @@
 -- The elementary steps of a store: a promise, a number of its own, versions that are learned, and a full synchronization's mark.
-use Rattle.mon_bytes.specs.declared.command.Command.{Command}
-use Rattle.mon_msg.specs.Protocol.Changes.{Change, Numbers, Promise}
-use Rattle.mon_msg.specs.Protocol.Records.{most_value, pending_of, record_at}
-use Rattle.mon_msg.specs.declared.plan.Sent.{Sent}
-use Rattle.mon_tx.specs.Decision.{Cell}
-use Rattle.mon_tx.specs.Text.{text}
-use Rattle.mon_tx.specs.declared.op.Op.{Op}
-use Rattle.mon_wire.specs.declared.request.Session.{Session}
+use Rattle.law_names.proofs.Table.{Cell, Change, Command, Numbers, Op, Promise, Sent, Session, most_value, pending_of, record_at, text}
 use Rattle.quorum_history.proofs.History.{ALevel, ANumber, APromise, Accepted, AnEpoch, Entry, Ext, Ghost, Glob, Had, Hand, Handed, Rising, Triple, had_lasts, triple}
 use Rattle.quorum_history.proofs.Holds.{Disk, Kept, Voted, With, level_in, number_in_own, number_of, promise_in}
 use Rattle.quorum_history.proofs.Steps.{Plain, further, moves, signed, signed_ext, signed_glob, signed_numbers, tied_more}

@@ -1,19 +1,11 @@
 -- What holds in a phase that a test names.
-use Rattle.mon_msg.specs.Protocol.Course.{Course}
-use Rattle.mon_msg.specs.Protocol.Entering.{is_even}
-use Rattle.mon_msg.specs.Protocol.Phases.{is_leading, is_peon, same_phase, votes}
-use Rattle.mon_msg.specs.Protocol.Readings.{epoch_of}
-use Rattle.mon_msg.specs.declared.clients.Waiting.{Waiting}
-use Rattle.mon_msg.specs.declared.view.Me.{Me}
+use Rattle.law_names.proofs.Table.{AllByRecursion, Course, Me, Op, Phase, Waiting, epoch_of, is_even, is_leading, is_peon, same_phase, votes}
 use Rattle.mon_wire.specs.declared.phase.Phase.TheVariants as phase
-use Rattle.mon_wire.specs.declared.phase.Phase.{Phase}
-use Rattle.mon_tx.specs.declared.op.Op.{Op}
 use Rattle.quorum_history.proofs.History.{Ghost, RolesHold}
 use Rattle.quorum_history.proofs.Holds.{At, Core, Good, InPhase, LeadsIn, StandsIn, Waits, core, epoch_in}
 use Rattle.quorum_history.proofs.Steps.{weaken}
 use Rattle.std.proofs.Common.{Bool, List, false, inl, inr, refl, subst, sym, true, ℕ, ◌||◌, ◌∙◌, ◌≡◌}
 use Rattle.std.proofs.lemmas.Bool.{false≢true, or_cases}
-use Rattle.std.specs.List.{AllByRecursion}
 
 pub no : {A : Type 0} → false ≡ true → A
 no e = absurd (false≢true e)

@@ -1,8 +1,5 @@
 -- What a leader has heard leaves no room for another value than the one that it proposes.
-use Rattle.mon_msg.specs.Protocol.Sets.{are_within}
-use Rattle.mon_msg.specs.declared.paxos.Found.{Found}
-use Rattle.mon_tx.specs.declared.op.Op.{Op}
-use Rattle.mon_types.specs.Ranks.{has, is_majority}
+use Rattle.law_names.proofs.Table.{Found, Op, are_within, has, is_majority}
 use Rattle.quorum_history.proofs.Accepting.{LeavesNoRoom}
 use Rattle.quorum_history.proofs.History.{APromise, Accepted, Ghost, Glob, HasBlocker, RolesHold}
 use Rattle.quorum_history.proofs.Holds.{Core, FoundCovers, Gathers, Heard, LeadsIn, Nowhere, Rests, epoch_in}

@@ -1,29 +1,10 @@
 -- Every row of the table keeps what holds.
-use Rattle.election_rules.specs.declared.scores.Scores.{Scores}
-use Rattle.mon_msg.specs.Protocol.Changes.{Boot, Change, Epoch}
-use Rattle.mon_msg.specs.Protocol.Course.{Course, change, change_if, disarm, elector_is}
-use Rattle.mon_msg.specs.Protocol.Entering.{own_table}
-use Rattle.mon_msg.specs.Protocol.Hearing.{deliver, hear, is_heard}
-use Rattle.mon_msg.specs.Protocol.Phases.{same_phase}
-use Rattle.mon_msg.specs.Protocol.Pings.{hear_ping, hear_ping_reply, measure, note_table, ping}
-use Rattle.mon_msg.specs.Protocol.Places.{is_done}
-use Rattle.mon_msg.specs.Protocol.Readings.{Readings, epoch_or_first}
-use Rattle.mon_msg.specs.Protocol.Sending.{others}
-use Rattle.mon_msg.specs.Protocol.State.{State}
-use Rattle.mon_msg.specs.Protocol.Table.{at_rest, before_start, react, running, start, timer_comes}
-use Rattle.mon_msg.specs.Protocol.Timers.{end_of}
-use Rattle.mon_msg.specs.Protocol.Value.{value}
+use Rattle.law_names.proofs.Table.{AllByRecursion, Body, Boot, Change, Course, Epoch, Input, Me, Message, Op, Readings, Scores, State, Timer, at_rest, before_start, change, change_if, deliver, disarm, elector_is, end_of, epoch_or_first, hear, hear_ping, hear_ping_reply, is_done, is_heard, measure, note_table, others, own_table, ping, react, running, same_phase, start, timer_comes, value}
 use Rattle.mon_msg.specs.declared.input.Input.TheVariants as input
-use Rattle.mon_msg.specs.declared.input.Input.{Input}
-use Rattle.mon_msg.specs.declared.view.Me.{Me}
-use Rattle.mon_tx.specs.declared.op.Op.{Op}
 use Rattle.mon_types.specs.declared.names.Which.TheVariants as which
 use Rattle.mon_wire.specs.declared.body.Body.TheVariants as body
-use Rattle.mon_wire.specs.declared.body.Body.{Body}
-use Rattle.mon_wire.specs.declared.message.Message.{Message}
 use Rattle.mon_wire.specs.declared.phase.Phase.TheVariants as phase
 use Rattle.mon_wire.specs.declared.phase.Timer.TheVariants as timer
-use Rattle.mon_wire.specs.declared.phase.Timer.{Timer}
 use Rattle.mon_wire.specs.declared.reply.Reply.TheVariants as reply
 use Rattle.quorum_history.proofs.ActsElections.{bootstrap_holds}
 use Rattle.quorum_history.proofs.ActsLeading.{sound}
@@ -36,15 +17,13 @@ use Rattle.quorum_history.proofs.RowsLeader.{hear_accept_holds, hear_last_holds,
 use Rattle.quorum_history.proofs.RowsPeon.{hear_begin_holds, hear_collect_holds, hear_commit_holds, hear_lease_holds}
 use Rattle.quorum_history.proofs.RowsSync.{anew_holds, hear_chunk_holds, hear_cookie_holds, hear_get_chunk_holds, hear_get_cookie_full_holds, hear_get_cookie_recent_holds, hear_last_chunk_holds, hear_no_cookie_holds, replay_step_holds}
 use Rattle.quorum_history.proofs.Steps.{moves, rises, tells, tells_each}
-use Rattle.quorum_walk.proofs.FineCourses.{still, BodyFine, EntryFine, Fine, Made, MessageFine, RecordsFine}
+use Rattle.quorum_walk.proofs.FineCourses.{BodyFine, EntryFine, Fine, Made, MessageFine, RecordsFine, still}
 use Rattle.quorum_walk.proofs.FineTable.{ComesFine}
 use Rattle.quorum_walk.proofs.Sparing.{Copied, own_of}
 use Rattle.quorum_walk.proofs.Walk.{Then, by_test, done, where_fits}
-use Rattle.std.proofs.Common.{Bool, List, None, Option, Some, [], arith, false, not, refl, subst, suc, sym, true, ℕ, ◌<◌, ◌∷◌, ◌≡◌, ◌≤◌}
+use Rattle.std.proofs.Common.{Bool, List, None, Option, Some, [], arith, false, is_some, not, refl, subst, suc, sym, true, ℕ, ◌<◌, ◌∷◌, ◌≡◌, ◌≤◌}
 use Rattle.std.proofs.lemmas.Bool.{false≢true}
 use Rattle.std.proofs.lemmas.List.{append-nil}
-use Rattle.std.specs.List.{AllByRecursion}
-use Rattle.std.specs.Prelude.{is_some}
 
 -- what may come
 abbrev pub InputHolds : Me → Ghost → Input → Type 0

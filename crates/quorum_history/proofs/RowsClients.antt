@@ -1,41 +1,15 @@
 -- The rows of clients keep what holds.
-use Rattle.log_model.specs.LogOfValues.{IsCommand}
+use Rattle.law_names.proofs.Runs.{IsCommand}
+use Rattle.law_names.proofs.Table.{AllByRecursion, Asked, Command, CommandRefused, Course, IsShort, MOST_WAITING, Me, Op, Origin, Readings, Reply, Request, Session, Waiting, answer, ask, asked_of, at_leader, at_peon, begin_made, clients_are, epoch_of, has, has_queue, hear_client, hear_forward, hear_route, is_leading, is_member, is_peon, is_standing, is_too_long, lease_of, made, may_propose, of_leader, of_member, propose, propose_due, propose_first, propose_next, queue_up, read, readable, refusal, reply_to, same_phase, send, service_last, service_of, shown, since, too_long, value, wait_under, ◌▸◌}
 use Rattle.mon_bytes.specs.declared.command.Command.TheVariants as command
-use Rattle.mon_bytes.specs.declared.command.Command.{Command}
-use Rattle.mon_bytes.specs.declared.command.CommandRefused.{CommandRefused}
-use Rattle.mon_lease.specs.Lease.{readable}
-use Rattle.mon_msg.specs.Protocol.Commands.{ask, at_leader, at_peon, hand_on, hear_forward, hear_route, is_too_long, may_propose, propose_due, queue_up, too_long, wait_under}
-use Rattle.mon_msg.specs.Protocol.Course.{Course, clients_are, ◌▸◌}
-use Rattle.mon_msg.specs.Protocol.Hearing.{hear_client}
-use Rattle.mon_msg.specs.Protocol.Leader.{of_member}
-use Rattle.mon_msg.specs.Protocol.Leading.{has_queue}
-use Rattle.mon_msg.specs.Protocol.Peon.{of_leader}
-use Rattle.mon_msg.specs.Protocol.Phases.{is_leading, is_member, is_peon, same_phase}
-use Rattle.mon_msg.specs.Protocol.Played.{IsShort}
-use Rattle.mon_msg.specs.Protocol.Proposing.{asked_of, begin_made, propose, propose_first, propose_next, refusal}
-use Rattle.mon_msg.specs.Protocol.Readings.{Readings, epoch_of}
-use Rattle.mon_msg.specs.Protocol.Reads.{is_standing, read, shown, since}
-use Rattle.mon_msg.specs.Protocol.Sending.{answer, reply_to, send}
-use Rattle.mon_msg.specs.Protocol.Services.{service_last}
-use Rattle.mon_msg.specs.Protocol.State.{lease_of}
-use Rattle.mon_msg.specs.Protocol.Value.{made, service_of, value}
-use Rattle.mon_msg.specs.declared.clients.Asked.{Asked}
-use Rattle.mon_msg.specs.declared.clients.Waiting.{Waiting}
+use Rattle.mon_msg.specs.Protocol.Commands.{hand_on}
 use Rattle.mon_msg.specs.declared.plan.Origin.TheVariants as origin
-use Rattle.mon_msg.specs.declared.plan.Origin.{Origin}
 use Rattle.mon_msg.specs.declared.plan.Sent.TheVariants as sent
-use Rattle.mon_msg.specs.declared.view.Me.{Me}
-use Rattle.mon_msg.specs.declared.limits.TheConstants.{MOST_WAITING}
-use Rattle.mon_tx.specs.declared.op.Op.{Op}
-use Rattle.mon_types.specs.Ranks.{has}
 use Rattle.mon_types.specs.declared.names.Which.TheVariants as which
 use Rattle.mon_wire.specs.declared.body.Body.TheVariants as body
 use Rattle.mon_wire.specs.declared.phase.Phase.TheVariants as phase
 use Rattle.mon_wire.specs.declared.reply.Reply.TheVariants as reply
-use Rattle.mon_wire.specs.declared.reply.Reply.{Reply}
 use Rattle.mon_wire.specs.declared.request.Request.TheVariants as request
-use Rattle.mon_wire.specs.declared.request.Request.{Request}
-use Rattle.mon_wire.specs.declared.request.Session.{Session}
 use Rattle.quorum_history.proofs.ActsLeading.{begin_new_holds}
 use Rattle.quorum_history.proofs.Frame.{entered_lasts, followed_lasts, handed_lasts, source_lasts}
 use Rattle.quorum_history.proofs.History.{Asks, Ghost, Handed, asking}
@@ -45,10 +19,8 @@ use Rattle.quorum_history.proofs.Steps.{handed, handed_below, hands_on, says, te
 use Rattle.quorum_walk.proofs.FineCourses.{IsStored, Made, OriginFine, RequestFine, WaitingFine}
 use Rattle.quorum_walk.proofs.Lists.{all_append, all_filter, all_map, all_of}
 use Rattle.quorum_walk.proofs.Walk.{Then, and_three, by_test, done, where_fits}
-use Rattle.std.proofs.Common.{Err, List, Ok, Result, Some, [], ap, arith, eqb, false, inl, leb, length, ltb, map, not, refl, subst, suc, sym, true, ℕ, ◌&&◌, ◌++◌, ◌||◌, ◌∷◌, ◌≡◌, ◌≤◌}
+use Rattle.std.proofs.Common.{Err, List, Ok, Result, Some, [], ap, arith, eqb, false, filter, inl, leb, length, ltb, map, not, refl, slice_index_or, slice_set, subst, suc, sym, true, ℕ, ◌&&◌, ◌++◌, ◌||◌, ◌∷◌, ◌≡◌, ◌≤◌}
 use Rattle.std.proofs.lemmas.Bool.{and_parts, eqb-true, not-false}
-use Rattle.std.specs.List.{AllByRecursion, filter}
-use Rattle.std.specs.Prelude.{slice_index_or, slice_set}
 
 -- the history has what a session asks of monitor i
 abbrev pub IsAsked : Ghost → ℕ → Session → Request → Type 0

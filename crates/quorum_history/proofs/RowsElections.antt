@@ -1,23 +1,9 @@
 -- The rows of probing and elections keep what holds.
-use Rattle.election_rules.specs.declared.scores.Scores.{Scores}
-use Rattle.mon_msg.specs.Protocol.Changes.{Epoch}
-use Rattle.mon_msg.specs.Protocol.Collecting.{reign}
-use Rattle.mon_msg.specs.Protocol.Course.{Course, change, checked, elector_is, prober_is, ◌>>=◌, ◌▸◌}
-use Rattle.mon_msg.specs.Protocol.Elections.{count_ack, defer_to, election_ends, follow, hear_ack, hear_propose, hear_victory, is_allowed, is_whole, may_defer, merge, stands_before, table_or, weigh}
-use Rattle.mon_msg.specs.Protocol.Entering.{adopt, is_even, win}
-use Rattle.mon_msg.specs.Protocol.Phases.{same_phase, votes}
-use Rattle.mon_msg.specs.Protocol.Probing.{hear_probe, hear_probe_reply, lag}
-use Rattle.mon_msg.specs.Protocol.Readings.{Readings, epoch_of}
-use Rattle.mon_msg.specs.Protocol.State.{quorum_of}
-use Rattle.mon_msg.specs.declared.clients.Asked.{Asked}
-use Rattle.mon_msg.specs.declared.view.Me.{Me}
-use Rattle.mon_tx.specs.declared.op.Op.{Op}
-use Rattle.mon_types.specs.Ranks.{count_of, has, with_rank, is_majority}
+use Rattle.law_names.proofs.Table.{AllByRecursion, Asked, Course, Epoch, Me, Op, Phase, Readings, Scores, Which, adopt, change, checked, count_ack, count_of, election_ends, elector_is, epoch_of, has, hear_ack, hear_probe, hear_probe_reply, hear_propose, hear_victory, is_allowed, is_even, is_majority, is_whole, lag, may_defer, merge, prober_is, quorum_of, reign, same_phase, stands_before, table_or, votes, weigh, win, with_rank, ◌>>=◌, ◌▸◌}
+use Rattle.mon_msg.specs.Protocol.Elections.{defer_to, follow}
 use Rattle.mon_types.specs.declared.names.Which.TheVariants as which
-use Rattle.mon_types.specs.declared.names.Which.{Which}
 use Rattle.mon_wire.specs.declared.body.Body.TheVariants as body
 use Rattle.mon_wire.specs.declared.phase.Phase.TheVariants as phase
-use Rattle.mon_wire.specs.declared.phase.Phase.{Phase}
 use Rattle.quorum_history.proofs.ActsElections.{adopt_holds, elect_holds, full_sync_holds, recent_sync_holds, wins_holds}
 use Rattle.quorum_history.proofs.ActsLeading.{sound}
 use Rattle.quorum_history.proofs.Frame.{entered_lasts}
@@ -30,10 +16,8 @@ use Rattle.quorum_walk.proofs.Parity.{even_of_odd, odd_before}
 use Rattle.quorum_walk.proofs.Ranks.{has_with, has_with_is, nobody, whole_major}
 use Rattle.quorum_walk.proofs.Sparing.{own_of}
 use Rattle.quorum_walk.proofs.Walk.{Then, and_three, by_test, done, or_three}
-use Rattle.std.proofs.Common.{Bool, Err, List, Ok, Option, Result, ap, arith, eqb, false, inl, inr, leb, ltb, not, refl, subst, suc, sym, true, ℕ, ◌&&◌, ◌+◌, ◌<◌, ◌^◌, ◌||◌, ◌∙◌, ◌≡◌}
+use Rattle.std.proofs.Common.{Bool, Err, List, Ok, Option, Result, ap, arith, eqb, false, inl, inr, is_some, leb, ltb, not, refl, subst, suc, sym, true, ℕ, ◌&&◌, ◌+◌, ◌<◌, ◌^◌, ◌||◌, ◌∙◌, ◌≡◌}
 use Rattle.std.proofs.lemmas.Bool.{and_parts, cond_both, eqb-true, false≢true, leb-false, ltb-false, ltb-true, not-false, or_parts}
-use Rattle.std.specs.List.{AllByRecursion}
-use Rattle.std.specs.Prelude.{is_some}
 
 module _ (me : Me) (now : ℕ) (g : Ghost) (Known : ℕ → List Op → Type 0) where
   any : (x : Course) → Good me g Known x → Sound me g Known x

@@ -1,25 +1,10 @@
 -- The rows of a leader keep what holds.
-use Rattle.mon_msg.specs.Protocol.Collecting.{collect}
-use Rattle.mon_msg.specs.Protocol.Course.{Course, leader_is, ◌▸◌}
-use Rattle.mon_msg.specs.Protocol.Found.{better, counts, is_newer}
-use Rattle.mon_msg.specs.Protocol.Leader.{all_accepted, all_answered, commit_any, hear_accept, hear_last, hear_lease_ack, hear_whole, note, note_answer, note_pending, of_member, renew}
-use Rattle.mon_msg.specs.Protocol.Leading.{extend}
-use Rattle.mon_msg.specs.Protocol.Learning.{learn, news, news_from}
-use Rattle.mon_msg.specs.Protocol.Phases.{same_phase}
-use Rattle.mon_msg.specs.Protocol.Providing.{reach}
-use Rattle.mon_msg.specs.Protocol.Readings.{epoch_of}
-use Rattle.mon_msg.specs.Protocol.Records.{most_value}
-use Rattle.mon_msg.specs.Protocol.Value.{value}
-use Rattle.mon_msg.specs.declared.paxos.Found.{Found}
-use Rattle.mon_msg.specs.declared.view.Me.{Me}
-use Rattle.mon_tx.specs.Text.{text}
-use Rattle.mon_tx.specs.declared.op.Op.{Op}
-use Rattle.mon_types.specs.Ranks.{has, with_rank}
+use Rattle.law_names.proofs.Table.{AllByRecursion, Course, Found, Me, Op, Phase, Told, all_accepted, all_answered, better, collect, commit_any, counts, epoch_of, extend, has, hear_accept, hear_last, hear_lease_ack, hear_whole, leader_is, learn, most_value, news, news_from, note, note_pending, of_member, reach, renew, same_phase, text, value, with_rank, ◌▸◌}
+use Rattle.mon_msg.specs.Protocol.Found.{is_newer}
+use Rattle.mon_msg.specs.Protocol.Leader.{note_answer}
 use Rattle.mon_types.specs.declared.names.Which.TheVariants as which
 use Rattle.mon_wire.specs.declared.body.Body.TheVariants as body
-use Rattle.mon_wire.specs.declared.parts.Told.{Told}
 use Rattle.mon_wire.specs.declared.phase.Phase.TheVariants as phase
-use Rattle.mon_wire.specs.declared.phase.Phase.{Phase}
 use Rattle.quorum_history.proofs.ActsElections.{bootstrap_holds}
 use Rattle.quorum_history.proofs.ActsLeading.{ClosesIn, all_followed, closes_repeating, closes_updating, collect_holds, commit_holds, leads_left, settle_holds, sound}
 use Rattle.quorum_history.proofs.Frame.{accepted_below, accepted_lasts, heard_lasts, joined_lasts, reigns_last}
@@ -35,10 +20,8 @@ use Rattle.quorum_walk.proofs.Lists.{all_drop}
 use Rattle.quorum_walk.proofs.Ranks.{has_with_is}
 use Rattle.quorum_walk.proofs.Sparing.{learned_own, own_of}
 use Rattle.quorum_walk.proofs.Walk.{Then, and_then, and_three, both_then, by_test, done, where_fits}
-use Rattle.std.proofs.Common.{Bool, IfSome, List, None, Ok, Option, Some, [], ap, arith, cond, eqb, false, inl, inr, length, length-drop, ltb, not, refl, subst, suc, sym, true, ℕ, ◌%◌, ◌&&◌, ◌+◌, ◌-◌, ◌<◌, ◌||◌, ◌∙◌, ◌∷◌, ◌≡◌, ◌≤◌, ◌⊎◌}
+use Rattle.std.proofs.Common.{Bool, IfSome, List, None, Ok, Option, Some, [], ap, arith, cond, eqb, false, if◌then◌else◌, inl, inr, length, length-drop, ltb, not, refl, subst, suc, sym, true, ℕ, ◌%◌, ◌&&◌, ◌+◌, ◌-◌, ◌<◌, ◌||◌, ◌∙◌, ◌∷◌, ◌≡◌, ◌≤◌, ◌⊎◌}
 use Rattle.std.proofs.lemmas.Bool.{and_cases, and_parts, cases_eq, cases_lt, cond_both, eqb-false, eqb-true, le-leb, ltb-false, ltb-true, not-false, or_cases, or_parts}
-use Rattle.std.specs.List.{AllByRecursion}
-use Rattle.std.specs.Prelude.{if◌then◌else◌}
 
 -- ---- what is found
 

@@ -1,22 +1,9 @@
 -- The rows of a peon keep what holds.
+use Rattle.law_names.proofs.Table.{AllByRecursion, Change, Course, Found, Me, Op, Promise, Readings, Told, Vote, answer_of, arm, cancel, change, change_all, change_if, epoch_of, fits, hear_begin, hear_collect, hear_commit, hear_lease, is_complete, is_peon, last_answer, longest, of_leader, pending, peon_is, promise, promise_of, run_from, send, sent_values, told_of, value, ◌▸◌}
 use Rattle.mon_lease.specs.Lease as lease
-use Rattle.mon_msg.specs.Protocol.Answers.{answer_of, last_answer, is_complete, told_of, sent_values}
-use Rattle.mon_msg.specs.Protocol.Changes.{Change, Promise, Vote}
-use Rattle.mon_msg.specs.Protocol.Course.{Course, arm, change, change_all, change_if, peon_is, ◌▸◌}
-use Rattle.mon_msg.specs.Protocol.Length.{fits}
-use Rattle.mon_msg.specs.Protocol.Peon.{cancel, hear_begin, hear_collect, hear_commit, hear_lease, of_leader, promise}
-use Rattle.mon_msg.specs.Protocol.Phases.{is_peon}
-use Rattle.mon_msg.specs.Protocol.Readings.{Readings, epoch_of, promise_of}
-use Rattle.mon_msg.specs.Protocol.Records.{longest, pending, run_from}
-use Rattle.mon_msg.specs.Protocol.Sending.{send}
-use Rattle.mon_msg.specs.Protocol.Value.{value}
-use Rattle.mon_msg.specs.declared.paxos.Found.{Found}
-use Rattle.mon_msg.specs.declared.view.Me.{Me}
 use Rattle.mon_tx.specs.Keys.{covers}
-use Rattle.mon_tx.specs.declared.op.Op.{Op}
 use Rattle.mon_types.specs.declared.names.Which.TheVariants as which
 use Rattle.mon_wire.specs.declared.body.Body.TheVariants as body
-use Rattle.mon_wire.specs.declared.parts.Told.{Told}
 use Rattle.mon_wire.specs.declared.phase.Phase.TheVariants as phase
 use Rattle.mon_wire.specs.declared.phase.Timer.TheVariants as timer
 use Rattle.quorum_history.proofs.Accepting.{accepted, accepts}
@@ -34,11 +21,9 @@ use Rattle.quorum_walk.proofs.FineCourses.{Val}
 use Rattle.quorum_walk.proofs.Lists.{all_drop}
 use Rattle.quorum_walk.proofs.Sparing.{own_of}
 use Rattle.quorum_walk.proofs.Walk.{Then, and_three, by_test, done, or_three, where_fits}
-use Rattle.std.proofs.Common.{Bool, IfSome, List, None, Option, Some, [], ap, arith, cond, drop, eqb, false, inl, inr, length, ltb, not, refl, subst, suc, sym, true, ℕ, ◌&&◌, ◌+◌, ◌-◌, ◌<◌, ◌||◌, ◌∙◌, ◌≡◌, ◌≤◌, ◌⊎◌}
+use Rattle.std.proofs.Common.{Bool, IfSome, List, None, Option, Some, [], ap, arith, cond, drop, eqb, false, inl, inr, is_some, length, ltb, not, refl, subst, suc, sym, true, ℕ, ◌&&◌, ◌+◌, ◌-◌, ◌<◌, ◌||◌, ◌∙◌, ◌≡◌, ◌≤◌, ◌⊎◌}
 use Rattle.std.proofs.lemmas.Bool.{and_parts, cases_lt, cond_both, eqb-true, false≢true, lt-ltb, ltb-true, not-false, or_parts}
 use Rattle.std.proofs.lemmas.List.{append-nil}
-use Rattle.std.specs.List.{AllByRecursion}
-use Rattle.std.specs.Prelude.{is_some}
 
 module _ (me : Me) (now : ℕ) (g : Ghost) (Known : ℕ → List Op → Type 0) where
   abbrev n : ℕ

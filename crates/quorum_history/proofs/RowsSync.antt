@@ -1,29 +1,9 @@
 -- The rows of synchronization keep what holds.
-use Rattle.mon_msg.specs.Protocol.Changes.{Change, Last, Unmark}
-use Rattle.mon_msg.specs.Protocol.Chunks.{copy, copy_changes, hear_chunk, hear_last_chunk, is_ours, next_place, record_changes, replay_or_end, take, takes_chunks}
-use Rattle.mon_msg.specs.Protocol.Copying.{ask_chunk, awaits_cookie, first_place, hear_cookie, hear_no_cookie, of_provider, same_flag, start_chunks}
-use Rattle.mon_msg.specs.Protocol.Course.{Course, arm, change, change_all, disarm, requester_is, ◌>>=◌, ◌▸◌}
-use Rattle.mon_msg.specs.Protocol.Entering.{bootstrap}
-use Rattle.mon_msg.specs.Protocol.Learning.{learn, learn_changes}
-use Rattle.mon_msg.specs.Protocol.Length.{fits}
-use Rattle.mon_msg.specs.Protocol.Phases.{same_phase}
-use Rattle.mon_msg.specs.Protocol.Places.{is_after, is_cookie, is_done, no_cookie, same_cookie, same_key_place, same_place}
-use Rattle.mon_msg.specs.Protocol.Providing.{chunk, chunk_with, given_entries, given_values, grant, hear_get_chunk, hear_get_cookie_full, hear_get_cookie_recent, is_finished, reach}
-use Rattle.mon_msg.specs.Protocol.Readings.{epoch_of}
-use Rattle.mon_msg.specs.Protocol.Records.{run_from}
-use Rattle.mon_msg.specs.Protocol.Replay.{replay, replay_any, replay_step, step_in, step_of}
+use Rattle.law_names.proofs.Table.{AllByRecursion, Cell, Change, Cookie, Course, Last, Me, Op, Phase, Place, SyncStage, Unmark, arm, ask_chunk, awaits_cookie, bootstrap, change, change_all, chunk, chunk_with, copy, copy_changes, disarm, epoch_of, first_place, fits, given_entries, given_values, grant, hear_chunk, hear_cookie, hear_get_chunk, hear_get_cookie_full, hear_get_cookie_recent, hear_last_chunk, hear_no_cookie, is_after, is_cookie, is_done, is_finished, is_ours, learn, learn_changes, next_place, no_cookie, of_provider, reach, record_changes, replay, replay_any, replay_or_end, replay_step, requester_is, run_from, same_cookie, same_flag, same_key_place, same_phase, same_place, shared, start_chunks, step_in, step_of, take, takes_chunks, ◌>>=◌, ◌▸◌}
 use Rattle.mon_msg.specs.declared.synchronization.SyncStage.TheVariants as sync
-use Rattle.mon_msg.specs.declared.synchronization.SyncStage.{SyncStage}
-use Rattle.mon_msg.specs.declared.view.Me.{Me}
-use Rattle.mon_tx.specs.Decision.{Cell}
-use Rattle.mon_tx.specs.Keys.{shared}
-use Rattle.mon_tx.specs.declared.op.Op.{Op}
 use Rattle.mon_types.specs.declared.names.Which.TheVariants as which
 use Rattle.mon_wire.specs.declared.body.Body.TheVariants as body
-use Rattle.mon_wire.specs.declared.parts.Cookie.{Cookie}
-use Rattle.mon_wire.specs.declared.parts.Place.{Place}
 use Rattle.mon_wire.specs.declared.phase.Phase.TheVariants as phase
-use Rattle.mon_wire.specs.declared.phase.Phase.{Phase}
 use Rattle.mon_wire.specs.declared.phase.Timer.TheVariants as timer
 use Rattle.quorum_history.proofs.ActsElections.{bootstrap_holds}
 use Rattle.quorum_history.proofs.ActsLeading.{sound}
@@ -40,11 +20,9 @@ use Rattle.quorum_walk.proofs.FineCourses.{EntryFine, RecordsFine, Val}
 use Rattle.quorum_walk.proofs.FineReading.{all_spare, entries_spare, step_of_fine}
 use Rattle.quorum_walk.proofs.Sparing.{Copied, Own, copied_own, learned_own, own_of, records_own}
 use Rattle.quorum_walk.proofs.Walk.{Then, and_then, and_three, by_test, done, where_fits}
-use Rattle.std.proofs.Common.{Bool, IfSome, List, None, Ok, Option, Some, [], ap, arith, cond, eqb, false, length, ltb, not, refl, subst, suc, sym, true, ℕ, ◌&&◌, ◌++◌, ◌+◌, ◌-◌, ◌<◌, ◌||◌, ◌∙◌, ◌∷◌, ◌≡◌, ◌≤◌}
+use Rattle.std.proofs.Common.{Bool, IfSome, List, None, Ok, Option, Some, [], ap, arith, cond, eqb, false, filter, length, ltb, not, refl, slice_index_or, subst, suc, sym, true, ℕ, ◌&&◌, ◌++◌, ◌+◌, ◌-◌, ◌<◌, ◌||◌, ◌∙◌, ◌∷◌, ◌≡◌, ◌≤◌}
 use Rattle.std.proofs.lemmas.Bool.{and_parts, eqb-true, false≢true, leb-true, ltb-false, not-false, not-true, or_parts}
 use Rattle.std.proofs.lemmas.List.{append_assoc}
-use Rattle.std.specs.List.{AllByRecursion, filter}
-use Rattle.std.specs.Prelude.{slice_index_or}
 
 module _ (me : Me) (now : ℕ) (g : Ghost) (Known : ℕ → List Op → Type 0) where
   abbrev n : ℕ

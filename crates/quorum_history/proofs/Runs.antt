@@ -1,7 +1,6 @@
 -- How long runs of records are, and what is pending.
-use Rattle.mon_msg.specs.Protocol.Records.{found_as, longest, longest_onto, pending_of, record_at, run_of}
-use Rattle.mon_tx.specs.Decision.{Cell}
-use Rattle.mon_tx.specs.declared.op.Op.{Op}
+use Rattle.law_names.proofs.Table.{Cell, Op, found_as, longest, pending_of, record_at, run_of}
+use Rattle.mon_msg.specs.Protocol.Records.{longest_onto}
 use Rattle.quorum_history.proofs.History.{Accepted, Ghost, Glob}
 use Rattle.quorum_history.proofs.Holds.{Disk, level_in}
 use Rattle.quorum_history.proofs.Numbers.{level_is, pending_is}

@@ -1,25 +1,12 @@
 -- The elementary steps: what is said, numbers that rise, an epoch that is entered, and a command that is handed on.
-use Rattle.mon_bytes.specs.declared.command.Command.{Command}
-use Rattle.mon_msg.specs.Protocol.Changes.{Change, Epoch, Numbers, Vote}
-use Rattle.mon_msg.specs.Protocol.Commands.{ask}
-use Rattle.mon_msg.specs.Protocol.Entering.{is_even}
-use Rattle.mon_msg.specs.Protocol.Sending.{message_to}
-use Rattle.mon_msg.specs.Protocol.Value.{made}
-use Rattle.mon_msg.specs.declared.plan.Sent.{Sent}
-use Rattle.mon_msg.specs.declared.view.Me.{Me}
-use Rattle.mon_tx.specs.Decision.{Cell}
-use Rattle.mon_tx.specs.declared.op.Op.{Op}
-use Rattle.mon_types.specs.Ranks.{has, is_majority}
-use Rattle.mon_wire.specs.declared.body.Body.{Body}
-use Rattle.mon_wire.specs.declared.request.Session.{Session}
+use Rattle.law_names.proofs.Table.{AllByRecursion, Body, Cell, Change, Command, Epoch, Me, Numbers, Op, Sent, Session, Vote, ask, has, is_even, is_majority, made, message_to}
 use Rattle.quorum_history.proofs.Frame.{accepted_below, sent_lasts}
 use Rattle.quorum_history.proofs.Growing.{grows_by, grows_more, grows_not}
-use Rattle.quorum_history.proofs.History.{ALevel, ANumber, APromise, AnEpoch, Accepted, Ask, Asks, Entered, Entry, Ext, Ghost, Glob, Had, HadIn, Hand, Handed, HandsHold, NewEntry, HasBlocker, Rising, RolesHold, Sign, Triple, entry, ext_trans, had_lasts, hand, sign, triple}
+use Rattle.quorum_history.proofs.History.{ALevel, ANumber, APromise, Accepted, AnEpoch, Ask, Asks, Entered, Entry, Ext, Ghost, Glob, Had, HadIn, Hand, Handed, HandsHold, HasBlocker, NewEntry, Rising, RolesHold, Sign, Triple, entry, ext_trans, had_lasts, hand, sign, triple}
 use Rattle.quorum_history.proofs.Holds.{BodyHolds, Disk, Kept, Numbered, SentHolds, Tied, With, epoch_in, level_in, number_in_own, number_of, promise_in}
 use Rattle.quorum_walk.proofs.Lists.{Among, all_among, all_append, all_map, all_of, among_append, among_left}
 use Rattle.quorum_walk.proofs.Sparing.{Own}
 use Rattle.std.proofs.Common.{Bool, List, Some, [], ap, arith, inl, inr, map, refl, subst, suc, sym, true, ℕ, ◌%◌, ◌++◌, ◌<◌, ◌∙◌, ◌∷◌, ◌≡◌, ◌≤◌, ◌⊎◌}
-use Rattle.std.specs.List.{AllByRecursion}
 
 -- ---- with no new history
 

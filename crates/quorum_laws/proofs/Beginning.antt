@@ -1,26 +1,19 @@
 -- What holds before the first event.
-use Rattle.mon_msg.specs.Protocol.Played.{IsShort}
-use Rattle.mon_msg.specs.Protocol.Readings.{Readings, epoch_of, epoch_or_first, marks, number_if_there, or_zero, promise_of, readings_of}
-use Rattle.mon_tx.specs.Decision.{Cell}
-use Rattle.mon_tx.specs.Keys.{cell, number, place}
-use Rattle.mon_tx.specs.Map.{number_in, place_cmp}
+use Rattle.law_names.proofs.Runs.{Monitors, first_world}
+use Rattle.law_names.proofs.Table.{Area, Cell, IsShort, Key, Readings, cell, empty, epoch_of, epoch_or_first, marks, number, number_if_there, number_in, or_zero, place, place_cmp, promise_of, readings_of}
 use Rattle.mon_tx.specs.declared.key.Area.TheVariants as area
-use Rattle.mon_tx.specs.declared.key.Area.{Area}
 use Rattle.mon_tx.specs.declared.key.Key.TheVariants as key
-use Rattle.mon_tx.specs.declared.key.Key.{Key}
 use Rattle.quorum_history.proofs.History.{ALevel, ANumber, APromise, AnEpoch, Ghost, Glob, Rising, least}
 use Rattle.quorum_history.proofs.Holds.{level_in, number_of}
 use Rattle.quorum_history.proofs.Numbers.{level_is}
 use Rattle.quorum_laws.proofs.Invariant.{InvOf, Mine}
 use Rattle.quorum_laws.specs.Accepting.{AcceptedIn}
-use Rattle.quorum_model.specs.Monitors.{Monitors}
-use Rattle.quorum_model.specs.World.{first_world}
 use Rattle.quorum_walk.proofs.FineCourses.{CellFine, ReadingsFine}
 use Rattle.quorum_walk.proofs.FineReading.{missing_fine}
 use Rattle.quorum_walk.proofs.Sparing.{own_of}
 use Rattle.std.proofs.Common.{IfSome, List, None, [], ap, arith, false, inl, inr, refl, subst, sym, ℕ, ◌∙◌, ◌≡◌, ◌≤◌}
 use Rattle.std.proofs.lemmas.Bool.{false≢true}
-use Rattle.std.specs.FinMap.{empty, get-empty}
+use Rattle.std.specs.FinMap.{get-empty}
 
 abbrev none : Ghost
 none = record { roles = []; hands = []; asks = []; signs = []; accepts = [] }

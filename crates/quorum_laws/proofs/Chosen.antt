@@ -1,12 +1,7 @@
 -- What is known of accepted values in every run.
-use Rattle.mon_msg.specs.Protocol.Records.{transaction_in}
-use Rattle.mon_msg.specs.Protocol.State.{State}
-use Rattle.mon_tx.specs.Text.{text}
-use Rattle.mon_tx.specs.declared.op.Op.TheVariants.{Erase}
-use Rattle.mon_tx.specs.declared.op.Op.{Op}
-use Rattle.mon_types.specs.Ranks.{has, is_majority}
+use Rattle.law_names.proofs.Runs.{AllFit, Event, Monitors, World, first_world, run}
+use Rattle.law_names.proofs.Table.{Erase, Op, Phase, State, has, is_majority, text, transaction_in}
 use Rattle.mon_wire.specs.declared.phase.Phase.TheVariants as phase
-use Rattle.mon_wire.specs.declared.phase.Phase.{Phase}
 use Rattle.quorum_history.proofs.History as history
 use Rattle.quorum_history.proofs.History.{APromise}
 use Rattle.quorum_history.proofs.Holds as holds
@@ -18,11 +13,7 @@ use Rattle.quorum_laws.proofs.Invariant.{InvOf}
 use Rattle.quorum_laws.proofs.Later.{Later}
 use Rattle.quorum_laws.proofs.Reading.{accepted_as, as_accepted, at_least, state_holds}
 use Rattle.quorum_laws.specs.Accepting.{HasAccepted, IsMajorityOf, readings_at}
-use Rattle.quorum_laws.specs.Values.{AcceptedNothing, IsChosen, KnowsOlder, LeadersKnow, LeavesNoRoom, OneValue, ProposesNew, HasBlocker, Repeats, has_heard}
-use Rattle.quorum_model.specs.Events.{AllFit}
-use Rattle.quorum_model.specs.Monitors.{Monitors}
-use Rattle.quorum_model.specs.Runs.{run}
-use Rattle.quorum_model.specs.World.{Event, World, first_world}
+use Rattle.quorum_laws.specs.Values.{AcceptedNothing, HasBlocker, IsChosen, KnowsOlder, LeadersKnow, LeavesNoRoom, OneValue, ProposesNew, Repeats, has_heard}
 use Rattle.quorum_walk.proofs.Ranks.{Below, majorities, within_at}
 use Rattle.quorum_walk.proofs.Sparing.{own_of}
 use Rattle.std.proofs.Common.{Bool, List, None, Option, Some, [], ap, arith, false, inl, inr, length, refl, subst, suc, sym, true, ℕ, ◌++◌, ◌<◌, ◌∙◌, ◌∷◌, ◌≡◌, ◌≤◌, ◌⊎◌}

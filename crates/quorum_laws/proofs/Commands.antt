@@ -1,16 +1,9 @@
 -- What is known in every run of commands that wait and are handed on.
-use Rattle.mon_bytes.specs.declared.command.Command.{Command}
-use Rattle.mon_msg.specs.Protocol.Phases.{is_leading, is_peon}
-use Rattle.mon_msg.specs.Protocol.State.{State}
-use Rattle.mon_msg.specs.declared.clients.Asked.{Asked}
-use Rattle.mon_msg.specs.declared.clients.Waiting.{Waiting}
+use Rattle.law_names.proofs.Runs.{Monitors, World}
+use Rattle.law_names.proofs.Table.{AllByRecursion, Asked, Body, Command, Origin, Phase, Session, State, Waiting, is_leading, is_peon}
 use Rattle.mon_msg.specs.declared.plan.Origin.TheVariants as origin
-use Rattle.mon_msg.specs.declared.plan.Origin.{Origin}
 use Rattle.mon_wire.specs.declared.body.Body.TheVariants as body
-use Rattle.mon_wire.specs.declared.body.Body.{Body}
 use Rattle.mon_wire.specs.declared.phase.Phase.TheVariants as phase
-use Rattle.mon_wire.specs.declared.phase.Phase.{Phase}
-use Rattle.mon_wire.specs.declared.request.Session.{Session}
 use Rattle.quorum_history.proofs.History.{Handed}
 use Rattle.quorum_history.proofs.Holds.{BodyHolds, Core, FollowsIn, HasSource, InPhase, IsHanded, Waits, core_of, epoch_in}
 use Rattle.quorum_history.proofs.Phases.{no, peon_is_peon}
@@ -18,12 +11,9 @@ use Rattle.quorum_laws.proofs.Invariant.{InvOf}
 use Rattle.quorum_laws.proofs.Reading.{sent_holds, state_holds}
 use Rattle.quorum_laws.specs.Accepting.{readings_at}
 use Rattle.quorum_laws.specs.Commands.{CommandsHold, HandsOn, HasOrigin, WasAsked}
-use Rattle.quorum_model.specs.Monitors.{Monitors}
-use Rattle.quorum_model.specs.World.{World}
 use Rattle.quorum_walk.proofs.Lists.{all_map}
 use Rattle.quorum_walk.proofs.Sparing.{own_of}
 use Rattle.std.proofs.Common.{Some, subst, true, ℕ, ◌≡◌}
-use Rattle.std.specs.List.{AllByRecursion}
 
 module _ (ms : Monitors) (w : World) (I : InvOf ms w) where
   handed : (i e seq : ℕ) (s : Session) (c : Command) → Handed I.g i e seq s c → WasAsked ms.count w.asked i s c

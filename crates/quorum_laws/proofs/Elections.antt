@@ -1,9 +1,7 @@
 -- What is known of elections in every run.
+use Rattle.law_names.proofs.Runs.{AllFit, Event, Monitors, PlainFits, World, first_world, plain_of, run}
+use Rattle.law_names.proofs.Table.{State, epoch_of, has, is_member, quorum_of}
 use Rattle.log_model.proofs.Lists.{all_front}
-use Rattle.mon_msg.specs.Protocol.Phases.{is_member}
-use Rattle.mon_msg.specs.Protocol.Readings.{epoch_of}
-use Rattle.mon_msg.specs.Protocol.State.{State, quorum_of}
-use Rattle.mon_types.specs.Ranks.{has}
 use Rattle.quorum_history.proofs.History.{AnEpoch, Entered, Joined, entry}
 use Rattle.quorum_history.proofs.Holds.{core_of}
 use Rattle.quorum_laws.proofs.Beginning.{at_first}
@@ -14,11 +12,7 @@ use Rattle.quorum_laws.proofs.Leaving.{member_in}
 use Rattle.quorum_laws.proofs.Reading.{among_of, at_least, sent_holds, state_holds}
 use Rattle.quorum_laws.specs.Accepting.{readings_at}
 use Rattle.quorum_laws.specs.Elections.{ActiveAreLed, EpochsSent, IsLed, IsMember, IsQuorum, leader_of}
-use Rattle.quorum_model.specs.Events.{AllFit, PlainFits}
-use Rattle.quorum_model.specs.Monitors.{Monitors}
-use Rattle.quorum_model.specs.Runs.{run}
 use Rattle.quorum_model.specs.Safe.{OneActive}
-use Rattle.quorum_model.specs.World.{Event, World, first_world, plain_of}
 use Rattle.quorum_walk.proofs.Lists.{all_among}
 use Rattle.quorum_walk.proofs.Ranks.{majorities}
 use Rattle.quorum_walk.proofs.Sparing.{own_of}

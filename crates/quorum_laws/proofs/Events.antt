@@ -1,19 +1,9 @@
 -- Every event keeps what holds.
-use Rattle.mon_bytes.specs.declared.command.Command.{Command}
+pub use Rattle.quorum_laws.proofs.Meetings.{Arriving, IsNoted, ToldOf, member_of}
+pub use Rattle.quorum_model.proofs.Happening.{unless_full}
+use Rattle.law_names.proofs.Runs.{AllFit, Asked, Envelope, Event, Monitors, Plain, PlainFits, World, first_world, happens, is_active, kept_only, lost, messages_of, moved, plain_of, put_at, run, run_from, unmoved, with_asked}
+use Rattle.law_names.proofs.Table.{AllByRecursion, Command, Course, Input, Me, Op, Readings, Session, State, Store, apply, at_rest, booting, encoded, epoch_of, is_member, joined, or_zero, promise_of, react, reaction_of, readings_of, shared_entries}
 use Rattle.mon_msg.proofs.Changed.{readings-joined}
-use Rattle.mon_msg.specs.Joined.{joined}
-use Rattle.mon_msg.specs.Protocol.Changes.{encoded}
-use Rattle.mon_msg.specs.Protocol.Course.{Course}
-use Rattle.mon_msg.specs.Protocol.Reaction.{reaction_of}
-use Rattle.mon_msg.specs.Protocol.Phases.{is_member}
-use Rattle.mon_msg.specs.Protocol.Readings.{Readings, epoch_of, or_zero, promise_of, readings_of, shared_entries}
-use Rattle.mon_msg.specs.Protocol.State.{State, booting}
-use Rattle.mon_msg.specs.Protocol.Table.{at_rest, react}
-use Rattle.mon_msg.specs.declared.input.Input.{Input}
-use Rattle.mon_msg.specs.declared.view.Me.{Me}
-use Rattle.mon_tx.specs.Map.{Store, apply}
-use Rattle.mon_tx.specs.declared.op.Op.{Op}
-use Rattle.mon_wire.specs.declared.request.Session.{Session}
 use Rattle.quorum_history.proofs.Frame.{accepted_lasts}
 use Rattle.quorum_history.proofs.History.{ALevel, ANumber, APromise, Accepted, AnEpoch, Asks, Entry, Had, asking, ext_refl, had_lasts, triple}
 use Rattle.quorum_history.proofs.Holds.{Good, core, level_in}
@@ -24,32 +14,22 @@ use Rattle.quorum_laws.proofs.Beginning.{at_first}
 use Rattle.quorum_laws.proofs.Invariant.{EnvelopeFine, EnvelopeHolds, Further, Inv, InvOf, InvWith, Mine, OnState, StateFits, TriplesKept, WasActive, further_ext, further_refl, further_trans}
 use Rattle.quorum_laws.proofs.Later.{Later, Stays, is_in, later_refl, later_trans, stays_refl}
 use Rattle.quorum_laws.proofs.Leaving.{IsLater, stays_outside}
+use Rattle.quorum_laws.proofs.Meetings.{Adds, adds, arriving}
 use Rattle.quorum_laws.proofs.Values.{made, sharing}
 use Rattle.quorum_laws.proofs.Voting.{collects_number}
 use Rattle.quorum_laws.proofs.Whole.{active_last, at_put, envelopes_last, envelopes_of, fine_envelopes, held_after, mine_lasts, raised_after, triples_kept, was_active}
 use Rattle.quorum_laws.specs.Accepting.{AcceptedIn}
 use Rattle.quorum_laws.specs.Commands.{WasAsked}
 use Rattle.quorum_laws.specs.Promises.{Collects, last_number}
-use Rattle.quorum_model.specs.Clients.{messages_of, with_asked}
-use Rattle.quorum_model.specs.Events.{AllFit, PlainFits}
 use Rattle.quorum_model.proofs.Happening as happening
 use Rattle.quorum_model.proofs.Happening.{Leads, of_next, run_leads, runs_apart}
-use Rattle.quorum_model.specs.Happens.{happens, is_active, kept_only, lost, moved, put_at, unmoved}
-use Rattle.quorum_model.specs.Monitors.{Monitors}
-use Rattle.quorum_model.specs.Runs.{run, run_from}
-use Rattle.quorum_model.specs.World.{Asked, Envelope, Event, Plain, World, first_world, plain_of}
-use Rattle.quorum_walk.proofs.FineCourses.{begun, still, Ended, EntryFine, Fine, fit_fits}
+use Rattle.quorum_walk.proofs.FineCourses.{Ended, EntryFine, Fine, begun, fit_fits, still}
 use Rattle.quorum_walk.proofs.FineTable.{ComesFine, react_fine}
 use Rattle.quorum_walk.proofs.Lists.{Among, all_append}
 use Rattle.quorum_walk.proofs.Sparing.{own_of}
 use Rattle.quorum_walk.proofs.Walk.{Then}
-pub use Rattle.quorum_laws.proofs.Meetings.{Arriving, IsNoted, ToldOf, member_of}
-pub use Rattle.quorum_model.proofs.Happening.{unless_full}
-use Rattle.quorum_laws.proofs.Meetings.{Adds, adds, arriving}
-use Rattle.std.proofs.Common.{Bool, IfSome, List, None, Ok, Option, Some, [], ap, arith, cond, eqb, false, inl, inr, ltb, refl, subst, sym, true, ℕ, ◌%◌, ◌++◌, ◌<◌, ◌∙◌, ◌∷◌, ◌≡◌, ◌≤◌, ◌⊎◌}
+use Rattle.std.proofs.Common.{Bool, IfOk, IfSome, List, None, Ok, Option, Some, [], ap, arith, cond, eqb, false, inl, inr, ltb, refl, subst, sym, true, ℕ, ◌%◌, ◌++◌, ◌<◌, ◌∙◌, ◌∷◌, ◌≡◌, ◌≤◌, ◌⊎◌}
 use Rattle.std.proofs.lemmas.Bool.{cond_both, eqb-true, false≢true}
-use Rattle.std.specs.List.{AllByRecursion}
-use Rattle.std.specs.Prelude.{IfOk}
 
 module _ (store : ℕ → Store) (state : ℕ → Option State) (txs : ℕ → List (List Op)) (messages : List Envelope) (pairs : List (ℕ × ℕ)) (asked : List Asked) (me : Me) (I : Inv me.member.monitors store state txs messages pairs asked) (at : ℕ) where
   abbrev n : ℕ

@@ -1,22 +1,14 @@
 -- That the laws' premises can be met: events that may come, a transaction that accepts, and one that collects.
+use Rattle.law_names.proofs.Runs.{AllFit, Arrives, Client, Crash, Deliver, Event, Ring, Start}
+use Rattle.law_names.proofs.Table.{Numbers, Op, Readings, Session, Vote, empty, encoded, joined, readings_of, text}
 use Rattle.mon_msg.proofs.Changed.{readings-joined}
-use Rattle.mon_msg.specs.Joined.{joined}
-use Rattle.mon_msg.specs.Protocol.Changes.{Numbers, Vote, encoded}
-use Rattle.mon_msg.specs.Protocol.Readings.{Readings, readings_of}
-use Rattle.mon_tx.specs.Text.{text}
-use Rattle.mon_tx.specs.declared.op.Op.{Op}
 use Rattle.mon_wire.specs.declared.phase.Timer.TheVariants as timer
 use Rattle.mon_wire.specs.declared.request.Request.TheVariants as request
-use Rattle.mon_wire.specs.declared.request.Session.{Session}
 use Rattle.quorum_laws.proofs.Beginning.{unmarked_at_first}
 use Rattle.quorum_laws.proofs.Voting.{vote_accepted}
 use Rattle.quorum_laws.specs.Accepting.{Accepts}
 use Rattle.quorum_laws.specs.Promises.{Collects}
-use Rattle.quorum_model.specs.Events.{AllFit}
-use Rattle.quorum_model.specs.World.{Client, Arrives, Crash, Deliver, Event, Ring, Start}
-use Rattle.std.proofs.Common.{ℕ, List, [], ap, arith, inl, inr, refl, true, ◌∙◌, ◌∷◌}
-use Rattle.std.specs.FinMap.{empty}
-use Rattle.std.specs.Prelude.{IsTrue}
+use Rattle.std.proofs.Common.{IsTrue, List, [], ap, arith, inl, inr, refl, true, ℕ, ◌∙◌, ◌∷◌}
 use Rattle.std.specs.Str.{is_utf8}
 
 -- Two of three monitors start, probe each other and call an election, of which the first wins and collects; then a client asks, and the

@@ -1,27 +1,17 @@
 -- What holds of all monitors after every event, with some history.
-use Rattle.mon_bytes.specs.declared.command.Command.{Command}
-use Rattle.mon_msg.specs.Protocol.Readings.{Readings, readings_of}
-use Rattle.mon_msg.specs.Protocol.State.{State}
-use Rattle.mon_tx.specs.Map.{Store}
-use Rattle.mon_tx.specs.Text.{text}
-use Rattle.mon_tx.specs.declared.op.Op.{Op}
-use Rattle.mon_types.specs.Ranks.{has}
-use Rattle.mon_wire.specs.declared.request.Session.{Session}
+use Rattle.law_names.proofs.Runs.{Asked, Envelope, Monitors, World}
+use Rattle.law_names.proofs.Table.{AllByRecursion, Command, Op, Readings, Session, State, Store, empty, has, readings_of, text}
 use Rattle.quorum_history.proofs.History.{Accepted, Ask, Asks, Entered, Entry, Ext, Ghost, Glob, Hand, Joined}
 use Rattle.quorum_history.proofs.Holds.{Disk, InPhase, MessageHolds, core_of}
 use Rattle.quorum_laws.specs.Accepting.{AcceptedIn}
 use Rattle.quorum_laws.specs.Commands.{WasAsked}
 use Rattle.quorum_laws.specs.Promises.{NumbersRise}
-use Rattle.quorum_model.specs.Monitors.{Monitors}
 use Rattle.quorum_model.specs.Safe.{after_transactions}
-use Rattle.quorum_model.specs.World.{Asked, Envelope, World}
 use Rattle.quorum_walk.proofs.FineCourses.{MessageFine, ReadingsFine, StateFine}
-use Rattle.quorum_walk.proofs.Sparing.{own_of}
 use Rattle.quorum_walk.proofs.Lists.{Among}
+use Rattle.quorum_walk.proofs.Sparing.{own_of}
 use Rattle.std.proofs.Common.{Bool, IfSome, List, None, Option, Some, true, ℕ, ◌++◌, ◌<◌, ◌≡◌}
 use Rattle.std.proofs.lemmas.List.Elements.{Contains-append_left}
-use Rattle.std.specs.FinMap.{empty}
-use Rattle.std.specs.List.{AllByRecursion}
 
 abbrev pub OnState : ℕ → Ghost → ℕ → Readings → Option State → Type 0
 OnState n g i w None = Unit {0}

@@ -1,10 +1,8 @@
 -- What never changes back while a monitor, or a run, goes on.
-use Rattle.mon_msg.specs.Protocol.Phases.{is_member}
-use Rattle.mon_msg.specs.Protocol.Readings.{Readings, epoch_of, promise_of}
-use Rattle.mon_msg.specs.Protocol.State.{State}
+use Rattle.law_names.proofs.Runs.{World}
+use Rattle.law_names.proofs.Table.{Readings, State, epoch_of, is_member, promise_of}
 use Rattle.quorum_history.proofs.Holds.{level_in}
 use Rattle.quorum_laws.specs.Accepting.{HasAccepted, readings_at}
-use Rattle.quorum_model.specs.World.{World}
 use Rattle.quorum_walk.proofs.Sparing.{own_of}
 use Rattle.std.proofs.Common.{Bool, List, None, Option, Some, arith, false, inl, inr, true, ℕ, ◌≡◌, ◌≤◌, ◌⊎◌}
 

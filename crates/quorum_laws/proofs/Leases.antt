@@ -1,9 +1,7 @@
 -- What is known of leases in every run.
-use Rattle.mon_msg.specs.Protocol.Phases.{is_peon}
-use Rattle.mon_msg.specs.Protocol.Readings.{epoch_of}
-use Rattle.mon_msg.specs.Protocol.State.{State}
+use Rattle.law_names.proofs.Runs.{Monitors, World}
+use Rattle.law_names.proofs.Table.{Body, State, epoch_of, is_peon}
 use Rattle.mon_wire.specs.declared.body.Body.TheVariants as body
-use Rattle.mon_wire.specs.declared.body.Body.{Body}
 use Rattle.quorum_history.proofs.Holds.{BodyHolds, Core, Followed, FollowsIn, InPhase, core_of}
 use Rattle.quorum_history.proofs.Phases.{peon_is_peon}
 use Rattle.quorum_laws.proofs.Elections.{is_led}
@@ -12,11 +10,8 @@ use Rattle.quorum_laws.proofs.Reading.{accepted_as, sent_holds, state_holds}
 use Rattle.quorum_laws.specs.Accepting.{readings_at}
 use Rattle.quorum_laws.specs.Elections.{IsLed}
 use Rattle.quorum_laws.specs.Leases.{GiverIsLed, LeaseHolds, LeasesHold}
-use Rattle.quorum_model.specs.Monitors.{Monitors}
-use Rattle.quorum_model.specs.World.{World}
 use Rattle.quorum_walk.proofs.Sparing.{own_of}
-use Rattle.std.proofs.Common.{Some, subst, true, ℕ, ◌≡◌}
-use Rattle.std.specs.Prelude.{is_some}
+use Rattle.std.proofs.Common.{Some, is_some, subst, true, ℕ, ◌≡◌}
 
 module _ (ms : Monitors) (w : World) (I : InvOf ms w) where
   followed : (e l : ℕ) → Followed I.g e l → IsLed ms.count w e l

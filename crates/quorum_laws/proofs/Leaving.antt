@@ -1,45 +1,23 @@
 -- A monitor that left the quorum of an epoch doesn't come back to it. What it does would be the same in a history in
 -- which it was never there.
-use Rattle.mon_msg.specs.Protocol.Course.{Course}
-use Rattle.mon_msg.specs.Protocol.Hearing.{hear, is_heard}
-use Rattle.mon_msg.specs.Protocol.Leader.{hear_last, of_member}
-use Rattle.mon_msg.specs.Protocol.Peon.{hear_lease, of_leader}
-use Rattle.mon_msg.specs.Protocol.Phases.{is_leading, is_member, is_peon, same_phase}
-use Rattle.mon_msg.specs.Protocol.Readings.{Readings, epoch_of}
-use Rattle.mon_msg.specs.Protocol.Records.{pending}
-use Rattle.mon_msg.specs.Protocol.State.{State}
-use Rattle.mon_msg.specs.Protocol.Table.{at_rest, react}
+use Rattle.law_names.proofs.Table.{AllByRecursion, Body, Course, Input, Me, Message, Op, Phase, Readings, Request, Session, State, SyncStage, Told, Which, at_rest, epoch_of, has, hear, hear_last, hear_lease, is_heard, is_leading, is_member, is_peon, no_ranks, of_leader, of_member, pending, react, same_phase}
 use Rattle.mon_msg.specs.declared.input.Input.TheVariants as input
-use Rattle.mon_msg.specs.declared.input.Input.{Input}
 use Rattle.mon_msg.specs.declared.synchronization.SyncStage.TheVariants as sync
-use Rattle.mon_msg.specs.declared.synchronization.SyncStage.{SyncStage}
-use Rattle.mon_msg.specs.declared.view.Me.{Me}
-use Rattle.mon_tx.specs.declared.op.Op.{Op}
-use Rattle.mon_types.specs.Ranks.{has, no_ranks}
-use Rattle.mon_types.specs.declared.names.Which.{Which}
 use Rattle.mon_wire.specs.declared.body.Body.TheVariants as body
-use Rattle.mon_wire.specs.declared.body.Body.{Body}
-use Rattle.mon_wire.specs.declared.message.Message.{Message}
-use Rattle.mon_wire.specs.declared.parts.Told.{Told}
 use Rattle.mon_wire.specs.declared.phase.Phase.TheVariants as phase
-use Rattle.mon_wire.specs.declared.phase.Phase.{Phase}
 use Rattle.mon_wire.specs.declared.request.Request.TheVariants as request
-use Rattle.mon_wire.specs.declared.request.Request.{Request}
-use Rattle.mon_wire.specs.declared.request.Session.{Session}
 use Rattle.quorum_history.proofs.History.{AnEpoch, Entered, Entry, Ghost, Glob, RolesHold, entry, ext_refl, had_lasts}
 use Rattle.quorum_history.proofs.Holds.{BodyHolds, Core, Disk, Good, InPhase, StageHolds, core, core_of, epoch_in}
 use Rattle.quorum_history.proofs.Phases.{collecting_is, no, peon_is_peon}
 use Rattle.quorum_history.proofs.Rows.{InputHolds, react_holds}
 use Rattle.quorum_history.proofs.Steps.{tied_refl}
-use Rattle.quorum_walk.proofs.FineCourses.{still, EntryFine, Fine, Made}
+use Rattle.quorum_walk.proofs.FineCourses.{EntryFine, Fine, Made, still}
 use Rattle.quorum_walk.proofs.FineTable.{ComesFine}
 use Rattle.quorum_walk.proofs.Lists.{Among}
 use Rattle.quorum_walk.proofs.Sparing.{Copied, own_of}
 use Rattle.quorum_walk.proofs.Walk.{Then, and_three, by_test, done, or_three}
-use Rattle.std.proofs.Common.{Bool, Err, List, Ok, Option, Result, [], ap, arith, cond, eqb, false, inl, inr, not, refl, sym, true, ℕ, ◌&&◌, ◌<◌, ◌||◌, ◌∙◌, ◌∷◌, ◌≡◌, ◌⊎◌}
+use Rattle.std.proofs.Common.{Bool, Err, List, Ok, Option, Result, [], ap, arith, cond, eqb, false, filter, inl, inr, is_some, not, refl, sym, true, ℕ, ◌&&◌, ◌<◌, ◌||◌, ◌∙◌, ◌∷◌, ◌≡◌, ◌⊎◌}
 use Rattle.std.proofs.lemmas.Bool.{cases_eq, cond_both, eq-eqb, false≢true, ne_eqb, not-false}
-use Rattle.std.specs.List.{AllByRecursion, filter}
-use Rattle.std.specs.Prelude.{is_some}
 
 -- ---- lists that are filtered
 

@@ -1,21 +1,10 @@
 -- What holds of a meeting, whatever it is, if it holds of a monitor of which all is known that is kept.
-use Rattle.log_model.specs.LogOfValues.{IsCommand}
+pub use Rattle.quorum_model.proofs.Members.{member_of}
+use Rattle.law_names.proofs.Runs.{Asked, Client, Deliver, Down, Envelope, IsCommand, Meeting, Monitors, NoMessage, Plain, PlainFits, Reacts, RequestFits, World, command_of, meets, with_asked}
+use Rattle.law_names.proofs.Table.{AllByRecursion, Command, Contains, Course, Input, Message, Op, Request, Session, State, Store, Which, any_reaction, booting, react, readings_of, shared_entries}
 use Rattle.mon_bytes.specs.declared.command.Command.TheVariants as command
-use Rattle.mon_bytes.specs.declared.command.Command.{Command}
-use Rattle.mon_msg.specs.Protocol.Course.{Course}
-use Rattle.mon_msg.specs.Protocol.Reaction.{any_reaction}
-use Rattle.mon_msg.specs.Protocol.Readings.{readings_of, shared_entries}
-use Rattle.mon_msg.specs.Protocol.State.{State, booting}
-use Rattle.mon_msg.specs.Protocol.Table.{react}
 use Rattle.mon_msg.specs.declared.input.Input.TheVariants as input
-use Rattle.mon_msg.specs.declared.input.Input.{Input}
-use Rattle.mon_tx.specs.Map.{Store}
-use Rattle.mon_tx.specs.declared.op.Op.{Op}
-use Rattle.mon_types.specs.declared.names.Which.{Which}
-use Rattle.mon_wire.specs.declared.message.Message.{Message}
 use Rattle.mon_wire.specs.declared.request.Request.TheVariants as request
-use Rattle.mon_wire.specs.declared.request.Request.{Request}
-use Rattle.mon_wire.specs.declared.request.Session.{Session}
 use Rattle.quorum_history.proofs.Growing.{grows_by, grows_not}
 use Rattle.quorum_history.proofs.History.{Ask, Asks, Ext, Ghost, Glob, asking}
 use Rattle.quorum_history.proofs.Rows.{InputHolds}
@@ -24,20 +13,13 @@ use Rattle.quorum_laws.proofs.Invariant.{EnvelopeFine, EnvelopeHolds, Further, I
 use Rattle.quorum_laws.proofs.Values.{made}
 use Rattle.quorum_laws.proofs.Whole.{active_last, envelopes_last, mine_lasts}
 use Rattle.quorum_laws.specs.Commands.{WasAsked}
-pub use Rattle.quorum_model.proofs.Members.{member_of}
-use Rattle.quorum_model.specs.Clients.{command_of, with_asked}
-use Rattle.quorum_model.specs.Events.{PlainFits, RequestFits}
-use Rattle.quorum_model.specs.Meets.{Down, Meeting, NoMessage, Reacts, meets}
 use Rattle.quorum_model.proofs.Happening as happening
 use Rattle.quorum_model.proofs.Happening.{Arrived, Brought}
-use Rattle.quorum_model.specs.Monitors.{Monitors}
-use Rattle.quorum_model.specs.World.{Asked, Client, Deliver, Envelope, Plain, World}
 use Rattle.quorum_walk.proofs.FineCourses.{EntryFine, RequestFine}
 use Rattle.quorum_walk.proofs.FineTable.{ComesFine}
 use Rattle.quorum_walk.proofs.Lists.{all_get}
 use Rattle.std.proofs.Common.{IfSome, List, Option, Result, Some, [], arith, inl, inr, ltb, refl, subst, suc, sym, true, ℕ, ◌++◌, ◌<◌, ◌∷◌, ◌≡◌, ◌⊎◌}
 use Rattle.std.proofs.lemmas.List.Elements.{Contains-append_right, Contains-push}
-use Rattle.std.specs.List.{AllByRecursion, Contains}
 
 -- ---- what a client asks
 

@@ -1,11 +1,7 @@
 -- What is known of promises in every run.
-use Rattle.mon_msg.specs.Protocol.Places.{is_done}
-use Rattle.mon_msg.specs.Protocol.Readings.{or_zero, promise_of}
-use Rattle.mon_msg.specs.Protocol.Value.{value}
-use Rattle.mon_tx.specs.declared.op.Op.{Op}
+use Rattle.law_names.proofs.Runs.{Monitors, World}
+use Rattle.law_names.proofs.Table.{AllByRecursion, Body, Op, Told, is_done, or_zero, promise_of, value}
 use Rattle.mon_wire.specs.declared.body.Body.TheVariants as body
-use Rattle.mon_wire.specs.declared.body.Body.{Body}
-use Rattle.mon_wire.specs.declared.parts.Told.{Told}
 use Rattle.quorum_history.proofs.History as history
 use Rattle.quorum_history.proofs.History.{ANumber, APromise}
 use Rattle.quorum_history.proofs.Holds.{BodyHolds, Disk}
@@ -15,14 +11,11 @@ use Rattle.quorum_laws.proofs.Invariant.{InvOf}
 use Rattle.quorum_laws.proofs.Reading.{accepted_as, as_accepted, at_least, sent_fine, sent_holds}
 use Rattle.quorum_laws.specs.Accepting.{HasAccepted, readings_at}
 use Rattle.quorum_laws.specs.Promises.{AllNumbersRise, AllRemember, AnswerCovers, AnswersCover, CarriesValues, CollectHolds, IsSomeValue, NumbersHold, PromiseHolds, Remembers, RemembersIn, ValuesAlone}
-use Rattle.quorum_model.specs.Monitors.{Monitors}
-use Rattle.quorum_model.specs.World.{World}
 use Rattle.quorum_walk.proofs.FineCourses.{BodyFine, ToldFine, Val}
 use Rattle.quorum_walk.proofs.FineReading.{record_fine}
 use Rattle.quorum_walk.proofs.Lists.{all_map}
 use Rattle.quorum_walk.proofs.Sparing.{own_of}
 use Rattle.std.proofs.Common.{Bool, IfSome, List, None, Option, Some, arith, false, inl, inr, refl, subst, suc, sym, true, ℕ, ◌%◌, ◌≡◌, ◌≤◌}
-use Rattle.std.specs.List.{AllByRecursion}
 
 module _ (ms : Monitors) (w : World) (I : InvOf ms w) where
   collect_holds : (from to e : ℕ) (b : Body) → BodyHolds I.g from to e b → CollectHolds w from b

@@ -1,21 +1,16 @@
 -- What every run's history says of its world.
+use Rattle.law_names.proofs.Runs.{Envelope, Monitors, World}
+use Rattle.law_names.proofs.Table.{Contains, Op, State, text}
 use Rattle.log_model.proofs.Lists.{of_all}
-use Rattle.mon_msg.specs.Protocol.State.{State}
-use Rattle.mon_tx.specs.Text.{text}
-use Rattle.mon_tx.specs.declared.op.Op.{Op}
 use Rattle.quorum_history.proofs.History as history
 use Rattle.quorum_history.proofs.History.{Had, Rising}
 use Rattle.quorum_history.proofs.Holds.{InPhase, MessageHolds, core_of, number_of}
 use Rattle.quorum_laws.proofs.Invariant.{EnvelopeFine, EnvelopeHolds, InvOf, OnState}
 use Rattle.quorum_laws.specs.Accepting.{AcceptedIn, readings_at}
-use Rattle.quorum_model.specs.Monitors.{Monitors}
-use Rattle.quorum_model.specs.World.{Envelope, World}
 use Rattle.quorum_walk.proofs.FineCourses.{MessageFine}
 use Rattle.quorum_walk.proofs.Lists.{Among}
 use Rattle.quorum_walk.proofs.Sparing.{own_of}
-use Rattle.std.proofs.Common.{List, Some, [], arith, inl, inr, length, subst, suc, sym, zero, ℕ, ◌<◌, ◌∷◌, ◌≡◌, ◌≤◌}
-use Rattle.std.specs.List.{Contains}
-use Rattle.std.specs.Prelude.{slice_index_or}
+use Rattle.std.proofs.Common.{List, Some, [], arith, inl, inr, length, slice_index_or, subst, suc, sym, zero, ℕ, ◌<◌, ◌∷◌, ◌≡◌, ◌≤◌}
 
 pub among_of : {A : Type 0} (xs : List A) (x : A) → Contains xs x → Among x xs
 among_of [] x c = let lt = c.1 in absurd (omega arith)

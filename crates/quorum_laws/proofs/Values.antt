@@ -1,18 +1,14 @@
 -- What the log's laws say of values: each that a command makes is passed on, and so is what a store shares.
+use Rattle.law_names.proofs.Table.{AllByRecursion, Cell, Copy, Readings, Store, ops_of, readings_of, shared_entries, value}
 use Rattle.log_model.proofs.AnyValue.{value_reads, value_records, value_spares}
 use Rattle.log_model.proofs.SharedEntries.{shared_records, shared_spares}
-use Rattle.mon_msg.specs.Protocol.Changes.{Copy, ops_of}
-use Rattle.mon_msg.specs.Protocol.Readings.{Readings, cell_after, readings_of, shared_entries}
-use Rattle.mon_msg.specs.Protocol.Value.{value}
-use Rattle.mon_tx.specs.Decision.{Cell}
-use Rattle.mon_tx.specs.Map.{Store}
+use Rattle.mon_msg.specs.Protocol.Readings.{cell_after}
 use Rattle.mon_tx.specs.declared.key.Area.TheVariants as area
 use Rattle.mon_tx.specs.declared.key.Key.TheVariants as key
 use Rattle.quorum_walk.proofs.FineCourses.{CellFine, EntryFine, Made, RecordsFine}
 use Rattle.quorum_walk.proofs.Lists.{all_both, all_map}
 use Rattle.quorum_walk.proofs.Sparing.{Copied, Spares}
 use Rattle.std.proofs.Common.{ap, sym, ℕ, ◌∙◌}
-use Rattle.std.specs.List.{AllByRecursion}
 
 pub made : Made
 made w S c asked x form rank last next e =

@@ -1,16 +1,9 @@
 -- What an event's changes accept is what its transaction accepts.
+use Rattle.law_names.proofs.Table.{AllByRecursion, Boot, Change, Copy, Epoch, Last, Learn, Mark, Numbers, Op, Promise, Readings, Record, Unmark, Vote, empty, encoded, joined, number_if_there, number_in, ops_of, place, place_cmp, play, played, readings_of, text}
 use Rattle.log_model.proofs.Spares.{after_spared, spares_learned}
 use Rattle.mon_msg.proofs.Changed.{readings-joined}
-use Rattle.mon_msg.specs.Joined.{joined}
-use Rattle.mon_msg.specs.Protocol.Changes.{Boot, Change, Copy, Epoch, Last, Learn, Mark, Numbers, Promise, Record, Unmark, Vote, ops_of, encoded}
-use Rattle.mon_msg.specs.Protocol.Played.{play, played}
-use Rattle.mon_msg.specs.Protocol.Readings.{Readings, number_if_there, readings_of}
-use Rattle.mon_tx.specs.Keys.{place}
-use Rattle.mon_tx.specs.Map.{number_in, place_cmp}
-use Rattle.mon_tx.specs.Text.{text}
 use Rattle.mon_tx.specs.declared.key.Area.TheVariants as area
 use Rattle.mon_tx.specs.declared.key.Key.TheVariants as key
-use Rattle.mon_tx.specs.declared.op.Op.{Op}
 use Rattle.quorum_history.proofs.Accepting.{record_is}
 use Rattle.quorum_laws.specs.Accepting.{Accepts, put_alone}
 use Rattle.quorum_laws.specs.Promises.{Collects}
@@ -19,8 +12,7 @@ use Rattle.quorum_walk.proofs.Lists.{Among, all_among, among_append, among_left,
 use Rattle.quorum_walk.proofs.Sparing.{played_more}
 use Rattle.std.proofs.Common.{List, None, Some, [], ap, arith, inl, inr, refl, subst, sym, ℕ, ◌++◌, ◌∙◌, ◌∷◌, ◌≡◌, ◌≤◌, ◌⊎◌}
 use Rattle.std.proofs.lemmas.Bool.{false≢true}
-use Rattle.std.specs.FinMap.{empty, get-empty}
-use Rattle.std.specs.List.{AllByRecursion}
+use Rattle.std.specs.FinMap.{get-empty}
 
 abbrev nothing : Readings
 nothing = readings_of empty

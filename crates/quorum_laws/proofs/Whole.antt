@@ -1,16 +1,8 @@
 -- Every list of events keeps what holds.
-use Rattle.mon_msg.specs.declared.view.Me.{Me}
-use Rattle.mon_msg.specs.Joined.{joined}
-use Rattle.mon_msg.specs.Protocol.Changes.{Change, Vote, encoded}
-use Rattle.mon_msg.specs.Protocol.Readings.{Readings}
-use Rattle.mon_msg.specs.Protocol.State.{State}
+use Rattle.law_names.proofs.Runs.{Envelope, is_active, messages_of, put_at}
+use Rattle.law_names.proofs.Table.{AllByRecursion, Change, Contains, Me, Op, Phase, Readings, Sent, State, Store, Vote, apply, empty, encoded, joined, text}
 use Rattle.mon_msg.specs.declared.plan.Sent.TheVariants as sent
-use Rattle.mon_msg.specs.declared.plan.Sent.{Sent}
-use Rattle.mon_tx.specs.Map.{Store, apply}
-use Rattle.mon_tx.specs.Text.{text}
-use Rattle.mon_tx.specs.declared.op.Op.{Op}
 use Rattle.mon_wire.specs.declared.phase.Phase.TheVariants as phase
-use Rattle.mon_wire.specs.declared.phase.Phase.{Phase}
 use Rattle.quorum_history.proofs.Frame.{disk_lasts, entered_lasts, joined_lasts, message_lasts, phase_lasts, same_accepts, same_hands}
 use Rattle.quorum_history.proofs.History.{Accepted, Ext, Ghost}
 use Rattle.quorum_history.proofs.Holds.{Core, InPhase, SentHolds, Tied, core_of, epoch_in}
@@ -20,20 +12,14 @@ use Rattle.quorum_laws.proofs.Voting.{accepts_vote, vote_accepted}
 use Rattle.quorum_laws.specs.Accepting.{AcceptedIn, Accepts}
 use Rattle.quorum_laws.specs.Promises.{Collects, NumbersRise, last_number}
 use Rattle.quorum_model.proofs.Writing.{after_push}
-use Rattle.quorum_model.specs.Clients.{messages_of}
-use Rattle.quorum_model.specs.Happens.{is_active, put_at}
 use Rattle.quorum_model.specs.Safe.{after_transactions}
-use Rattle.quorum_model.specs.World.{Envelope}
 use Rattle.quorum_walk.proofs.FineCourses.{Fit, SentOwn, Shaped}
 use Rattle.quorum_walk.proofs.Lists.{Among, all_map}
 use Rattle.quorum_walk.proofs.Ranks.{within_at}
 use Rattle.quorum_walk.proofs.Sparing.{own_of}
-use Rattle.std.proofs.Common.{Bool, List, None, Option, Some, [], ap, arith, cond, eqb, false, inl, inr, refl, subst, suc, sym, true, zero, ℕ, ◌%◌, ◌++◌, ◌<◌, ◌∙◌, ◌∷◌, ◌≡◌, ◌≤◌}
+use Rattle.std.proofs.Common.{Bool, List, None, Option, Some, [], ap, arith, cond, eqb, false, inl, inr, refl, slice_index_or, subst, suc, sym, true, zero, ℕ, ◌%◌, ◌++◌, ◌<◌, ◌∙◌, ◌∷◌, ◌≡◌, ◌≤◌}
 use Rattle.std.proofs.lemmas.Bool.{eq-eqb, eqb-false, eqb-true}
 use Rattle.std.proofs.lemmas.List.Elements.{Contains-append_cases, Contains-append_left, Contains-append_right}
-use Rattle.std.specs.FinMap.{empty}
-use Rattle.std.specs.List.{AllByRecursion, Contains}
-use Rattle.std.specs.Prelude.{slice_index_or}
 
 -- ---- what lasts
 

@@ -1,47 +1,27 @@
 -- Every event leaves the floors of full synchronizations far below the end of the log.
+use Rattle.law_names.proofs.Runs.{Asked, Envelope, Event, Keeps, Monitors, Plain, PlainFits, World, first_world, grown, happens, is_marked, kept_only, last_of, lost, messages_of, moved, plain_of, put_at, records_after, unmoved, with_asked}
+use Rattle.law_names.proofs.Table.{AllByRecursion, Area, Body, Change, Key, Mark, Me, Readings, Sent, Store, apply, empty, encoded, floor_of, joined, number, number_in, place, place_cmp, play, played, readings_of, shared_entries}
 use Rattle.log_copies.proofs.Matching.{monitor_keeps, read_last}
 use Rattle.log_copies.proofs.Standing.{Agrees}
-use Rattle.log_model.specs.Windows.{Keeps}
-use Rattle.mon_kv.specs.Readers.{is_marked}
-use Rattle.mon_msg.specs.Joined.{joined}
-use Rattle.mon_msg.specs.Protocol.Changes.{Change, Mark, encoded}
-use Rattle.mon_msg.specs.Protocol.Played.{play, played}
-use Rattle.mon_msg.specs.Protocol.Readings.{Readings, readings_of, shared_entries}
-use Rattle.mon_msg.specs.Protocol.Synchronizing.{floor_of}
 use Rattle.mon_msg.specs.declared.plan.Sent.TheVariants as sent
-use Rattle.mon_msg.specs.declared.plan.Sent.{Sent}
-use Rattle.mon_msg.specs.declared.view.Me.{Me}
-use Rattle.mon_tx.specs.Keys.{number, place}
-use Rattle.mon_tx.specs.Map.{Store, apply, number_in, place_cmp}
 use Rattle.mon_tx.specs.declared.key.Area.TheVariants as area
-use Rattle.mon_tx.specs.declared.key.Area.{Area}
 use Rattle.mon_tx.specs.declared.key.Key.TheVariants as key
-use Rattle.mon_tx.specs.declared.key.Key.{Key}
 use Rattle.mon_wire.specs.declared.body.Body.TheVariants as body
-use Rattle.mon_wire.specs.declared.body.Body.{Body}
 use Rattle.quorum_agreement.proofs.Invariant.{EnvelopeMatches, LogHolds, remembers}
 use Rattle.quorum_agreement.proofs.Step.{copy_marked}
 use Rattle.quorum_laws.proofs.Beginning as beginning
 use Rattle.quorum_laws.proofs.Events.{Does, Keeps as AllKeep, ToldOf, each_event, ended, member_of, same, shares}
 use Rattle.quorum_laws.proofs.Invariant.{InvWith}
-use Rattle.quorum_model.specs.Clients.{messages_of, with_asked}
-use Rattle.quorum_model.specs.Events.{PlainFits}
-use Rattle.quorum_model.specs.Growth.{grown, last_of, records_after}
-use Rattle.quorum_model.specs.Happens.{happens, kept_only, lost, moved, put_at, unmoved}
-use Rattle.quorum_model.specs.Monitors.{Monitors}
-use Rattle.quorum_model.specs.World.{Asked, Envelope, Event, Plain, World, first_world, plain_of}
 use Rattle.quorum_near.proofs.Low.{IsLow, TellsLow, first_low, low_later, low_marked, low_played}
 use Rattle.quorum_near.proofs.PlainTable.{AnswersAs, Marks, NoMark, SaysAs, Writes, WritesAs, reacts_as}
 use Rattle.quorum_walk.proofs.FineCourses.{Ended, begun}
-use Rattle.table_walk.proofs.Lists.{all_append, all_both}
-use Rattle.table_walk.proofs.Walk.{Then}
-use Rattle.std.proofs.Common.{Bool, List, [], ap, arith, cond, eqb, false, inl, inr, length, subst, sym, true, ℕ, ◌++◌, ◌+◌, ◌-◌, ◌<◌, ◌∙◌, ◌∷◌, ◌≡◌, ◌≤◌, ◌⊎◌}
+use Rattle.std.proofs.Common.{Bool, IfOk, List, [], ap, arith, cond, eqb, false, inl, inr, length, subst, sym, true, ℕ, ◌++◌, ◌+◌, ◌-◌, ◌<◌, ◌∙◌, ◌∷◌, ◌≡◌, ◌≤◌, ◌⊎◌}
 use Rattle.std.proofs.lemmas.Bool.{cond_both, false≢true, ltb-true}
 use Rattle.std.proofs.lemmas.List.{length-append}
-use Rattle.std.specs.FinMap.{empty, get-empty}
-use Rattle.std.specs.List.{AllByRecursion}
-use Rattle.std.specs.Prelude.{IfOk}
+use Rattle.std.specs.FinMap.{get-empty}
+use Rattle.table_walk.proofs.Lists.{all_append, all_both}
 use Rattle.table_walk.proofs.Steps.{LacksVersions}
+use Rattle.table_walk.proofs.Walk.{Then}
 
 abbrev pub EnvelopeLow : Envelope → Type 0
 EnvelopeLow e = TellsLow e.message.body

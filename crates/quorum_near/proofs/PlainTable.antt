@@ -1,30 +1,11 @@
 -- What an event writes and sends. It marks the store only if the store is marked already, or after an answer to PROBE
 -- whose first version is above the monitor's last one. An answer to PROBE has the monitor's own first and last version.
-use Rattle.mon_bytes.specs.declared.entry.Entry.{Entry}
-use Rattle.mon_msg.specs.Protocol.Changes.{Change, Copy, Last, Mark, Vote}
-use Rattle.mon_msg.specs.Protocol.Chunks.{copy_changes, record_changes}
-use Rattle.mon_msg.specs.Protocol.Course.{Course}
-use Rattle.mon_msg.specs.Protocol.Leading.{begin_with}
-use Rattle.mon_msg.specs.Protocol.Learning.{learn_changes}
-use Rattle.mon_msg.specs.Protocol.Readings.{Readings, epoch_of}
-use Rattle.mon_msg.specs.Protocol.Sending.{answers_to, members, message_to}
-use Rattle.mon_msg.specs.Protocol.State.{State}
-use Rattle.mon_msg.specs.Protocol.Synchronizing.{floor_of, full_sync}
-use Rattle.mon_msg.specs.Protocol.Table.{react}
-use Rattle.mon_msg.specs.declared.clients.Asked.{Asked}
-use Rattle.mon_msg.specs.declared.input.Input.{Input}
+use Rattle.law_names.proofs.Table.{AllByRecursion, Asked, Body, Change, Copy, Course, Entry, Input, Last, Mark, Me, Op, Origin, Readings, Reply, Sent, State, Vote, answers_to, begin_with, copy_changes, epoch_of, floor_of, full_sync, learn_changes, members, message_to, react, record_changes}
 use Rattle.mon_msg.specs.declared.plan.Origin.TheVariants as origin
-use Rattle.mon_msg.specs.declared.plan.Origin.{Origin}
 use Rattle.mon_msg.specs.declared.plan.Sent.TheVariants as sent
-use Rattle.mon_msg.specs.declared.plan.Sent.{Sent}
-use Rattle.mon_msg.specs.declared.view.Me.{Me}
-use Rattle.mon_tx.specs.declared.op.Op.{Op}
 use Rattle.mon_wire.specs.declared.body.Body.TheVariants as body
-use Rattle.mon_wire.specs.declared.body.Body.{Body}
 use Rattle.mon_wire.specs.declared.reply.Reply.TheVariants as reply
-use Rattle.mon_wire.specs.declared.reply.Reply.{Reply}
 use Rattle.std.proofs.Common.{List, None, Option, Some, [], false, inl, inr, length, refl, suc, true, ℕ, ◌++◌, ◌+◌, ◌∷◌, ◌≡◌, ◌⊎◌}
-use Rattle.std.specs.List.{AllByRecursion}
 use Rattle.table_walk.proofs.Acts.{acts_of}
 use Rattle.table_walk.proofs.Lists.{all_append, all_map, all_of}
 use Rattle.table_walk.proofs.Steps.{ActSteps, InHand, IsOwn, LacksVersions, MayRaise, MaySay, MaySend, MayTell, MayWrite, Steps, origin_of}

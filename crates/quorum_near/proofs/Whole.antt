@@ -1,13 +1,8 @@
 -- A majority is near the whole log, in every run.
-use Rattle.log_copies.proofs.Standing.{Agrees}
+use Rattle.law_names.proofs.Runs.{AllFit, Event, Monitors, PlainFits, Stop, World, first_world, happens, is_marked, last_of, plain_of, run}
+use Rattle.law_names.proofs.Table.{Op, Store, count_of, entry, has, readings_of, text}
 use Rattle.log_copies.proofs.Matching.{read_last}
-use Rattle.mon_kv.specs.Readers.{is_marked}
-use Rattle.mon_msg.specs.Fold.{entry}
-use Rattle.mon_msg.specs.Protocol.Readings.{readings_of}
-use Rattle.mon_tx.specs.Map.{Store}
-use Rattle.mon_tx.specs.Text.{text}
-use Rattle.mon_tx.specs.declared.op.Op.{Op}
-use Rattle.mon_types.specs.Ranks.{count_of, has}
+use Rattle.log_copies.proofs.Standing.{Agrees}
 use Rattle.quorum_agreement.proofs.Beginning.{at_first}
 use Rattle.quorum_agreement.proofs.Chosen.{Chosen, IsEntry, same_text}
 use Rattle.quorum_agreement.proofs.Grown.{GrowsByOne}
@@ -23,21 +18,14 @@ use Rattle.quorum_history.proofs.Numbers.{floor_is, level_is, pending_is}
 use Rattle.quorum_laws.proofs.Events.{each_event}
 use Rattle.quorum_laws.proofs.Invariant.{InvOf}
 use Rattle.quorum_laws.specs.Accepting.{IsMajorityOf, readings_at}
-use Rattle.quorum_model.specs.Events.{AllFit, PlainFits}
-use Rattle.quorum_model.specs.Growth.{last_of}
-use Rattle.quorum_model.specs.Happens.{Stop, happens}
-use Rattle.quorum_model.specs.Monitors.{Monitors}
-use Rattle.quorum_model.specs.Runs.{run}
-use Rattle.quorum_model.specs.World.{Event, World, first_world, plain_of}
 use Rattle.quorum_near.proofs.Low.{IsLow}
 use Rattle.quorum_near.proofs.LowWorlds.{AllLow, low_at_first, low_follows}
 use Rattle.quorum_near.specs.Near.{FloorsLow, HasNear, HasPending, IsNear, SomeNear}
 use Rattle.quorum_walk.proofs.Ranks.{majorities}
 use Rattle.quorum_walk.proofs.Sparing.{own_of}
-use Rattle.std.proofs.Common.{Bool, Err, List, Ok, Result, ap, arith, cond, false, inl, inr, length, refl, subst, suc, sym, true, zero, ℕ, ◌*◌, ◌+◌, ◌<◌, ◌∙◌, ◌≡◌, ◌≤◌, ◌⊎◌}
+use Rattle.std.proofs.Common.{Bool, Err, IfOk, List, Ok, Result, ap, arith, cond, false, inl, inr, length, refl, replicate, subst, suc, sym, true, zero, ℕ, ◌*◌, ◌+◌, ◌<◌, ◌∙◌, ◌≡◌, ◌≤◌, ◌⊎◌}
 use Rattle.std.proofs.lemmas.Bool.{cases_lt, cases_order, false≢true, lt-ltb}
 use Rattle.std.proofs.lemmas.List.Sums.{sum_by-cons}
-use Rattle.std.specs.Prelude.{IfOk, replicate}
 
 -- ---- every run
 

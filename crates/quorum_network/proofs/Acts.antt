@@ -1,20 +1,8 @@
 -- What a process did in a step, and what the event of the run has of it.
-use Rattle.std.proofs.Common.{◌≡◌, ℕ, suc, ◌++◌, Option, Some, None, Result, Ok, Err}
-use Rattle.mon_msg.specs.Protocol.Reaction.{Reaction, reaction}
-use Rattle.mon_msg.specs.declared.input.Input.{Input}
-use Rattle.mon_msg.specs.declared.view.Me.{Me}
-use Rattle.mon_node.specs.Iterations.{Iteration}
-use Rattle.mon_node.specs.Nodes.{Node}
-use Rattle.mon_node.specs.declared.end.NodeEnd.{NodeEnd}
-use Rattle.mon_node.specs.declared.hearing.TimedInput.{TimedInput}
-use Rattle.quorum_model.specs.Clients.{messages_of, replies_of}
-use Rattle.quorum_model.specs.Events.{PlainFits}
-use Rattle.quorum_model.specs.Happens.{map_after}
-use Rattle.quorum_model.specs.Meets.{arrival, state_at}
-use Rattle.quorum_model.specs.Monitors.{Monitors, me_of}
-use Rattle.quorum_model.specs.World.{Plain, World}
-use Rattle.quorum_network.specs.Network.{Network, Step, Until, iteration_of}
-use Rattle.quorum_network.specs.Requests.{kept_by}
+use Rattle.law_names.proofs.Runs.{Monitors, Plain, PlainFits, World, arrival, map_after, me_of, messages_of, replies_of, state_at}
+use Rattle.law_names.proofs.Table.{Input, Me, Reaction, reaction}
+use Rattle.quorum_network.proofs.Names.{Iteration, Network, Node, NodeEnd, Step, TimedInput, Until, iteration_of, kept_by}
+use Rattle.std.proofs.Common.{Err, None, Ok, Option, Result, Some, suc, ℕ, ◌++◌, ◌≡◌}
 
 -- a node reacted to an input at a time, and kept the transaction
 pub record Act : Type 0 where

@@ -1,21 +1,14 @@
 -- What an event adds to the world: requests, acknowledgements, leaders, and the letters of its replies.
-use Rattle.std.proofs.Common.{◌≡◌, ℕ, suc, ◌<◌, ◌≤◌, Bool, true, false, cond, List, [], ◌∷◌, ◌++◌, map, Option, Some, None, refl, ap}
-use Rattle.std.specs.List.{AllByRecursion, Contains, cons_option}
-use Rattle.std.specs.Option.{option_map}
-use Rattle.mon_link.specs.declared.link.Peer.{Peer}
-use Rattle.mon_link.specs.declared.link.Peer.TheVariants.{Monitor, Client}
-use Rattle.mon_msg.specs.Protocol.State.{State}
+use Rattle.law_names.proofs.Runs.{Acknowledged, Acknowledgement, Asked, Replied, World, acknowledgement, acknowledgements_of, done_by, replies_of}
+use Rattle.law_names.proofs.Table.{AllByRecursion, Contains, HasText, Sent, State, Store}
 use Rattle.mon_msg.specs.declared.plan.Sent.TheVariants as sent
-use Rattle.mon_msg.specs.declared.plan.Sent.{Sent}
-use Rattle.mon_tx.specs.Map.{Store}
-use Rattle.mon_wire.specs.Message.Whole.{HasText, text}
-use Rattle.quorum_model.specs.Acknowledging.{acknowledgement, acknowledgements_of, acknowledges, done_by}
-use Rattle.quorum_model.specs.Clients.{replies_of}
-use Rattle.quorum_model.specs.World.{Acknowledged, Acknowledgement, Asked, Replied, World}
-use Rattle.quorum_network.specs.Network.{Posted}
-use Rattle.quorum_network.specs.Requests.{Leadership, acknowledged_in}
-use Rattle.quorum_network.specs.Running.{answer_of}
-use Rattle.quorum_network.proofs.Letters.{Letter, IsPosted}
+use Rattle.mon_wire.specs.Message.Whole.{text}
+use Rattle.quorum_model.specs.Acknowledging.{acknowledges}
+use Rattle.quorum_network.proofs.Letters.{IsPosted, Letter}
+use Rattle.quorum_network.proofs.Names.{Client, Leadership, Monitor, Peer, Posted, answer_of}
+use Rattle.quorum_network.specs.Requests.{acknowledged_in}
+use Rattle.std.proofs.Common.{Bool, List, None, Option, Some, [], ap, cond, false, map, option_map, refl, suc, true, ℕ, ◌++◌, ◌<◌, ◌∷◌, ◌≡◌, ◌≤◌}
+use Rattle.std.specs.List.{cons_option}
 
 -- bytes that go to a client are a reply that a later event than this made
 abbrev pub IsLater : (count event : ℕ) → World → (by : ℕ) → Peer → List ℕ → Type 0

@@ -1,55 +1,29 @@
 -- What is joined is a whole message, whatever the stores are on which lives begin.
-use Rattle.std.proofs.Common.{◌∷◌, ◌≡◌, ℕ, ◌+◌, ◌^◌, ◌<◌, ◌≤◌, nat_lt, eqb, Bool, true, false, cond, List, [], ◌++◌, map, take, Option, Some, None, IfSome, IfOk, Result, Ok, Err, refl, sym, ap, subst, ◌∙◌, inl, inr, arith}
-use Rattle.std.proofs.lemmas.Bool.{eqb-true, eqb-false, eq-eqb, ltb-false}
-use Rattle.std.proofs.lemmas.List.Elements.{Contains-append_left, Contains-append_right, Contains-append_cases}
-use Rattle.std.specs.List.{AllByRecursion, Contains}
+use Rattle.law_names.proofs.Runs.{Monitors, epoch, me_of, most_size, put_at, size_of}
+use Rattle.law_names.proofs.Table.{AllByRecursion, Contains, Me, Reaction, Stop, Timer, Which, due}
 use Rattle.log_model.proofs.Lists.{of_all}
 use Rattle.mon_bounds.proofs.Table.{boot_ok, reaction_ok}
 use Rattle.mon_bounds.specs.Fitting.{IsBounded}
-use Rattle.mon_bounds.specs.Remembered.{MayRemember}
-use Rattle.mon_core.specs.Reacts.{SendsNamed}
 use Rattle.mon_frag.proofs.Lists.{all_append}
-use Rattle.mon_frag.specs.Keeping.{taken}
-use Rattle.mon_frag.specs.Whole.{answer_in}
-use Rattle.mon_kv.specs.Readers.{size_of, most_size, epoch}
-use Rattle.mon_link.specs.Clocks.{Readings}
-use Rattle.mon_link.specs.Links.{Observed}
-use Rattle.mon_link.specs.declared.link.Got.{Got}
-use Rattle.mon_link.specs.declared.link.Got.TheVariants.{Datagram, Idle, Closed}
-use Rattle.mon_link.specs.declared.link.Outgoing.{Outgoing}
-use Rattle.mon_link.specs.declared.link.Peer.{Peer}
-use Rattle.mon_link.specs.declared.link.Peer.TheVariants.{Monitor, Client}
-use Rattle.mon_msg.specs.Protocol.Reaction.{Reaction}
-use Rattle.mon_msg.specs.Protocol.Timers.{due}
-use Rattle.mon_msg.specs.declared.view.Me.{Me}
 use Rattle.mon_node.proofs.Sending.{all_numbered as numbers_found}
-use Rattle.mon_node.specs.Hearing.{Given, Heard, answer_arrived, clock_read, due_by, heard_by, input_in, link_asked, wait_until}
-use Rattle.mon_node.specs.Nodes.{Node, Outside, Serving, unstarted}
-use Rattle.mon_node.specs.Posting.{letters, datagrams, next_after, with_number, boot_in}
-use Rattle.mon_node.specs.Serving.{of_input, sends_of}
-use Rattle.mon_node.specs.Iterations.{Iteration, map_after, sent_by, numbered_by, next_number, done, reaction_to, reacted, ended_iteration, iteration, start}
-use Rattle.mon_node.specs.declared.end.NodeEnd.{NodeEnd}
 use Rattle.mon_node.specs.declared.end.NodeEnd.TheVariants as end
-use Rattle.mon_node.specs.declared.hearing.TimedInput.{TimedInput}
-use Rattle.mon_store.specs.StoreView.{StoreView}
-use Rattle.mon_types.specs.declared.names.Stop.{Stop}
 use Rattle.mon_types.specs.declared.names.Stop.TheVariants as stop
-use Rattle.mon_types.specs.declared.names.Which.{Which}
 use Rattle.mon_types.specs.declared.names.Which.TheVariants as which
-use Rattle.mon_wire.specs.declared.phase.Timer.{Timer}
-use Rattle.quorum_model.specs.Happens.{put_at}
-use Rattle.quorum_model.specs.Monitors.{Monitors, me_of}
-use Rattle.quorum_network.specs.AnyDisk.{AllMayAnyhow, AreNamed, ClientsJoinWhole, IsMail, IsMailTo, JoinsWhole, Mailed, MayAnyhow, NamesAt, mail, mailed, mailed_at, mailed_by, mailed_in_iteration}
-use Rattle.quorum_network.specs.Network.{Network, Process, Up, Down, Doing, Begins, Iterates, Until, Whole, Lost, Kept, Step, StepOutcome, Posted, CameFrom, IsAnswer, IsAsked, at_end, down, if_made, kept_reaction, outcome_of, made_by, network, newest, number_of, posted, iteration_of, under, with_outcome}
 use Rattle.quorum_network.proofs.Assembled.{all_through, assembly, contains_first, contains_later}
 use Rattle.quorum_network.proofs.Assembling.{Assembly, IsLabelled}
 use Rattle.quorum_network.proofs.Heeded.{IfInput, IsText, all_texts, answer_may, text_cut, timed_input}
 use Rattle.quorum_network.proofs.Invariant.{IsAlive}
-use Rattle.quorum_network.proofs.Kept.{epoch_short}
 use Rattle.quorum_network.proofs.Joined.{joins}
+use Rattle.quorum_network.proofs.Kept.{epoch_short}
 use Rattle.quorum_network.proofs.Letters.{AreLetters, CanBeCut, IsFed, IsLong, IsPosted, IsRight, Letter, Numbered, labelled}
+use Rattle.quorum_network.proofs.Names.{AreNamed, Begins, Client, Closed, Datagram, Doing, Down, Given, Got, Heard, Idle, IsAnswer, IsAsked, Iterates, Iteration, Kept, Lost, MayRemember, Monitor, Network, Node, NodeEnd, Observed, Outgoing, Outside, Peer, Posted, Process, Readings, SendsNamed, Serving, Step, StepOutcome, StoreView, TimedInput, Until, Up, Whole, answer_arrived, answer_in, at_end, boot_in, clock_read, datagrams, done, down, due_by, ended_iteration, heard_by, if_made, input_in, iteration, iteration_of, kept_reaction, letters, link_asked, made_by, map_after, network, newest, next_after, next_number, number_of, numbered_by, of_input, outcome_of, posted, reacted, reaction_to, sends_of, sent_by, start, taken, under, unstarted, wait_until, with_number, with_outcome}
 use Rattle.quorum_network.proofs.Sends.{IsCuttable, all_with_number, have_texts, label_of, numbers_within, posted_behind, posted_front, posted_more}
 use Rattle.quorum_network.proofs.Under.{Under, all_before, all_under, under_datagrams}
+use Rattle.quorum_network.specs.AnyDisk.{AllMayAnyhow, ClientsJoinWhole, IsMail, IsMailTo, JoinsWhole, Mailed, MayAnyhow, NamesAt, mail, mailed, mailed_at, mailed_by, mailed_in_iteration}
+use Rattle.quorum_network.specs.Network.{CameFrom}
+use Rattle.std.proofs.Common.{Bool, Err, IfOk, IfSome, List, None, Ok, Option, Result, Some, [], ap, arith, cond, eqb, false, inl, inr, map, nat_lt, refl, subst, sym, take, true, ℕ, ◌++◌, ◌+◌, ◌<◌, ◌^◌, ◌∙◌, ◌∷◌, ◌≡◌, ◌≤◌}
+use Rattle.std.proofs.lemmas.Bool.{eq-eqb, eqb-false, eqb-true, ltb-false}
+use Rattle.std.proofs.lemmas.List.Elements.{Contains-append_cases, Contains-append_left, Contains-append_right}
 
 -- ---- what holds
 

@@ -1,23 +1,7 @@
 -- A network whose disks keep their maps meets the premise of networks on any disks: its monitors send only entries with
 -- a valid prefix and a valid key.
-use Rattle.std.proofs.Common.{◌∷◌, ◌≡◌, ℕ, nat_lt, eqb, Bool, true, false, cond, List, [], Option, Some, None, IfSome, Result, Ok, Err, refl, sym, ap, subst, ◌∙◌}
-use Rattle.std.proofs.lemmas.Bool.{eq-eqb}
-use Rattle.std.specs.List.{AllByRecursion, Contains}
-use Rattle.mon_core.specs.Reacts.{SendsNamed}
-use Rattle.mon_kv.specs.Readers.{size_of, most_size}
-use Rattle.mon_msg.specs.Protocol.Reaction.{Reaction}
-use Rattle.mon_msg.specs.declared.view.Me.{Me}
-use Rattle.mon_node.specs.Nodes.{Node, Serving, unstarted}
-use Rattle.mon_node.specs.Serving.{of_input}
-use Rattle.mon_node.specs.Iterations.{Iteration, map_after, reaction_to, start, iteration}
-use Rattle.mon_node.specs.declared.end.NodeEnd.{NodeEnd}
-use Rattle.mon_node.specs.declared.hearing.TimedInput.{TimedInput}
-use Rattle.mon_types.specs.declared.names.Which.{Which}
-use Rattle.quorum_model.specs.Happens.{put_at}
-use Rattle.quorum_model.specs.Monitors.{Monitors, me_of}
-use Rattle.quorum_model.specs.World.{World}
-use Rattle.quorum_network.specs.AnyDisk.{AllMayAnyhow, AreNamed, MayAnyhow, NamesAt}
-use Rattle.quorum_network.specs.Network.{AllMay, Begins, Doing, Down, Kept, Lost, May, Network, Process, Step, Iterates, Until, Up, Whole, kept_reaction, map_of, network, number_of, iteration_of}
+use Rattle.law_names.proofs.Runs.{Monitors, World, me_of, most_size, put_at, size_of}
+use Rattle.law_names.proofs.Table.{AllByRecursion, Contains, Me, Reaction, Which}
 use Rattle.quorum_network.proofs.Assembled.{assembly}
 use Rattle.quorum_network.proofs.Assembling.{Assembly}
 use Rattle.quorum_network.proofs.Elected.{is_played, plays}
@@ -26,10 +10,14 @@ use Rattle.quorum_network.proofs.Facts.{Facts, Reach}
 use Rattle.quorum_network.proofs.Invariant.{IfUp, Inv, IsAlive}
 use Rattle.quorum_network.proofs.Kept.{named}
 use Rattle.quorum_network.proofs.Letters.{Letter}
-use Rattle.quorum_network.proofs.Mails.{three, me_0}
+use Rattle.quorum_network.proofs.Mails.{me_0, three}
+use Rattle.quorum_network.proofs.Names.{AllMay, AreNamed, Begins, Doing, Down, Iterates, Iteration, Kept, Lost, May, Network, Node, NodeEnd, Process, SendsNamed, Serving, Step, TimedInput, Until, Up, Whole, iteration, iteration_of, kept_reaction, map_after, map_of, network, number_of, of_input, reaction_to, start, unstarted}
 use Rattle.quorum_network.proofs.Played.{steps_of}
 use Rattle.quorum_network.proofs.Steps.{EventFine, IterationFine, begins_fine, entered_holds, has_here, newest_here, none_has, turns_fine}
 use Rattle.quorum_network.proofs.Whole.{facts, stands}
+use Rattle.quorum_network.specs.AnyDisk.{AllMayAnyhow, MayAnyhow, NamesAt}
+use Rattle.std.proofs.Common.{Bool, Err, IfSome, List, None, Ok, Option, Result, Some, [], ap, cond, eqb, false, nat_lt, refl, subst, sym, true, ℕ, ◌∙◌, ◌∷◌, ◌≡◌}
+use Rattle.std.proofs.lemmas.Bool.{eq-eqb}
 
 abbrev AllNamed : Reaction → Type 0
 AllNamed r = AllByRecursion SendsNamed r.sends

@@ -1,14 +1,8 @@
 -- What an assembly keeps and answers, and how letters are cut and numbered.
-use Rattle.std.specs.Prelude.{◌≡◌, ℕ, ◌<◌, ◌≤◌, List, [], ◌++◌, map}
-use Rattle.std.specs.List.{AllByRecursion, Contains}
-use Rattle.mon_frag.specs.Keeping.{taken}
-use Rattle.mon_frag.specs.Whole.{answer_in, kept_in}
-use Rattle.mon_frag.specs.declared.partial.Partial.{Partial}
-use Rattle.mon_link.specs.declared.link.Outgoing.{Outgoing}
-use Rattle.mon_link.specs.declared.link.Peer.{Peer}
-use Rattle.mon_node.specs.Posting.{next_after, datagrams}
-use Rattle.quorum_network.specs.Network.{posted}
-use Rattle.quorum_network.proofs.Letters.{Letter, IsLong, labelled, IsPosted, AreLetters, IsFed, IsRight}
+use Rattle.law_names.proofs.Table.{AllByRecursion, Contains}
+use Rattle.quorum_network.proofs.Letters.{AreLetters, IsFed, IsLong, IsPosted, IsRight, Letter, labelled}
+use Rattle.quorum_network.proofs.Names.{Outgoing, Partial, Peer, answer_in, datagrams, kept_in, next_after, posted, taken}
+use Rattle.std.proofs.Common.{List, [], map, ℕ, ◌++◌, ◌<◌, ◌≡◌, ◌≤◌}
 
 -- what a monitor sends in one reaction, cut
 pub record IsLabelled (i boot next : ℕ) (outs : List Outgoing) (ls : List Letter) : Type 0 where

@@ -1,37 +1,18 @@
 -- What an iteration of a serving node does with its link.
-use Rattle.std.proofs.Common.{◌≡◌, ℕ, ◌+◌, ◌-◌, ◌≤◌, min, leb, nat_lt, Bool, true, false, cond, List, [], ◌∷◌, length, Option, Some, None, Result, Ok, Err, refl, sym, ap, subst, ◌∙◌, inl, inr, arith}
-use Rattle.std.proofs.lemmas.Bool.{le-leb}
-use Rattle.std.proofs.lemmas.Bool.Decides.{nat_tests}
-use Rattle.std.specs.List.{AllByRecursion, Contains}
-use Rattle.std.specs.Option.{option_map}
-use Rattle.mon_frag.specs.Pieces.{pieces_of}
-use Rattle.mon_kv.specs.Readers.{epoch, size_of, most_size}
-use Rattle.mon_link.specs.Clocks.{Readings}
-use Rattle.mon_link.specs.Links.{Observed, next_leaves}
-use Rattle.mon_link.specs.declared.link.Got.{Got}
-use Rattle.mon_link.specs.declared.link.Got.TheVariants.{Datagram, Idle, Closed}
-use Rattle.mon_link.specs.declared.link.Outgoing.{Outgoing}
-use Rattle.mon_msg.specs.Protocol.Reaction.{Reaction}
-use Rattle.mon_msg.specs.Protocol.Timers.{due}
-use Rattle.mon_msg.specs.declared.plan.Sent.{Sent}
-use Rattle.mon_msg.specs.declared.view.Me.{Me}
-use Rattle.mon_node.specs.Hearing.{Given, answer_arrived, clock_read, due_by, heard, heard_by, link_asked, wait_until}
+use Rattle.law_names.proofs.Runs.{epoch, most_size, size_of}
+use Rattle.law_names.proofs.Table.{AllByRecursion, Contains, Me, Reaction, Sent, Stop, Timer, Which, due}
 use Rattle.mon_node.specs.Lasting.{RemainsAfter}
-use Rattle.mon_node.specs.Nodes.{Node, Outside, Serving}
-use Rattle.mon_node.specs.Posting.{boot_in, datagrams, datagrams_of, letter, letters, next_after_message, to_peer, with_number}
-use Rattle.mon_node.specs.Serving.{EndsAfter, Has, OfInput, of_arrival, of_input, sends_of}
-use Rattle.mon_node.specs.Iterations.{Iteration, map_after, numbered_by, reaction_to, iteration}
-use Rattle.mon_node.specs.declared.end.NodeEnd.{NodeEnd}
+use Rattle.mon_node.specs.Posting.{letter}
+use Rattle.mon_node.specs.Serving.{EndsAfter, OfInput, of_arrival}
 use Rattle.mon_node.specs.declared.end.NodeEnd.TheVariants as end
-use Rattle.mon_node.specs.declared.hearing.TimedInput.{TimedInput}
-use Rattle.mon_store.specs.StoreView.{StoreView}
-use Rattle.mon_types.specs.declared.names.Stop.{Stop}
 use Rattle.mon_types.specs.declared.names.Stop.TheVariants as stop
-use Rattle.mon_types.specs.declared.names.Which.{Which}
-use Rattle.mon_wire.specs.declared.phase.Timer.{Timer}
-use Rattle.quorum_network.specs.EachIteration.{IsAskedInTime, IsInTime, IsKeptFirst, IsOfReaction, Takes}
 use Rattle.quorum_network.proofs.Assembled.{all_both, all_mapped, all_self}
+use Rattle.quorum_network.proofs.Names.{Closed, Datagram, Given, Got, Has, Idle, Iteration, Node, NodeEnd, Observed, Outgoing, Outside, Readings, Serving, StoreView, TimedInput, answer_arrived, boot_in, clock_read, datagrams, datagrams_of, due_by, heard, heard_by, iteration, letters, link_asked, map_after, next_after_message, next_leaves, numbered_by, of_input, pieces_of, reaction_to, sends_of, to_peer, wait_until, with_number}
 use Rattle.quorum_network.proofs.Sends.{all_with_number}
+use Rattle.quorum_network.specs.EachIteration.{IsAskedInTime, IsInTime, IsKeptFirst, IsOfReaction, Takes}
+use Rattle.std.proofs.Common.{Bool, Err, List, None, Ok, Option, Result, Some, [], ap, arith, cond, false, inl, inr, leb, length, min, nat_lt, option_map, refl, subst, sym, true, ℕ, ◌+◌, ◌-◌, ◌∙◌, ◌∷◌, ◌≡◌, ◌≤◌}
+use Rattle.std.proofs.lemmas.Bool.Decides.{nat_tests}
+use Rattle.std.proofs.lemmas.Bool.{le-leb}
 
 -- ---- timers
 

@@ -1,57 +1,27 @@
 -- Two of three processes elect a leader. One datagram comes twice, some never come, and one comes late. The third
 -- process is killed in its start, when it has sent one of two datagrams, and is started again. Each has a clock of its
 -- own: when the first one's election ends by its timer, the second one's timer isn't due.
-use Rattle.std.proofs.Common.{◌≡◌, ℕ, ◌<◌, ◌≤◌, lit≤, true, false, List, [], ◌∷◌, ◌++◌, length, map, take, Option, Some, None, Ok, refl, sym, ap, subst, ◌∙◌, arith, inl, inr}
-use Rattle.std.proofs.lemmas.List.{append-nil}
-use Rattle.std.specs.FinMap.{empty}
-use Rattle.std.specs.List.{AllByRecursion, Contains}
 use Rattle.calm_quorum.proofs.Rows.{probe_row, propose_row, reply_enough, start_row}
 use Rattle.calm_quorum.proofs.States.{born, born_is, electing, led, led_is, probing, promised, promised_is, reacts, served, served_is, tells}
 use Rattle.calm_quorum.proofs.Stores.{born_small, born_told, empty_told, led_small, led_told, promised_small, promised_told, served_small, served_told, unborn}
-use Rattle.mon_bytes.specs.declared.entry.Entry.{Entry}
-use Rattle.std.specs.Prelude.{nat_lt}
-use Rattle.mon_msg.specs.Joined.{joined}
-use Rattle.mon_msg.specs.Protocol.Answers.{answer_of}
-use Rattle.mon_msg.specs.Protocol.Changes.{Change, Boot, Epoch, Numbers, Promise, encoded}
-use Rattle.mon_msg.specs.Protocol.Collecting.{collect, collect_with, missed, reign, settle}
-use Rattle.mon_msg.specs.Protocol.Elections.{election_ends, hear_ack, hear_victory}
-use Rattle.mon_msg.specs.Protocol.Entering.{win}
-use Rattle.mon_msg.specs.Protocol.Leader.{hear_last}
-use Rattle.mon_msg.specs.Protocol.Leading.{be_active, extend}
-use Rattle.mon_msg.specs.Protocol.Learning.{learn}
-use Rattle.mon_msg.specs.Protocol.Peon.{hear_collect}
-use Rattle.mon_msg.specs.Protocol.Reaction.{any_reaction}
-use Rattle.mon_msg.specs.Protocol.Readings.{Readings, epoch_of, readings_of, shared_entries}
-use Rattle.mon_msg.specs.Protocol.Records.{pending_of, run_of}
-use Rattle.mon_msg.specs.Protocol.Sending.{message_to, others}
-use Rattle.mon_msg.specs.Protocol.Sets.{only}
-use Rattle.mon_msg.specs.Protocol.State.{State, booting, start_elector, start_leader}
-use Rattle.mon_msg.specs.Protocol.Table.{react}
-use Rattle.mon_msg.specs.Protocol.Timers.{armed, due, unarmed}
+use Rattle.law_names.proofs.Runs.{me_of}
+use Rattle.law_names.proofs.Table.{AllByRecursion, Boot, Change, Contains, Entry, Epoch, Me, Message, Numbers, Promise, Readings, Sent, State, Store, answer_of, any_reaction, apply, armed, be_active, booting, collect, collect_with, due, election_ends, empty, encoded, epoch_of, extend, hear_ack, hear_collect, hear_last, hear_victory, joined, learn, message_to, missed, no_ranks, only, others, pending_of, react, readings_of, reign, run_of, settle, shared_entries, start_elector, start_leader, unarmed, win}
 use Rattle.mon_msg.specs.declared.input.Input.TheVariants as input
-use Rattle.mon_msg.specs.declared.plan.Sent.{Sent}
 use Rattle.mon_msg.specs.declared.paxos.LeaderStage.TheVariants as stage
-use Rattle.mon_msg.specs.declared.view.Me.{Me}
-use Rattle.mon_node.specs.Hearing.{due_by}
-use Rattle.mon_node.specs.Posting.{letters}
-use Rattle.mon_node.specs.Iterations.{Iteration}
-use Rattle.mon_tx.specs.Map.{Store, apply}
-use Rattle.mon_types.specs.Ranks.{no_ranks}
 use Rattle.mon_wire.specs.Message.Whole.{text}
 use Rattle.mon_wire.specs.declared.body.Body.TheVariants as body
-use Rattle.mon_wire.specs.declared.message.Message.{Message}
 use Rattle.mon_wire.specs.declared.phase.Phase.TheVariants as phase
 use Rattle.mon_wire.specs.declared.phase.Timer.TheVariants as timer
 use Rattle.quorum_model.proofs.Members.{me_is}
-use Rattle.quorum_model.specs.Monitors.{me_of}
-use Rattle.quorum_network.specs.Network.{AllMay, Begins, Down, Kept, Network, Posted, Step, Whole, after_step, first_network, if_made, outcome_of, made_by, map_of, network, posted, iteration_of, with_outcome, Doing, entered, number_of, under}
-use Rattle.quorum_network.specs.Promises.{Leads}
-use Rattle.quorum_network.proofs.Lives.{other_rank}
-use Rattle.quorum_network.proofs.Played.{Arrives, Play, Starts, Waits, all_may, comes, datagram_at, if_sent, network_is, played, played_on, step_of, steps_of, store_with, to_monitor, AreNew}
-use Rattle.quorum_network.proofs.Playing.{Goes, IsShort, IsSmall, Sits, dies, hears, outcome_as, moves, rings, serving_with, stays}
-use Rattle.quorum_network.specs.Lives.{Alone}
 use Rattle.quorum_network.proofs.Assembled.{contains_cases}
-use Rattle.quorum_network.proofs.Mails.{three, me, me_0, me_1, IsMail, both, probe, answer, propose, ack, victory, collects, last, lease, probe_mail, answer_mail, propose_mail, ack_mail, victory_mail, collect_mail, last_mail, lease_short}
+use Rattle.quorum_network.proofs.Lives.{other_rank}
+use Rattle.quorum_network.proofs.Mails.{IsMail, ack, ack_mail, answer, answer_mail, both, collect_mail, collects, last, last_mail, lease, lease_short, me, me_0, me_1, probe, probe_mail, propose, propose_mail, three, victory, victory_mail}
+use Rattle.quorum_network.proofs.Names.{AllMay, Alone, Begins, Doing, Down, Iteration, Kept, Network, Posted, Step, Whole, after_step, due_by, entered, first_network, if_made, iteration_of, letters, made_by, map_of, network, number_of, outcome_of, posted, under, with_outcome}
+use Rattle.quorum_network.proofs.Played.{AreNew, Arrives, Play, Starts, Waits, all_may, comes, datagram_at, if_sent, network_is, played, played_on, step_of, steps_of, store_with, to_monitor}
+use Rattle.quorum_network.proofs.Playing.{Goes, IsShort, IsSmall, Sits, dies, hears, moves, outcome_as, rings, serving_with, stays}
+use Rattle.quorum_network.specs.Promises.{Leads}
+use Rattle.std.proofs.Common.{List, None, Ok, Option, Some, [], ap, arith, false, inl, inr, length, lit≤, map, nat_lt, refl, subst, sym, take, true, ℕ, ◌++◌, ◌<◌, ◌∙◌, ◌∷◌, ◌≡◌, ◌≤◌}
+use Rattle.std.proofs.lemmas.List.{append-nil}
 
 -- ---- the maps
 

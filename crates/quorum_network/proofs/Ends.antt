@@ -1,28 +1,19 @@
 -- Which map an iteration leaves and what it sends, completed or not, from what `serve` promises of it.
-use Rattle.std.proofs.Common.{◌≡◌, ℕ, ◌+◌, ◌^◌, zero, suc, nat_lt, Bool, true, false, cond, List, [], take, Option, Some, None, Result, Ok, Err, refl, sym, ap, subst, ◌∙◌, inl, inr}
-use Rattle.std.proofs.lemmas.Bool.{ltb-false}
-use Rattle.std.specs.Option.{option_map}
+use Rattle.law_names.proofs.Runs.{most_size, size_of}
+use Rattle.law_names.proofs.Table.{Me, Reaction, Which}
 use Rattle.mon_bytes.specs.Answers.{◌>>=◌}
-use Rattle.mon_kv.specs.Readers.{size_of, most_size}
-use Rattle.mon_link.specs.declared.link.Outgoing.{Outgoing}
-use Rattle.mon_msg.specs.Protocol.Reaction.{Reaction}
-use Rattle.mon_msg.specs.declared.view.Me.{Me}
-use Rattle.mon_node.specs.Keeping.{kept}
-use Rattle.mon_node.specs.Lasting.{IsWithinIteration, recorded, store_view_kept, store_view_recorded}
-use Rattle.mon_node.specs.Nodes.{Serving}
-use Rattle.mon_node.specs.Posting.{and_sent, datagrams, letters, boot_in}
-use Rattle.mon_node.specs.Serving.{of_arrival, of_input, sends_of}
-use Rattle.mon_node.specs.Iterations.{Iteration, map_after, next_number, numbered_by, sent_by, done, reacted, reaction_to, ended_iteration, input_taken}
-use Rattle.mon_node.specs.declared.end.NodeEnd.TheVariants as end
-use Rattle.mon_node.specs.declared.end.NodeEnd.{NodeEnd}
-use Rattle.mon_node.specs.declared.hearing.TimedInput.{TimedInput}
 use Rattle.mon_node.proofs.Sending.{all_numbered, none_sent}
-use Rattle.mon_store.specs.StoreView.{StoreView}
+use Rattle.mon_node.specs.Iterations.{input_taken}
+use Rattle.mon_node.specs.Lasting.{IsWithinIteration, recorded, store_view_kept, store_view_recorded}
+use Rattle.mon_node.specs.Posting.{and_sent}
+use Rattle.mon_node.specs.Serving.{of_arrival}
+use Rattle.mon_node.specs.declared.end.NodeEnd.TheVariants as end
 use Rattle.mon_types.specs.declared.names.Which.TheVariants as which
-use Rattle.mon_types.specs.declared.names.Which.{Which}
-use Rattle.quorum_network.specs.Lives.{IsOutcomeOf}
-use Rattle.quorum_network.specs.Network.{Up, Whole, Kept, at_end, down, outcome_of, map_of}
+use Rattle.quorum_network.proofs.Names.{Iteration, Kept, NodeEnd, Outgoing, Serving, StoreView, TimedInput, Up, Whole, at_end, boot_in, datagrams, done, down, ended_iteration, kept, letters, map_after, map_of, next_number, numbered_by, of_input, outcome_of, reacted, reaction_to, sends_of, sent_by}
 use Rattle.quorum_network.proofs.Steps.{kept_kv}
+use Rattle.quorum_network.specs.Lives.{IsOutcomeOf}
+use Rattle.std.proofs.Common.{Bool, Err, List, None, Ok, Option, Result, Some, [], ap, cond, false, inl, inr, nat_lt, option_map, refl, subst, suc, sym, take, true, zero, ℕ, ◌+◌, ◌^◌, ◌∙◌, ◌≡◌}
+use Rattle.std.proofs.lemmas.Bool.{ltb-false}
 
 -- ---- an iteration that is completed
 

@@ -1,19 +1,11 @@
 -- Facts of the table and of the model, each proved in a file of its own.
-use Rattle.std.proofs.Common.{◌≡◌, ℕ, List, Some, Ok}
-use Rattle.std.specs.List.{AllByRecursion, Contains}
-use Rattle.mon_bounds.specs.Fitting.{IsNamed, entries_in}
-use Rattle.mon_msg.specs.Protocol.Reaction.{Reaction, reaction}
-use Rattle.mon_msg.specs.Protocol.State.{State, booting}
-use Rattle.mon_msg.specs.declared.view.Me.{Me}
+use Rattle.law_names.proofs.Runs.{AllFit, Envelope, Event, Monitors, Plain, PlainFits, World, arrival, first_world, ran_from}
+use Rattle.law_names.proofs.Table.{AllByRecursion, Contains, Input, Me, Reaction, State, booting, reaction}
 use Rattle.mon_msg.specs.declared.input.Input.TheVariants as input
-use Rattle.mon_msg.specs.declared.input.Input.{Input}
-use Rattle.quorum_model.specs.Events.{AllFit, PlainFits}
-use Rattle.quorum_model.specs.Meets.{arrival}
-use Rattle.quorum_model.specs.Monitors.{Monitors}
-use Rattle.quorum_model.specs.Runs.{ran_from}
-use Rattle.quorum_model.specs.World.{World, Plain, Event, Envelope, first_world}
 use Rattle.quorum_network.proofs.Events.{ended}
+use Rattle.quorum_network.proofs.Names.{IsNamed, entries_in}
 use Rattle.quorum_network.proofs.Sends.{IsOwn}
+use Rattle.std.proofs.Common.{List, Ok, Some, ℕ, ◌≡◌}
 
 -- the world of a run that nothing stopped
 pub record Reach (ms : Monitors) (w : World) : Type 0 where

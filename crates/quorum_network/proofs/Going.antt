@@ -1,28 +1,22 @@
 -- A run of later steps goes on from one of earlier ones.
-use Rattle.std.proofs.Common.{◌≡◌, inl, inr, ℕ, suc, ◌<◌, ◌≤◌, List, [], ◌∷◌, ◌++◌, Option, sym, ap, subst, ◌∙◌, arith, append_assoc}
-use Rattle.std.proofs.lemmas.List.{append-nil}
-use Rattle.std.proofs.lemmas.List.Elements.{Contains-append_cases, Contains-append_left}
-use Rattle.std.specs.List.{AllByRecursion, Contains}
+use Rattle.law_names.proofs.Runs.{Acknowledged, Acknowledgement, AllFit, Asked, Event, Monitors, Replied, World, me_of, run}
+use Rattle.law_names.proofs.Table.{AllByRecursion, Contains}
 use Rattle.log_model.proofs.Lists.{all_append, all_map}
-use Rattle.mon_link.specs.declared.link.Peer.{Peer}
-use Rattle.mon_link.specs.declared.link.Peer.TheVariants.{Monitor, Client}
 use Rattle.quorum_agreement.proofs.Every.{grows}
-use Rattle.quorum_model.specs.Events.{AllFit}
-use Rattle.quorum_model.specs.Monitors.{Monitors, me_of}
-use Rattle.quorum_model.specs.Runs.{run}
-use Rattle.quorum_model.specs.World.{Acknowledged, Acknowledgement, Asked, Event, Replied, World}
 use Rattle.quorum_network.proofs.Acts.{Act}
 use Rattle.quorum_network.proofs.Adding.{AllLater, IsAt, IsLater, IsRepliedAt}
 use Rattle.quorum_network.proofs.Assembling.{Assembly}
 use Rattle.quorum_network.proofs.Facts.{Facts}
 use Rattle.quorum_network.proofs.Invariant.{Moved, Next, Still}
 use Rattle.quorum_network.proofs.Letters.{IsPosted, Letter}
+use Rattle.quorum_network.proofs.Names.{AllMay, Client, Leadership, Monitor, Network, Peer, Posted, Step, acknowledged_at, acknowledgements, after_step, asked_by, leaderships, led_at, may_before, network, requests}
 use Rattle.quorum_network.proofs.Sends.{posted_behind, posted_more}
 use Rattle.quorum_network.proofs.Steps.{step_next}
 use Rattle.quorum_network.proofs.Whole.{Stands, reach_more, stands, stands_next}
 use Rattle.quorum_network.specs.History.{Extends}
-use Rattle.quorum_network.specs.Network.{AllMay, Network, Posted, Step, after_step, may_before, network}
-use Rattle.quorum_network.specs.Requests.{Leadership, acknowledged_at, acknowledgements, asked_by, leaderships, led_at, requests}
+use Rattle.std.proofs.Common.{List, Option, [], ap, append_assoc, arith, inl, inr, subst, suc, sym, ℕ, ◌++◌, ◌<◌, ◌∙◌, ◌∷◌, ◌≡◌, ◌≤◌}
+use Rattle.std.proofs.lemmas.List.Elements.{Contains-append_cases, Contains-append_left}
+use Rattle.std.proofs.lemmas.List.{append-nil}
 
 -- What the later steps add to the run: events, the acknowledgements and replies of these events, and datagrams. A
 -- datagram that goes to a client is of a letter that is such a reply.

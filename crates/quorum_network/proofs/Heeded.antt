@@ -1,34 +1,20 @@
 -- A process sends only encoded messages. What it hears of such messages and of clients is an input that may come. Both
 -- hold on any store.
-use Rattle.std.proofs.Common.{◌≡◌, ℕ, ◌&&◌, eqb, not, Bool, true, false, cond, List, [], ◌∷◌, Option, Some, None, IfSome, Result, Ok, Err, refl, sym, ap, subst, ◌∙◌}
-use Rattle.std.specs.Prelude.{option_map}
-use Rattle.std.specs.List.{AllByRecursion, Contains}
-use Rattle.mon_bounds.specs.Fitting.{IsValidInput, answer_in as reply_in}
-use Rattle.mon_kv.specs.Readers.{epoch}
-use Rattle.mon_link.specs.declared.link.Outgoing.{Outgoing}
-use Rattle.mon_msg.specs.declared.plan.Sent.TheVariants as sent
-use Rattle.mon_msg.specs.declared.plan.Sent.{Sent}
-use Rattle.mon_msg.specs.declared.view.Me.{Me}
-use Rattle.mon_node.specs.Posting.{letters}
-use Rattle.mon_tx.specs.Map.{Store}
-use Rattle.quorum_network.proofs.Sends.{IsCuttable, SentHasText, text_cuttable}
-use Rattle.mon_bytes.specs.Reading.{IsBytes}
+use Rattle.law_names.proofs.Runs.{epoch}
+use Rattle.law_names.proofs.Table.{AllByRecursion, Body, Contains, HasText, Input, IsBytes, Me, Message, MsgRefused, Sent, Store, message_of}
+use Rattle.mon_bounds.specs.Fitting.{answer_in as reply_in}
 use Rattle.mon_decode.proofs.WholeLaws.{message_again, message_is_found}
-use Rattle.mon_link.specs.declared.link.Peer.{Peer}
-use Rattle.mon_link.specs.declared.link.Peer.TheVariants.{Monitor, Client}
 use Rattle.mon_msg.specs.declared.input.Input.TheVariants as input
-use Rattle.mon_msg.specs.declared.input.Input.{Input}
+use Rattle.mon_msg.specs.declared.plan.Sent.TheVariants as sent
 use Rattle.mon_node.proofs.Letters.{may_deliver}
 use Rattle.mon_node.proofs.Requests.{may_ask}
-use Rattle.mon_node.specs.Hearing.{at_time, from_client, from_monitor, input_in, input_of, input_read, is_request}
-use Rattle.mon_node.specs.declared.end.NodeEnd.{NodeEnd}
-use Rattle.mon_node.specs.declared.hearing.TimedInput.{TimedInput}
-use Rattle.mon_wire.specs.Message.Whole.{HasText, message_of, text}
+use Rattle.mon_node.specs.Hearing.{from_client, from_monitor, input_of}
+use Rattle.mon_wire.specs.Message.Whole.{text}
 use Rattle.mon_wire.specs.declared.body.Body.TheVariants as body
-use Rattle.mon_wire.specs.declared.body.Body.{Body}
-use Rattle.mon_wire.specs.declared.message.Message.{Message}
-use Rattle.mon_wire.specs.declared.refusal.MsgRefused.{MsgRefused}
 use Rattle.quorum_network.proofs.Letters.{IsRight, Letter}
+use Rattle.quorum_network.proofs.Names.{Client, IsValidInput, Monitor, NodeEnd, Outgoing, Peer, TimedInput, at_time, input_in, input_read, is_request, letters}
+use Rattle.quorum_network.proofs.Sends.{IsCuttable, SentHasText, text_cuttable}
+use Rattle.std.proofs.Common.{Bool, Err, IfSome, List, None, Ok, Option, Result, Some, [], ap, cond, eqb, false, not, option_map, refl, subst, sym, true, ℕ, ◌&&◌, ◌∙◌, ◌∷◌, ◌≡◌}
 
 -- ---- messages
 

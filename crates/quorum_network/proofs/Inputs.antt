@@ -1,45 +1,24 @@
 -- Each input that a process gets in an iteration is the input of an event of the run.
-use Rattle.std.proofs.Common.{◌≡◌, ℕ, suc, ◌<◌, ◌&&◌, eqb, not, Bool, true, false, cond, List, Option, Some, None, Result, Ok, Err, refl, sym, ap, subst, ◌∙◌, arith}
-use Rattle.std.proofs.lemmas.Option.{slice_get-get_or}
-use Rattle.std.specs.Prelude.{option_map}
-use Rattle.std.specs.List.{AllByRecursion, Contains}
-use Rattle.mon_bounds.specs.Fitting.{IsValidInput}
-use Rattle.mon_bytes.specs.Reading.{IsBytes}
-use Rattle.mon_frag.specs.Keeping.{taken}
-use Rattle.mon_frag.specs.Whole.{answer_in}
-use Rattle.mon_link.specs.declared.link.Got.{Got}
-use Rattle.mon_link.specs.declared.link.Got.TheVariants.{Datagram, Idle, Closed}
-use Rattle.mon_link.specs.declared.link.Peer.{Peer}
-use Rattle.mon_link.specs.declared.link.Peer.TheVariants.{Monitor, Client}
-use Rattle.mon_msg.specs.declared.input.Input.TheVariants as input
-use Rattle.mon_msg.specs.declared.input.Input.{Input}
-use Rattle.mon_node.specs.Hearing.{from_client, from_monitor, input_of, input_read, input_in, is_request, at_time, Heard, heard_by, answer_arrived, link_asked, Given}
-use Rattle.mon_node.specs.Nodes.{Outside}
-use Rattle.mon_node.specs.declared.end.NodeEnd.{NodeEnd}
-use Rattle.mon_node.specs.declared.hearing.TimedInput.{TimedInput}
-use Rattle.mon_types.specs.declared.names.Stop.{Stop}
-use Rattle.mon_types.specs.declared.names.Stop.TheVariants as stop
-use Rattle.mon_wire.specs.Message.Whole.{text, HasText, message_of}
-use Rattle.mon_decode.proofs.WholeLaws.{message_again, message_is_found}
-use Rattle.mon_wire.specs.declared.body.Body.{Body}
-use Rattle.mon_wire.specs.declared.body.Body.TheVariants as body
-use Rattle.mon_wire.specs.declared.message.Message.{Message}
-use Rattle.mon_wire.specs.declared.phase.Timer.{Timer}
-use Rattle.mon_wire.specs.declared.refusal.MsgRefused.{MsgRefused}
+use Rattle.law_names.proofs.Runs.{Client as ClientAsks, Deliver, Envelope, Monitors, Plain, PlainFits, RequestFits, Ring, World, arrival, message_at, state_at}
+use Rattle.law_names.proofs.Table.{AllByRecursion, Body, Contains, HasText, Input, IsBytes, Message, MsgRefused, Request, Stop, Timer, message_of}
+use Rattle.log_model.proofs.Lists.{of_all}
 use Rattle.mon_bounds.proofs.Texts.{has_text}
+use Rattle.mon_decode.proofs.WholeLaws.{message_again, message_is_found}
+use Rattle.mon_msg.specs.declared.input.Input.TheVariants as input
+use Rattle.mon_node.specs.Hearing.{from_client, from_monitor, input_of}
+use Rattle.mon_types.specs.declared.names.Stop.TheVariants as stop
 use Rattle.mon_wire.specs.Message.Bodies as bodies
 use Rattle.mon_wire.specs.Message.Bodies.{encoded}
+use Rattle.mon_wire.specs.Message.Whole.{text}
+use Rattle.mon_wire.specs.declared.body.Body.TheVariants as body
 use Rattle.mon_wire.specs.declared.request.Request.TheVariants as request
-use Rattle.mon_wire.specs.declared.request.Request.{Request}
-use Rattle.log_model.proofs.Lists.{of_all}
-use Rattle.quorum_model.specs.Events.{PlainFits, RequestFits}
-use Rattle.quorum_model.specs.Meets.{arrival, state_at, message_at}
-use Rattle.quorum_model.specs.Monitors.{Monitors}
-use Rattle.quorum_model.specs.World.{World, Plain, Deliver, Ring, Client as ClientAsks, Envelope}
-use Rattle.quorum_network.specs.Network.{Network, Posted, IsAsked, IsAnswer, CameFrom}
 use Rattle.quorum_network.proofs.Assembling.{Assembly}
 use Rattle.quorum_network.proofs.Invariant.{IsSaid}
-use Rattle.quorum_network.proofs.Letters.{Letter, IsPosted, AreLetters, IsFed, IsRight}
+use Rattle.quorum_network.proofs.Letters.{AreLetters, IsFed, IsPosted, IsRight, Letter}
+use Rattle.quorum_network.proofs.Names.{Client, Closed, Datagram, Given, Got, Heard, Idle, IsAnswer, IsAsked, IsValidInput, Monitor, Network, NodeEnd, Outside, Peer, Posted, TimedInput, answer_arrived, answer_in, at_time, heard_by, input_in, input_read, is_request, link_asked, taken}
+use Rattle.quorum_network.specs.Network.{CameFrom}
+use Rattle.std.proofs.Common.{Bool, Err, List, None, Ok, Option, Result, Some, ap, arith, cond, eqb, false, not, option_map, refl, subst, suc, sym, true, ℕ, ◌&&◌, ◌<◌, ◌∙◌, ◌≡◌}
+use Rattle.std.proofs.lemmas.Option.{slice_get-get_or}
 
 -- it comes by an event, and it isn't the start
 pub record ComesBy (ms : Monitors) (w : World) (i : ℕ) (at : ℕ) (came : Input) : Type 0 where

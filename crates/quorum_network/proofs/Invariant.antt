@@ -1,26 +1,13 @@
 -- What holds of a network and of the world of its run.
-use Rattle.std.proofs.Common.{◌≡◌, ◌++◌, ℕ, ◌+◌, ◌^◌, ◌<◌, ◌≤◌, List, [], Option, None, Some, Ok}
-use Rattle.std.specs.List.{AllByRecursion, Contains}
-use Rattle.mon_bounds.specs.Remembered.{MayRemember}
-use Rattle.mon_link.specs.declared.link.Peer.{Peer}
-use Rattle.mon_link.specs.declared.link.Peer.TheVariants.{Monitor, Client}
-use Rattle.mon_msg.specs.Protocol.State.{State}
-use Rattle.mon_msg.specs.declared.view.Me.{Me}
-use Rattle.mon_node.specs.Nodes.{Serving}
-use Rattle.mon_tx.specs.Map.{Store}
-use Rattle.mon_wire.specs.Message.Whole.{text, HasText}
-use Rattle.mon_wire.specs.declared.message.Message.{Message}
-use Rattle.quorum_model.specs.Events.{PlainFits}
-use Rattle.quorum_model.specs.Happens.{happens}
-use Rattle.quorum_model.specs.Monitors.{Monitors, me_of}
-use Rattle.quorum_model.specs.World.{Asked, World, Event, plain_of, Envelope, Replied, Acknowledgement}
-use Rattle.quorum_network.specs.Network.{Network, Posted, Process, Up, Down, map_of, newest, number_of}
-use Rattle.quorum_network.specs.Requests.{Leadership}
-use Rattle.quorum_network.specs.Running.{answer_of}
+use Rattle.law_names.proofs.Runs.{Acknowledgement, Asked, Envelope, Event, Monitors, PlainFits, Replied, World, happens, me_of, plain_of}
+use Rattle.law_names.proofs.Table.{AllByRecursion, Contains, HasText, Me, Message, State, Store}
+use Rattle.mon_wire.specs.Message.Whole.{text}
 use Rattle.quorum_network.proofs.Acts.{Act, DoesSo}
 use Rattle.quorum_network.proofs.Adding.{Adds}
 use Rattle.quorum_network.proofs.Assembling.{Assembly}
-use Rattle.quorum_network.proofs.Letters.{Letter, IsLong, IsPosted, AreLetters}
+use Rattle.quorum_network.proofs.Letters.{AreLetters, IsLong, IsPosted, Letter}
+use Rattle.quorum_network.proofs.Names.{Client, Down, Leadership, MayRemember, Monitor, Network, Peer, Posted, Process, Serving, Up, answer_of, map_of, newest, number_of}
+use Rattle.std.proofs.Common.{List, None, Ok, Option, Some, [], ℕ, ◌++◌, ◌+◌, ◌<◌, ◌^◌, ◌≡◌, ◌≤◌}
 
 -- bytes that monitor i sent: the text of one of these messages, or of one of these replies of its
 abbrev pub Says : (count i : ℕ) → List Envelope → List Replied → Peer → List ℕ → Type 0

@@ -1,17 +1,15 @@
 -- A client that joins datagrams of letters joins whole letters.
-use Rattle.std.proofs.Common.{◌≡◌, ◌⊎◌, ℕ, eqb, ◌&&◌, Bool, true, false, cond, List, [], ◌∷◌, refl, sym, ap, subst, ◌∙◌, inl, inr, arith}
-use Rattle.std.proofs.lemmas.Bool.{eqb-true, eq-eqb}
-use Rattle.std.specs.List.{AllByRecursion, Contains}
+use Rattle.law_names.proofs.Table.{AllByRecursion, Contains}
 use Rattle.log_model.proofs.Lists.{all_map, of_all}
 use Rattle.mon_frag.proofs.Standing.{answered_whole}
 use Rattle.mon_frag.specs.Whole as frag
 use Rattle.mon_frag.specs.Whole.{AreSent, From, FromPeer, IsDatagram, IsWhole, answered}
-use Rattle.mon_link.specs.declared.link.Peer.{Peer}
-use Rattle.mon_link.specs.declared.link.Peer.TheVariants.{Monitor, Client}
-use Rattle.quorum_network.specs.Network.{Posted}
-use Rattle.quorum_network.specs.Promises.{AreAnswers, IfToClient, IsJoined, Numbers, ReachesClient}
 use Rattle.quorum_network.proofs.Assembled.{all_self, all_through, contains_cases, contains_first, contains_later, message_of_letter}
 use Rattle.quorum_network.proofs.Letters.{AreLetters, IsPosted, Letter}
+use Rattle.quorum_network.proofs.Names.{AreAnswers, Client, Monitor, Peer, Posted}
+use Rattle.quorum_network.specs.Promises.{IfToClient, IsJoined, Numbers, ReachesClient}
+use Rattle.std.proofs.Common.{Bool, List, [], ap, arith, cond, eqb, false, inl, inr, refl, subst, sym, true, ℕ, ◌&&◌, ◌∙◌, ◌∷◌, ◌≡◌, ◌⊎◌}
+use Rattle.std.proofs.lemmas.Bool.{eq-eqb, eqb-true}
 
 -- whether a peer is the client that has these numbers
 abbrev goes_to : (ℕ → Bool) → Peer → Bool

@@ -1,56 +1,30 @@
 -- A reaction whose transaction is kept: the network with some of its datagrams, and the world of its event.
-use Rattle.std.proofs.Common.{◌≡◌, ℕ, suc, ◌+◌, ◌^◌, ◌<◌, ◌≤◌, nat_lt, eqb, Bool, true, false, cond, List, [], ◌∷◌, ◌++◌, map, Option, Some, None, Result, Ok, refl, sym, ap, subst, ◌∙◌, arith, inl, inr}
-use Rattle.std.proofs.lemmas.Bool.{eqb-true}
-use Rattle.std.proofs.lemmas.Bool.Decides.{nat_tests}
-use Rattle.std.proofs.lemmas.List.Elements.{Contains-append_left, Contains-append_right, Contains-append_cases}
-use Rattle.std.specs.List.{AllByRecursion, Contains}
-use Rattle.std.specs.Prelude.{IfOk}
-use Rattle.mon_bounds.proofs.Table.{reaction_ok}
-use Rattle.mon_bounds.specs.Fitting.{IsValidInput, IsNamed, IsBounded, entries_in}
-use Rattle.mon_bounds.specs.Remembered.{IsNumber, MayRemember}
-use Rattle.mon_frag.proofs.Lists.{all_append}
-use Rattle.mon_core.specs.Reacts.{SendsNamed}
-use Rattle.mon_kv.specs.Readers.{size_of, most_size, epoch}
-use Rattle.mon_link.specs.declared.link.Outgoing.{Outgoing}
-use Rattle.mon_link.specs.declared.link.Peer.{Peer}
-use Rattle.mon_link.specs.declared.link.Peer.TheVariants.{Monitor, Client}
-use Rattle.mon_msg.specs.Protocol.Reaction.{Reaction, reaction}
-use Rattle.mon_msg.specs.Protocol.Readings.{epoch_of, readings_of}
-use Rattle.mon_msg.specs.Protocol.State.{State}
-use Rattle.mon_msg.specs.declared.input.Input.{Input}
-use Rattle.mon_msg.specs.declared.plan.Sent.TheVariants as sent
-use Rattle.mon_msg.specs.declared.plan.Sent.{Sent}
-use Rattle.mon_msg.specs.declared.view.Me.{Me}
-use Rattle.mon_node.specs.Nodes.{Node}
-use Rattle.mon_node.specs.Posting.{letters, datagrams, next_after, boot_in}
-use Rattle.mon_node.specs.Iterations.{map_after}
-use Rattle.std.specs.Option.{option_map, unwrap_or}
-use Rattle.mon_tx.proofs.Places.{number_in-low}
+use Rattle.law_names.proofs.Runs.{Arrives, Asked, Envelope, Event, Monitors, Plain, PlainFits, Reacts, Replied, World, acknowledgements_of, arrival, epoch, first_world, happens, is_active, me_of, meets, messages_of, most_size, moved, plain_of, replies_of, size_of, state_at}
+use Rattle.law_names.proofs.Table.{AllByRecursion, Cell, Contains, Input, Me, Reaction, Sent, State, Store, Which, apply, cell, epoch_of, number_in, reaction, readings_of}
 use Rattle.log_model.proofs.Lists.{of_all}
-use Rattle.mon_tx.specs.Decision.{Cell}
-use Rattle.mon_tx.specs.Keys.{cell}
-use Rattle.mon_tx.specs.Map.{Store, apply, number_in}
+use Rattle.mon_bounds.proofs.Table.{reaction_ok}
+use Rattle.mon_bounds.specs.Fitting.{IsBounded}
+use Rattle.mon_bounds.specs.Remembered.{IsNumber}
+use Rattle.mon_frag.proofs.Lists.{all_append}
+use Rattle.mon_msg.specs.declared.plan.Sent.TheVariants as sent
+use Rattle.mon_tx.proofs.Places.{number_in-low}
 use Rattle.mon_tx.specs.declared.key.Area.TheVariants as area
 use Rattle.mon_tx.specs.declared.key.Key.TheVariants as key
-use Rattle.mon_types.specs.declared.names.Which.{Which}
-use Rattle.quorum_model.specs.Acknowledging.{acknowledgements_of}
-use Rattle.quorum_model.specs.Clients.{messages_of, replies_of}
-use Rattle.quorum_model.specs.Events.{PlainFits}
 use Rattle.quorum_model.specs.Happens as model
-use Rattle.quorum_model.specs.Happens.{happens, is_active, moved}
-use Rattle.quorum_model.specs.Meets.{Reacts, meets, arrival, state_at}
-use Rattle.quorum_model.specs.Monitors.{Monitors, me_of}
-use Rattle.quorum_model.specs.World.{Asked, World, Plain, Event, Arrives, Envelope, Replied, first_world, plain_of}
-use Rattle.quorum_network.specs.Network.{Network, Process, Up, Down, map_of, with_outcome, Posted, posted, number_of, under}
-use Rattle.quorum_network.proofs.Under.{Under, all_before, all_under, under_datagrams}
-use Rattle.quorum_network.specs.Requests.{acknowledged_in, led_in}
 use Rattle.quorum_network.proofs.Adding.{AllLater, IsLater, IsRepliedAt, all_numbered, all_replied, given_same, noted_as, noted_same}
 use Rattle.quorum_network.proofs.Assembling.{Assembly, IsLabelled}
-use Rattle.quorum_network.proofs.Events.{ran_more, reacts_moves, meets_it, IsMe, known}
+use Rattle.quorum_network.proofs.Events.{IsMe, known, meets_it, ran_more, reacts_moves}
 use Rattle.quorum_network.proofs.Facts.{Facts, Reach}
-use Rattle.quorum_network.proofs.Invariant.{IsAlive, Says, IsSaid, IfUp, Mine, Moves, Inv}
-use Rattle.quorum_network.proofs.Letters.{Letter, IsLong, labelled, IsPosted, CanBeCut, Numbered}
-use Rattle.quorum_network.proofs.Sends.{IsOwn, says_more, says_behind, SentHasText, have_texts, IsCuttable, all_cuttable, SaysOf, all_say, label_of, posted_more, posted_behind}
+use Rattle.quorum_network.proofs.Invariant.{IfUp, Inv, IsAlive, IsSaid, Mine, Moves, Says}
+use Rattle.quorum_network.proofs.Letters.{CanBeCut, IsLong, IsPosted, Letter, Numbered, labelled}
+use Rattle.quorum_network.proofs.Names.{Client, Down, IsNamed, IsValidInput, MayRemember, Monitor, Network, Node, Outgoing, Peer, Posted, Process, SendsNamed, Up, boot_in, datagrams, entries_in, letters, map_after, map_of, next_after, number_of, posted, under, with_outcome}
+use Rattle.quorum_network.proofs.Sends.{IsCuttable, IsOwn, SaysOf, SentHasText, all_cuttable, all_say, have_texts, label_of, posted_behind, posted_more, says_behind, says_more}
+use Rattle.quorum_network.proofs.Under.{Under, all_before, all_under, under_datagrams}
+use Rattle.quorum_network.specs.Requests.{acknowledged_in, led_in}
+use Rattle.std.proofs.Common.{Bool, IfOk, List, None, Ok, Option, Result, Some, [], ap, arith, cond, eqb, false, inl, inr, map, nat_lt, option_map, refl, subst, suc, sym, true, unwrap_or, ℕ, ◌++◌, ◌+◌, ◌<◌, ◌^◌, ◌∙◌, ◌∷◌, ◌≡◌, ◌≤◌}
+use Rattle.std.proofs.lemmas.Bool.Decides.{nat_tests}
+use Rattle.std.proofs.lemmas.Bool.{eqb-true}
+use Rattle.std.proofs.lemmas.List.Elements.{Contains-append_cases, Contains-append_left, Contains-append_right}
 
 abbrev Named : Envelope → Type 0
 Named e = AllByRecursion IsNamed (entries_in e.message.body)

@@ -1,36 +1,21 @@
 -- A process of a network does what its own steps make it do, and these are the iterations that `serve` makes.
-use Rattle.std.proofs.Common.{◌≡◌, ℕ, eqb, Bool, true, false, cond, List, [], ◌∷◌, ◌++◌, map, Option, Some, None, Result, Ok, Err, refl, sym, ap, subst, ◌∙◌, append_assoc, arith}
-use Rattle.std.proofs.lemmas.Bool.{eqb-true, eq-eqb}
-use Rattle.std.proofs.lemmas.Bool.Decides.{nat_tests}
-use Rattle.std.proofs.lemmas.List.{append-nil, map-append}
-use Rattle.std.specs.Option.{option_map}
+use Rattle.law_names.proofs.Runs.{Monitors, me_of}
+use Rattle.law_names.proofs.Table.{Me, Stop, Timer, due}
 use Rattle.mon_bytes.specs.Answers.{◌>>=◌}
-use Rattle.mon_link.specs.Clocks.{Readings}
 use Rattle.mon_link.specs.Histories.Happened.{Received, WasSent}
-use Rattle.mon_link.specs.Histories.{Happened, sent}
-use Rattle.mon_link.specs.Links.{Observed, next_leaves}
-use Rattle.mon_link.specs.declared.link.Got.{Got}
-use Rattle.mon_link.specs.declared.link.Got.TheVariants.{Datagram, Idle, Closed}
-use Rattle.mon_link.specs.declared.link.Outgoing.{Outgoing}
-use Rattle.mon_msg.specs.Protocol.Timers.{due}
-use Rattle.mon_msg.specs.declared.view.Me.{Me}
-use Rattle.mon_node.specs.Hearing.{Given, answer_arrived, clock_read, due_by, heard_by, link_asked, wait_until}
-use Rattle.mon_node.specs.Nodes.{Outside, Serving, unstarted}
-use Rattle.mon_node.specs.Posting.{and_sent}
-use Rattle.mon_node.specs.Iterations.{Iteration, ended_iteration, iteration, start, last_iteration, served}
-use Rattle.mon_node.specs.Sends.{AreSent, Send, call_of, outgoing_of}
-use Rattle.mon_node.specs.Serving.{Has, sends_of}
-use Rattle.mon_node.specs.Talking.{AllSent, AllSentBefore, asked_after, asked_by, happened}
 use Rattle.mon_node.proofs.Talking.{last_of}
-use Rattle.mon_node.specs.declared.end.NodeEnd.{NodeEnd}
-use Rattle.mon_store.specs.StoreView.{StoreView}
-use Rattle.mon_types.specs.declared.names.Stop.{Stop}
+use Rattle.mon_node.specs.Iterations.{last_iteration, served}
+use Rattle.mon_node.specs.Posting.{and_sent}
+use Rattle.mon_node.specs.Sends.{AreSent, Send, call_of, outgoing_of}
+use Rattle.mon_node.specs.Talking.{AllSent, AllSentBefore, asked_after, asked_by, happened}
 use Rattle.mon_types.specs.declared.names.Stop.TheVariants as stop
-use Rattle.mon_wire.specs.declared.phase.Timer.{Timer}
-use Rattle.quorum_model.specs.Monitors.{Monitors, me_of}
-use Rattle.quorum_network.specs.Lives.{Alone, IsSent, alone, outcome_at, life, lives_then, own, sent_in, sent_of}
-use Rattle.quorum_network.specs.Network.{Network, Posted, Process, Up, Doing, Begins, Iterates, Until, Whole, Step, StepOutcome, entered, newest, iteration_of, outcome_of, posted, if_made, made_by, after_step, network, number_of, under, with_outcome}
 use Rattle.quorum_network.proofs.Ends.{ended_link, up_is}
+use Rattle.quorum_network.proofs.Names.{Alone, Begins, Closed, Datagram, Doing, Given, Got, Happened, Has, Idle, Iterates, Iteration, Network, NodeEnd, Observed, Outgoing, Outside, Posted, Process, Readings, Serving, Step, StepOutcome, StoreView, Until, Up, Whole, after_step, alone, answer_arrived, clock_read, due_by, ended_iteration, entered, heard_by, if_made, iteration, iteration_of, life, link_asked, lives_then, made_by, network, newest, next_leaves, number_of, outcome_of, own, posted, sends_of, sent, start, under, unstarted, wait_until, with_outcome}
+use Rattle.quorum_network.specs.Lives.{IsSent, outcome_at, sent_in, sent_of}
+use Rattle.std.proofs.Common.{Bool, Err, List, None, Ok, Option, Result, Some, [], ap, append_assoc, arith, cond, eqb, false, map, option_map, refl, subst, sym, true, ℕ, ◌++◌, ◌∙◌, ◌∷◌, ◌≡◌}
+use Rattle.std.proofs.lemmas.Bool.Decides.{nat_tests}
+use Rattle.std.proofs.lemmas.Bool.{eq-eqb, eqb-true}
+use Rattle.std.proofs.lemmas.List.{append-nil, map-append}
 
 -- ---- one of several
 

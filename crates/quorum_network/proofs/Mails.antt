@@ -1,19 +1,14 @@
 -- The messages of three monitors that elect a leader.
-use Rattle.std.proofs.Common.{◌≡◌, ℕ, ◌<◌, ◌≤◌, ◌^◌, lit≤, Bool, true, false, List, [], length, None, refl, arith}
 use Rattle.calm_quorum.proofs.States.{me_at, says}
+use Rattle.law_names.proofs.Runs.{Monitors, classic}
+use Rattle.law_names.proofs.Table.{Body, HasText, Me, Message, no_ranks, only, with_rank}
 use Rattle.mon_bytes.specs.Format.{u16_bytes}
-use Rattle.std.specs.Prelude.{nat_lt}
-use Rattle.mon_msg.specs.Protocol.Sets.{only}
-use Rattle.mon_msg.specs.declared.view.Me.{Me}
-use Rattle.mon_node.specs.Hearing.{is_request}
-use Rattle.mon_types.specs.Ranks.{no_ranks, with_rank}
 use Rattle.mon_wire.specs.Message.Bodies.{encoded as body_encoded}
 use Rattle.mon_wire.specs.Message.Fields.{number_bytes, set_bytes}
-use Rattle.mon_wire.specs.Message.Whole.{HasText, text}
+use Rattle.mon_wire.specs.Message.Whole.{text}
 use Rattle.mon_wire.specs.declared.body.Body.TheVariants as body
-use Rattle.mon_wire.specs.declared.body.Body.{Body}
-use Rattle.mon_wire.specs.declared.message.Message.{Message}
-use Rattle.quorum_model.specs.Monitors.{Monitors, classic}
+use Rattle.quorum_network.proofs.Names.{is_request}
+use Rattle.std.proofs.Common.{Bool, List, None, [], arith, false, length, lit≤, nat_lt, refl, true, ℕ, ◌<◌, ◌^◌, ◌≡◌, ◌≤◌}
 
 abbrev pub three : Monitors
 three = classic 3 (lit≤ tt)

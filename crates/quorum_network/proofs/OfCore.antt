@@ -1,20 +1,11 @@
 -- What a core ensures of its reaction to an iteration's input is what is needed on any disk.
-use Rattle.std.proofs.Common.{◌≡◌, nat_lt, Bool, true, false, cond, Option, Some, None, IfSome, Result, Ok, sym, ap, subst, ◌∙◌}
-use Rattle.std.specs.List.{AllByRecursion}
+use Rattle.law_names.proofs.Runs.{most_size, size_of}
+use Rattle.law_names.proofs.Table.{AllByRecursion, Me, Reaction, State, Which, reaction}
 use Rattle.mon_core.specs.Core.{Monitor}
-use Rattle.mon_core.specs.Reacts.{IsReaction, SendsNamed}
+use Rattle.mon_core.specs.Reacts.{IsReaction}
 use Rattle.mon_core.specs.declared.reaction.Reaction as core
-use Rattle.mon_kv.specs.Readers.{most_size, size_of}
-use Rattle.mon_msg.specs.Protocol.Reaction.{Reaction, reaction}
-use Rattle.mon_msg.specs.Protocol.State.{State}
-use Rattle.mon_msg.specs.declared.view.Me.{Me}
-use Rattle.mon_node.specs.Nodes.{Serving}
-use Rattle.mon_node.specs.Serving.{of_input}
-use Rattle.mon_node.specs.Iterations.{Iteration, map_after, reaction_to}
-use Rattle.mon_node.specs.declared.hearing.TimedInput.{TimedInput}
-use Rattle.mon_types.specs.declared.names.Which.{Which}
-use Rattle.quorum_network.specs.AnyDisk.{AreNamed}
-use Rattle.quorum_network.specs.Network.{Kept, Lost, Until, Whole, kept_reaction}
+use Rattle.quorum_network.proofs.Names.{AreNamed, Iteration, Kept, Lost, SendsNamed, Serving, TimedInput, Until, Whole, kept_reaction, map_after, of_input, reaction_to}
+use Rattle.std.proofs.Common.{Bool, IfSome, None, Ok, Option, Result, Some, ap, cond, false, nat_lt, subst, sym, true, ◌∙◌, ◌≡◌}
 
 abbrev Named : Reaction → Type 0
 Named q = AllByRecursion SendsNamed q.sends

@@ -1,26 +1,15 @@
 -- The premise of the laws can be met. Processes may begin in any order, with numbers that their ranks didn't have
 -- before. A datagram that was sent may arrive at its receiver once, never, late or again. A process may be killed in
 -- each of its iterations.
-use Rattle.std.proofs.Common.{◌≡◌, ℕ, ◌≤◌, ◌^◌, zero, suc, eqb, Bool, true, false, cond, List, [], ◌∷◌, Option, Some, None, Ok, refl, sym, ap, subst, inl, inr, arith}
-use Rattle.std.proofs.lemmas.Bool.{eqb-true, eq-eqb}
-use Rattle.std.specs.FinMap.{empty}
-use Rattle.std.specs.List.{Contains}
-use Rattle.mon_link.specs.declared.link.Got.TheVariants.{Datagram, Idle}
-use Rattle.mon_link.specs.declared.link.Peer.{Peer}
-use Rattle.mon_link.specs.declared.link.Peer.TheVariants.{Monitor, Client}
-use Rattle.mon_msg.specs.Protocol.Timers.{due}
-use Rattle.mon_msg.specs.declared.view.Me.{Me}
-use Rattle.mon_node.specs.Hearing.{due_by}
-use Rattle.mon_node.specs.Iterations.{Iteration}
+use Rattle.law_names.proofs.Runs.{Monitors, me_of}
+use Rattle.law_names.proofs.Table.{Contains, Me, Member, Store, Timer, due, empty}
 use Rattle.mon_store.specs.Pair.{Create}
-use Rattle.mon_store.specs.StoreView.{StoreView, standing_of}
-use Rattle.mon_tx.specs.Map.{Store}
-use Rattle.mon_types.specs.declared.member.Member.{Member}
-use Rattle.mon_wire.specs.declared.phase.Timer.{Timer}
-use Rattle.quorum_model.specs.Monitors.{Monitors, me_of}
-use Rattle.quorum_network.specs.Lives.{lives_then}
-use Rattle.quorum_network.specs.Network.{AllMay, Begins, Doing, Down, IsAsked, IsNew, May, Network, Posted, Process, Step, Iterates, Until, Up, after_step, first_network, if_made, lives_after, made_by, map_of, network, iteration_of}
+use Rattle.mon_store.specs.StoreView.{standing_of}
 use Rattle.quorum_network.proofs.Assembled.{contains_cases, contains_first, contains_later}
+use Rattle.quorum_network.proofs.Names.{AllMay, Begins, Client, Datagram, Doing, Down, Idle, IsAsked, Iterates, Iteration, May, Monitor, Network, Peer, Posted, Process, Step, StoreView, Until, Up, after_step, due_by, first_network, if_made, iteration_of, lives_then, made_by, map_of, network}
+use Rattle.quorum_network.specs.Network.{IsNew, lives_after}
+use Rattle.std.proofs.Common.{Bool, List, None, Ok, Option, Some, [], ap, arith, cond, eqb, false, inl, inr, refl, subst, suc, sym, true, zero, ℕ, ◌^◌, ◌∷◌, ◌≡◌, ◌≤◌}
+use Rattle.std.proofs.lemmas.Bool.{eq-eqb, eqb-true}
 
 -- ---- a datagram
 

@@ -1,50 +1,23 @@
 -- Steps of processes that send no long message, by what the core does.
-use Rattle.std.proofs.Common.{◌≡◌, ℕ, ◌+◌, ◌^◌, ◌≤◌, eqb, nat_lt, leb, not, ◌&&◌, Bool, true, false, cond, List, [], ◌∷◌, ◌++◌, length, map, take, Option, Some, None, Result, Ok, Err, refl, sym, ap, subst, ◌∙◌, arith}
-use Rattle.std.proofs.lemmas.Bool.{eq-eqb, le-leb, le-ltb}
-use Rattle.std.specs.List.{AllByRecursion}
-use Rattle.std.specs.Option.{option_map}
+use Rattle.law_names.proofs.Runs.{Monitors, epoch, me_of, most_size, size_of}
+use Rattle.law_names.proofs.Table.{AllByRecursion, HasText, Input, Me, Message, MsgRefused, Reaction, Readings, Sent, State, Store, Timer, any_reaction, apply, due, react, reaction, readings_of, shared_entries}
+use Rattle.mon_bounds.specs.Fitting.{answer_in as reply_in}
 use Rattle.mon_decode.proofs.WholeLaws.{message_again}
 use Rattle.mon_frag.proofs.Standing.{short_taken}
 use Rattle.mon_frag.specs.Keeping.{Outcome}
-use Rattle.mon_frag.specs.Pieces.{pieces_of}
 use Rattle.mon_frag.specs.Whole as frag
-use Rattle.mon_frag.specs.Whole.{answer_in, kept_in}
-use Rattle.mon_bounds.specs.Fitting.{answer_in as reply_in}
-use Rattle.mon_kv.specs.Readers.{epoch, most_size, size_of}
-use Rattle.mon_link.specs.declared.link.Got.TheVariants.{Datagram, Idle}
-use Rattle.mon_link.specs.declared.link.Outgoing.{Outgoing}
-use Rattle.mon_link.specs.declared.link.Peer.TheVariants.{Client, Monitor}
-use Rattle.mon_msg.specs.Protocol.Reaction.{Reaction, any_reaction, reaction}
-use Rattle.mon_msg.specs.Protocol.Readings.{Readings, readings_of, shared_entries}
-use Rattle.mon_msg.specs.Protocol.State.{State}
-use Rattle.mon_msg.specs.Protocol.Table.{react}
-use Rattle.mon_msg.specs.Protocol.Timers.{due}
 use Rattle.mon_msg.specs.declared.input.Input.TheVariants as input
-use Rattle.mon_msg.specs.declared.input.Input.{Input}
 use Rattle.mon_msg.specs.declared.plan.Sent.TheVariants as sent
-use Rattle.mon_msg.specs.declared.plan.Sent.{Sent}
-use Rattle.mon_msg.specs.declared.view.Me.{Me}
 use Rattle.mon_node.proofs.Sending.{all_numbered}
-use Rattle.mon_node.specs.Hearing.{Given, Heard, at_time, due_by, heard_by, input_in, input_read, is_request, wait_until}
-use Rattle.mon_node.specs.Keeping.{kept}
-use Rattle.mon_node.specs.Nodes.{Serving}
-use Rattle.mon_node.specs.Posting.{boot_in, datagrams, letters, next_after, next_after_message, to_peer}
-use Rattle.mon_node.specs.Serving.{of_input, sends_of}
-use Rattle.mon_node.specs.Iterations.{Iteration, ended_iteration, map_after, numbered_by, reacted, iteration}
 use Rattle.mon_node.specs.declared.end.NodeEnd.TheVariants as end
-use Rattle.mon_node.specs.declared.hearing.TimedInput.{TimedInput}
-use Rattle.mon_store.specs.StoreView.{StoreView}
-use Rattle.mon_tx.specs.Map.{Store, apply}
 use Rattle.mon_types.specs.declared.names.Which.TheVariants as which
-use Rattle.mon_wire.specs.Message.Whole.{HasText, text}
-use Rattle.mon_wire.specs.declared.message.Message.{Message}
-use Rattle.mon_wire.specs.declared.refusal.MsgRefused.{MsgRefused}
-use Rattle.mon_wire.specs.declared.phase.Timer.{Timer}
-use Rattle.quorum_model.specs.Monitors.{Monitors, me_of}
-use Rattle.quorum_network.specs.Network.{Doing, Down, Kept, StepOutcome, Network, Posted, Process, Iterates, Until, Up, Whole, after_step, down, entered, if_made, outcome_of, made_by, number_of, posted, iteration_of, under, with_outcome}
+use Rattle.mon_wire.specs.Message.Whole.{text}
 use Rattle.quorum_network.proofs.Ends.{up_is}
+use Rattle.quorum_network.proofs.Names.{Client, Datagram, Doing, Down, Given, Heard, Idle, Iterates, Iteration, Kept, Monitor, Network, Outgoing, Posted, Process, Serving, StepOutcome, StoreView, TimedInput, Until, Up, Whole, after_step, answer_in, at_time, boot_in, datagrams, down, due_by, ended_iteration, entered, heard_by, if_made, input_in, input_read, is_request, iteration, iteration_of, kept, kept_in, letters, made_by, map_after, next_after, next_after_message, number_of, numbered_by, of_input, outcome_of, pieces_of, posted, reacted, sends_of, to_peer, under, wait_until, with_outcome}
 use Rattle.quorum_network.proofs.Played.{comes, idle}
 use Rattle.quorum_network.proofs.Steps.{kept_kv}
+use Rattle.std.proofs.Common.{Bool, Err, List, None, Ok, Option, Result, Some, [], ap, arith, cond, eqb, false, leb, length, map, nat_lt, not, option_map, refl, subst, sym, take, true, ℕ, ◌&&◌, ◌++◌, ◌+◌, ◌^◌, ◌∙◌, ◌∷◌, ◌≡◌, ◌≤◌}
+use Rattle.std.proofs.lemmas.Bool.{eq-eqb, le-leb, le-ltb}
 
 -- ---- short letters
 

@@ -1,36 +1,26 @@
 -- One log, of which all maps of a network are, now and later, and who leads.
-use Rattle.std.proofs.Common.{◌≡◌, ℕ, zero, suc, ◌<◌, List, [], ◌∷◌, ◌++◌, length-append, map, Option, Some, refl, sym, ap, subst, ◌∙◌, arith, true}
-use Rattle.std.proofs.lemmas.List.{get_or_append_left}
-use Rattle.std.specs.List.{AllByRecursion, Contains}
+use Rattle.law_names.proofs.Runs.{Acknowledged, AcknowledgedOnce, Acknowledgement, Agrees, AllFit, Asked, Event, IsAsked, IsKeptIn, Monitors, Ran, Safe, World, is_marked, last_of, me_of, run}
+use Rattle.law_names.proofs.Table.{AllByRecursion, Contains, State, Store, epoch_of, fold, readings_of}
+use Rattle.log_model.proofs.Lists.{of_all}
 use Rattle.log_model.proofs.Logs.{IsPrefixOf, entry_stays, fold_stays}
-use Rattle.mon_kv.specs.Readers.{is_marked}
-use Rattle.mon_msg.specs.Fold.{fold}
-use Rattle.mon_tx.specs.Map.{Store}
 use Rattle.quorum_agreement.proofs.Every.{agrees}
 use Rattle.quorum_agreement.proofs.SafeWorlds.{safe}
-use Rattle.log_model.proofs.Lists.{of_all}
-use Rattle.quorum_model.specs.Agree.{Agrees, IsAsked}
-use Rattle.quorum_model.specs.Events.{AllFit}
-use Rattle.quorum_model.specs.Growth.{last_of}
-use Rattle.quorum_model.specs.Kept.{AcknowledgedOnce, IsKeptIn, LeaderHas}
-use Rattle.quorum_model.specs.Monitors.{Monitors, me_of}
-use Rattle.quorum_network.specs.Requests.{Leadership, acknowledgements, leaderships, led_at, requests}
-use Rattle.quorum_model.specs.Safe.{OneActive, Safe}
-use Rattle.mon_msg.specs.Protocol.Readings.{epoch_of, readings_of}
-use Rattle.quorum_model.specs.Runs.{Ran, run}
-use Rattle.quorum_model.specs.World.{Acknowledged, Acknowledgement, Asked, Event, World}
-use Rattle.quorum_network.specs.Network.{AllMay, Down, Network, Process, Step, Up, map_of, may_before, network, state_of}
-use Rattle.quorum_network.specs.Promises.{AgreeWith, IsKeptBy, IsLogOf, Leads}
-use Rattle.quorum_network.specs.Running.{IsOfRun}
+use Rattle.quorum_model.specs.Kept.{LeaderHas}
+use Rattle.quorum_model.specs.Safe.{OneActive}
 use Rattle.quorum_network.proofs.Adding.{given, noted_as}
 use Rattle.quorum_network.proofs.Assembled.{assembly}
 use Rattle.quorum_network.proofs.Going.{goes_on, grown_log}
-use Rattle.quorum_network.proofs.Letters.{AreLetters, Letter}
 use Rattle.quorum_network.proofs.Leading.{IsNoted, noted}
+use Rattle.quorum_network.proofs.Letters.{AreLetters, Letter}
+use Rattle.quorum_network.proofs.Names.{AllMay, Down, IsLogOf, Leadership, Network, Process, Step, Up, acknowledgements, leaderships, led_at, map_of, may_before, network, requests}
 use Rattle.quorum_network.proofs.Whole.{Stands, asked_among, facts, of_run, stands}
+use Rattle.quorum_network.specs.Network.{state_of}
+use Rattle.quorum_network.specs.Promises.{AgreeWith, IsKeptBy, Leads}
+use Rattle.quorum_network.specs.Running.{IsOfRun}
 use Rattle.quorum_walk.proofs.Lists.{all_map}
-use Rattle.mon_msg.specs.Protocol.State.{State}
+use Rattle.std.proofs.Common.{List, Option, Some, [], ap, arith, length-append, map, refl, subst, suc, sym, true, zero, ℕ, ◌++◌, ◌<◌, ◌∙◌, ◌∷◌, ◌≡◌}
 use Rattle.std.proofs.lemmas.List.Elements.{Contains-append_left}
+use Rattle.std.proofs.lemmas.List.{get_or_append_left}
 
 -- ---- what a run says of its log
 

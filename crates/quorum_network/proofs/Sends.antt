@@ -1,40 +1,21 @@
 -- What a reaction sends: letters that say its messages and replies.
-use Rattle.std.proofs.Common.{◌≡◌, ℕ, zero, suc, ◌+◌, ◌^◌, ◌≤◌, ltb, Bool, true, false, cond, List, [], ◌∷◌, ◌++◌, length, map, take, Some, None, refl, ap, subst, ◌∙◌, arith}
-use Rattle.std.proofs.lemmas.Bool.{ltb-false}
-use Rattle.std.proofs.lemmas.List.Elements.{Contains-append_left, Contains-append_right}
-use Rattle.std.specs.List.{AllByRecursion, Contains}
-use Rattle.std.specs.Option.{option_map, unwrap_or}
+use Rattle.law_names.proofs.Runs.{Envelope, Replied, epoch, last_of, messages_of, replies_of}
+use Rattle.law_names.proofs.Table.{AllByRecursion, Cell, Contains, HasText, Me, Message, Reply, Sent, Session, Store, cell, epoch_of, epoch_or_first, number_if_there, number_in, readings_of}
 use Rattle.mon_bounds.proofs.Texts.{has_text}
 use Rattle.mon_bounds.specs.Fitting.{MaySend, answer_in}
 use Rattle.mon_bounds.specs.Remembered.{IsNumber}
 use Rattle.mon_bytes.specs.declared.limits.TheConstants.{MOST_MESSAGE}
-use Rattle.mon_core.specs.Reacts.{SendsNamed}
-use Rattle.mon_frag.specs.Headers.{is_piece}
-use Rattle.mon_kv.specs.Readers.{epoch}
-use Rattle.mon_link.specs.declared.link.Outgoing.{Outgoing}
-use Rattle.mon_link.specs.declared.link.Peer.{Peer}
-use Rattle.mon_link.specs.declared.link.Peer.TheVariants.{Monitor, Client}
-use Rattle.mon_msg.specs.Protocol.Readings.{readings_of, epoch_of, epoch_or_first, number_if_there}
 use Rattle.mon_msg.specs.declared.plan.Sent.TheVariants as sent
-use Rattle.mon_msg.specs.declared.plan.Sent.{Sent}
-use Rattle.mon_msg.specs.declared.view.Me.{Me}
-use Rattle.mon_node.specs.Posting.{letters, next_after_message, next_after, with_number}
-use Rattle.mon_tx.specs.Decision.{Cell}
-use Rattle.mon_tx.specs.Keys.{cell}
-use Rattle.mon_tx.specs.Map.{Store, number_in}
 use Rattle.mon_tx.specs.declared.key.Area.TheVariants as area
 use Rattle.mon_tx.specs.declared.key.Key.TheVariants as key
-use Rattle.mon_wire.specs.Message.Whole.{text, HasText}
+use Rattle.mon_wire.specs.Message.Whole.{text}
 use Rattle.mon_wire.specs.declared.body.Body.TheVariants as body
-use Rattle.mon_wire.specs.declared.message.Message.{Message}
-use Rattle.mon_wire.specs.declared.reply.Reply.{Reply}
-use Rattle.mon_wire.specs.declared.request.Session.{Session}
-use Rattle.quorum_model.specs.Clients.{messages_of, replies_of}
-use Rattle.quorum_model.specs.Growth.{last_of}
-use Rattle.quorum_model.specs.World.{Envelope, Replied}
-use Rattle.quorum_network.specs.Network.{Posted, posted}
 use Rattle.quorum_network.proofs.Invariant.{Says}
-use Rattle.quorum_network.proofs.Letters.{Letter, labelled, IsPosted}
+use Rattle.quorum_network.proofs.Letters.{IsPosted, Letter, labelled}
+use Rattle.quorum_network.proofs.Names.{Client, Monitor, Outgoing, Peer, Posted, SendsNamed, is_piece, letters, next_after, next_after_message, posted, with_number}
+use Rattle.std.proofs.Common.{Bool, List, None, Some, [], ap, arith, cond, false, length, ltb, map, option_map, refl, subst, suc, take, true, unwrap_or, zero, ℕ, ◌++◌, ◌+◌, ◌^◌, ◌∙◌, ◌∷◌, ◌≡◌, ◌≤◌}
+use Rattle.std.proofs.lemmas.Bool.{ltb-false}
+use Rattle.std.proofs.lemmas.List.Elements.{Contains-append_left, Contains-append_right}
 
 -- ---- more messages and replies
 

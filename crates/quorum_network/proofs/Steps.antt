@@ -1,60 +1,30 @@
 -- Each step of a network keeps what holds, with at most one event.
-use Rattle.std.proofs.Common.{◌∷◌, ◌≡◌, ℕ, ◌+◌, ◌^◌, ◌<◌, ◌≤◌, nat_lt, eqb, Bool, true, false, cond, List, [], ◌++◌, take, Option, Some, None, Result, Ok, Err, refl, sym, ap, subst, ◌∙◌, arith}
-use Rattle.std.proofs.lemmas.Bool.{eqb-true, eq-eqb, ltb-false}
-use Rattle.std.specs.List.{AllByRecursion, Contains}
+use Rattle.law_names.proofs.Runs.{Acknowledgement, Arrival, Asked, Client, Crash, Deliver, Envelope, Monitors, Plain, PlainFits, Ring, Start, World, after_meeting, arrival, lost, me_of, message_at, most_size, moved, put_at, size_of, state_at, with_asked}
+use Rattle.law_names.proofs.Table.{AllByRecursion, Contains, Input, Me, Op, Reaction, State, Store, Which, apply, booting, due, reaction}
 use Rattle.mon_bounds.proofs.Table.{boot_ok}
-use Rattle.mon_bounds.specs.Fitting.{IsValidInput}
-use Rattle.mon_bounds.specs.Remembered.{MayRemember}
 use Rattle.mon_frag.proofs.Lists.{all_append}
-use Rattle.mon_kv.specs.Readers.{size_of, most_size}
-use Rattle.mon_link.specs.Clocks.{Readings}
-use Rattle.mon_link.specs.Links.{Observed}
-use Rattle.mon_link.specs.declared.link.Outgoing.{Outgoing}
-use Rattle.mon_msg.specs.Protocol.Reaction.{Reaction, reaction}
-use Rattle.mon_msg.specs.Protocol.State.{State, booting}
-use Rattle.mon_msg.specs.Protocol.Timers.{due}
 use Rattle.mon_msg.specs.declared.input.Input.TheVariants as input
-use Rattle.mon_msg.specs.declared.input.Input.{Input}
-use Rattle.std.proofs.lemmas.List.{append-nil}
-use Rattle.std.specs.Option.{option_map}
-use Rattle.quorum_model.specs.Clients.{with_asked}
-use Rattle.quorum_network.specs.Requests.{Leadership, acknowledged_at, acknowledged_by, acknowledged_in_iteration, asked_by, asked_in_iteration, asks_in, requests_in, kept_by, led_at, led_by, led_in_iteration}
-use Rattle.mon_msg.specs.declared.view.Me.{Me}
-use Rattle.mon_node.specs.Hearing.{Given, due_by, wait_until, clock_read, heard, Heard}
-use Rattle.mon_node.specs.Keeping.{kept}
-use Rattle.mon_node.specs.Nodes.{Node, Serving, unstarted}
 use Rattle.mon_node.proofs.Sending.{all_numbered as numbers_found}
-use Rattle.mon_node.specs.Posting.{letters, datagrams, next_after, with_number, boot_in}
-use Rattle.mon_node.specs.Serving.{of_input, sends_of}
-use Rattle.mon_node.specs.Iterations.{Iteration, map_after, sent_by, numbered_by, next_number, done, reaction_to, reacted, ended_iteration, iteration, start}
-use Rattle.mon_node.specs.declared.end.NodeEnd.{NodeEnd}
 use Rattle.mon_node.specs.declared.end.NodeEnd.TheVariants as end
-use Rattle.mon_node.specs.declared.hearing.TimedInput.{TimedInput}
 use Rattle.mon_store.specs.Calls.{journal_after}
 use Rattle.mon_store.specs.Sound.{is_due, next_journal}
 use Rattle.mon_types.specs.Sides.{other as other_side}
-use Rattle.mon_store.specs.StoreView.{StoreView}
-use Rattle.mon_tx.specs.Map.{Store, apply}
-use Rattle.mon_tx.specs.declared.op.Op.{Op}
-use Rattle.mon_types.specs.declared.names.Which.{Which}
 use Rattle.mon_types.specs.declared.names.Which.TheVariants as which
-use Rattle.quorum_model.specs.Events.{PlainFits}
-use Rattle.quorum_model.specs.Happens.{after_meeting, lost, moved}
-use Rattle.quorum_model.specs.Meets.{Arrival, arrival, message_at, state_at}
-use Rattle.quorum_model.specs.Monitors.{Monitors, me_of}
-use Rattle.quorum_model.specs.World.{Acknowledgement, Asked, Client, Crash, Deliver, Envelope, Plain, Ring, Start, World}
-use Rattle.quorum_network.specs.Network.{Network, Process, Up, Down, map_of, Doing, Begins, Iterates, Until, Whole, Lost, Kept, Step, StepOutcome, iteration_of, kept_reaction, down, at_end, outcome_of, with_outcome, if_made, made_by, after_step, IsAsked, May, newest, number_of}
-use Rattle.quorum_model.specs.Happens.{put_at}
 use Rattle.quorum_network.proofs.Acts.{Act, act_at, act_by, act_in, act_in_iteration}
 use Rattle.quorum_network.proofs.Assembled.{contains_first, contains_later}
 use Rattle.quorum_network.proofs.Assembling.{Assembly}
 use Rattle.quorum_network.proofs.Events.{IsMe, known, meets_it}
 use Rattle.quorum_network.proofs.Facts.{Facts, Reach}
 use Rattle.quorum_network.proofs.Inputs.{CameFine, HeardFine, heard_fine}
-use Rattle.quorum_network.proofs.Invariant.{IsAlive, IsUp, IfUp, Mine, Inv, Next, Still, Moved}
-use Rattle.quorum_network.proofs.Kept.{moves, next_now, bounded, new}
-use Rattle.quorum_network.proofs.Letters.{Letter, IsLong, IsPosted}
+use Rattle.quorum_network.proofs.Invariant.{IfUp, Inv, IsAlive, IsUp, Mine, Moved, Next, Still}
+use Rattle.quorum_network.proofs.Kept.{bounded, moves, new, next_now}
+use Rattle.quorum_network.proofs.Letters.{IsLong, IsPosted, Letter}
+use Rattle.quorum_network.proofs.Names.{Begins, Doing, Down, Given, Heard, IsAsked, IsValidInput, Iterates, Iteration, Kept, Leadership, Lost, May, MayRemember, Network, Node, NodeEnd, Observed, Outgoing, Process, Readings, Serving, Step, StepOutcome, StoreView, TimedInput, Until, Up, Whole, acknowledged_at, after_step, asked_by, at_end, boot_in, clock_read, datagrams, done, down, due_by, ended_iteration, heard, if_made, iteration, iteration_of, kept, kept_by, kept_reaction, led_at, letters, made_by, map_after, map_of, newest, next_after, next_number, number_of, numbered_by, of_input, outcome_of, reacted, reaction_to, sends_of, sent_by, start, unstarted, wait_until, with_number, with_outcome}
 use Rattle.quorum_network.proofs.Sends.{IsOwn, all_with_number, numbers_within, posted_front}
+use Rattle.quorum_network.specs.Requests.{acknowledged_by, acknowledged_in_iteration, asked_in_iteration, asks_in, led_by, led_in_iteration, requests_in}
+use Rattle.std.proofs.Common.{Bool, Err, List, None, Ok, Option, Result, Some, [], ap, arith, cond, eqb, false, nat_lt, option_map, refl, subst, sym, take, true, ℕ, ◌++◌, ◌+◌, ◌<◌, ◌^◌, ◌∙◌, ◌∷◌, ◌≡◌, ◌≤◌}
+use Rattle.std.proofs.lemmas.Bool.{eq-eqb, eqb-true, ltb-false}
+use Rattle.std.proofs.lemmas.List.{append-nil}
 
 pub kept_kv : (ops : List Op) (s : StoreView) → (kept ops s).kv ≡ apply ops s.kv
 kept_kv ops s = by (is_due (journal_after s.journal ops) (apply ops s.kv))

@@ -1,39 +1,29 @@
 -- A life as `serve` promises it, with the disks that `Store::open` opens after it, is made of steps of a network.
-use Rattle.std.proofs.Common.{◌≡◌, ◌⊎◌, ℕ, Bool, true, false, cond, eqb, ◌&&◌, take, map, List, [], ◌∷◌, ◌++◌, Option, Result, Ok, Err, refl, sym, ap, subst, ◌∙◌, inl, inr, arith}
-use Rattle.std.specs.FinMap.{empty}
+use Rattle.law_names.proofs.Table.{Me, Member, Store, empty}
 use Rattle.mon_bytes.specs.Answers.{◌>>=◌}
 use Rattle.mon_disk.specs.Images.{Content}
 use Rattle.mon_journal.specs.Content.{content}
 use Rattle.mon_journal.specs.Fields.{Owner}
 use Rattle.mon_journal.specs.Written.{owner_of}
-use Rattle.mon_link.specs.Clocks.{Readings}
-use Rattle.mon_link.specs.Histories.{sent}
-use Rattle.mon_link.specs.Links.{Observed}
-use Rattle.mon_link.specs.declared.link.Outgoing.{Outgoing}
-use Rattle.mon_msg.specs.declared.view.Me.{Me}
-use Rattle.mon_node.specs.Hearing.{Given}
-use Rattle.mon_node.specs.Lasting.{RemainsAfter, IsWithinIteration, On, store_view_kept}
-use Rattle.mon_node.specs.Nodes.{Serving, unstarted}
-use Rattle.mon_node.specs.Posting.{SendsPrefix}
-use Rattle.mon_node.specs.Sends.{AreFirstSent, AreSent, Send, outgoing_of}
-use Rattle.mon_node.specs.Serving.{EndsAfter, Has, Serves, sends_of}
-use Rattle.mon_node.specs.Talking.{AllSent, AllSentBefore, Said, SentAfter, happened}
-use Rattle.mon_node.specs.Iterations.{Iteration, ended_iteration, last_iteration}
-use Rattle.mon_node.specs.declared.end.NodeEnd.TheVariants as end
-use Rattle.mon_node.specs.declared.end.NodeEnd.{NodeEnd}
 use Rattle.mon_node.proofs.Passing.{store_view_then}
 use Rattle.mon_node.proofs.Talking.{last_of}
-use Rattle.mon_store.specs.Times.{EachPair, WhileOpening}
+use Rattle.mon_node.specs.Iterations.{last_iteration}
+use Rattle.mon_node.specs.Lasting.{IsWithinIteration, On, RemainsAfter, store_view_kept}
+use Rattle.mon_node.specs.Posting.{SendsPrefix}
+use Rattle.mon_node.specs.Sends.{AreFirstSent, AreSent, Send, outgoing_of}
+use Rattle.mon_node.specs.Serving.{EndsAfter, Serves}
+use Rattle.mon_node.specs.Talking.{AllSent, AllSentBefore, Said, SentAfter, happened}
+use Rattle.mon_node.specs.declared.end.NodeEnd.TheVariants as end
+use Rattle.mon_store.proofs.OnPairs.{store_view_map}
 use Rattle.mon_store.specs.Opening.{Alike}
 use Rattle.mon_store.specs.Pair.{Create, Found, Live, Refusal, found, map_found, opened, owned, stands, taken}
-use Rattle.mon_store.proofs.OnPairs.{store_view_map}
-use Rattle.mon_store.specs.StoreView.{StoreView, opens_as, standing_of}
-use Rattle.mon_tx.specs.Map.{Store}
-use Rattle.mon_types.specs.declared.member.Member.{Member}
-use Rattle.quorum_network.specs.Lives.{IsOutcomeOf, IsLife, IsLifeThatSends, IsSent, LeavesKept, OpensWith, alone, life}
-use Rattle.quorum_network.specs.Network.{Kept, StepOutcome, Lost, Step, Until, Whole, outcome_of, map_of, under}
+use Rattle.mon_store.specs.StoreView.{opens_as, standing_of}
+use Rattle.mon_store.specs.Times.{EachPair, WhileOpening}
 use Rattle.quorum_network.proofs.Ends.{cut_sends, ended_link, kept_map, up_is, within_is}
 use Rattle.quorum_network.proofs.Lives.{last_is, sent_both, sent_nothing, sent_now}
+use Rattle.quorum_network.proofs.Names.{Given, Has, Iteration, Kept, Lost, NodeEnd, Observed, Outgoing, Readings, Serving, Step, StepOutcome, StoreView, Until, Whole, alone, ended_iteration, life, map_of, outcome_of, sends_of, sent, under, unstarted}
+use Rattle.quorum_network.specs.Lives.{IsLife, IsLifeThatSends, IsOutcomeOf, IsSent, LeavesKept, OpensWith}
+use Rattle.std.proofs.Common.{Bool, Err, List, Ok, Option, Result, [], ap, arith, cond, eqb, false, inl, inr, map, refl, subst, sym, take, true, ℕ, ◌&&◌, ◌++◌, ◌∙◌, ◌∷◌, ◌≡◌, ◌⊎◌}
 
 -- ---- an opened store
 

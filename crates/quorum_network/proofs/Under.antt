@@ -1,15 +1,10 @@
 -- Datagrams of letters that are renumbered are the datagrams of these letters with the other number.
-use Rattle.std.proofs.Common.{◌≡◌, ℕ, List, [], ◌∷◌, ◌++◌, length, map, refl, ap, ◌∙◌}
-use Rattle.std.proofs.lemmas.List.{map-append}
-use Rattle.std.specs.List.{AllByRecursion}
-use Rattle.mon_frag.specs.Pieces.{pieces_of}
-use Rattle.mon_link.specs.declared.link.Outgoing.{Outgoing}
-use Rattle.mon_link.specs.declared.link.Peer.{Peer}
+use Rattle.law_names.proofs.Table.{AllByRecursion}
 use Rattle.mon_name.proofs.Numbers.{renumbered_pieces}
-use Rattle.mon_name.specs.Numbers.{renumbered}
-use Rattle.mon_node.specs.Posting.{to_peer, next_after_message, datagrams_of, datagrams}
-use Rattle.quorum_network.specs.Network.{Posted, posted, under}
+use Rattle.quorum_network.proofs.Names.{Outgoing, Peer, Posted, datagrams, datagrams_of, next_after_message, pieces_of, posted, renumbered, to_peer, under}
 use Rattle.quorum_network.proofs.Sends.{IsCuttable}
+use Rattle.std.proofs.Common.{List, [], ap, length, map, refl, ℕ, ◌++◌, ◌∙◌, ◌∷◌, ◌≡◌}
+use Rattle.std.proofs.lemmas.List.{map-append}
 
 to_same : (life : ℕ) (to : Peer) (ps : List (List ℕ)) → map (under life) (map (to_peer to) ps) ≡ map (to_peer to) (map (renumbered life) ps)
 to_same life to [] = refl

@@ -1,32 +1,23 @@
 -- Every list of steps makes a network that does what a run does.
-use Rattle.std.proofs.lemmas.List.{append-nil}
-use Rattle.std.proofs.Common.{◌≡◌, ℕ, suc, ◌≤◌, List, [], ◌∷◌, ◌++◌, map, Option, refl, sym, ap, subst, ◌∙◌, arith}
-use Rattle.std.specs.List.{AllByRecursion, Contains}
+use Rattle.law_names.proofs.Runs.{Acknowledged, Acknowledgement, Asked, Event, Monitors, PlainFits, Ran, Replied, World, first_world, happens, me_of, plain_of, ran_from, run}
+use Rattle.law_names.proofs.Table.{AllByRecursion, Contains}
 use Rattle.mon_frag.proofs.Lists.{all_append}
-use Rattle.mon_link.specs.declared.link.Peer.{Peer}
-use Rattle.mon_link.specs.declared.link.Peer.TheVariants.{Monitor, Client}
 use Rattle.quorum_agreement.proofs.SafeWorlds.{safe}
-use Rattle.mon_frag.specs.Pieces.{pieces_of}
-use Rattle.std.specs.Prelude.{Ok}
-use Rattle.quorum_model.specs.Happens.{happens}
-use Rattle.quorum_model.specs.Events.{PlainFits}
-use Rattle.quorum_model.specs.Monitors.{Monitors, me_of}
-use Rattle.quorum_network.specs.Requests.{Leadership, acknowledged_at, acknowledgements, asked_by, leaderships, led_at, requests}
-use Rattle.quorum_model.specs.Runs.{Ran, run, ran_from}
-use Rattle.quorum_model.specs.World.{Acknowledged, Asked, Replied, World, Event, first_world, plain_of, Acknowledgement}
-use Rattle.quorum_network.specs.Network.{Network, Step, AllMay, Posted, network, first_network, after_step, number_of}
-use Rattle.quorum_network.specs.Running.{IsOfRun, IsSentInRun, DoesARun}
 use Rattle.quorum_network.proofs.Acts.{Act}
 use Rattle.quorum_network.proofs.Adding.{Adds, IsAt, IsBy, IsRepliedAt, IsRepliedBy, given, noted_as}
 use Rattle.quorum_network.proofs.Assembled.{all_self, all_through, assembly}
 use Rattle.quorum_network.proofs.Assembling.{Assembly}
-use Rattle.quorum_network.proofs.Senders.{running_own, started_own}
-use Rattle.quorum_network.proofs.Named.{named}
 use Rattle.quorum_network.proofs.Events.{ran_more}
 use Rattle.quorum_network.proofs.Facts.{Facts, Reach}
-use Rattle.quorum_network.proofs.Invariant.{Says, IfUp, Inv, Next, Still, Moved}
-use Rattle.quorum_network.proofs.Letters.{Letter, IsPosted}
+use Rattle.quorum_network.proofs.Invariant.{IfUp, Inv, Moved, Next, Says, Still}
+use Rattle.quorum_network.proofs.Letters.{IsPosted, Letter}
+use Rattle.quorum_network.proofs.Named.{named}
+use Rattle.quorum_network.proofs.Names.{AllMay, Client, Leadership, Monitor, Network, Peer, Posted, Step, acknowledged_at, acknowledgements, after_step, asked_by, first_network, leaderships, led_at, network, number_of, pieces_of, requests}
+use Rattle.quorum_network.proofs.Senders.{running_own, started_own}
 use Rattle.quorum_network.proofs.Steps.{step_next}
+use Rattle.quorum_network.specs.Running.{DoesARun, IsOfRun, IsSentInRun}
+use Rattle.std.proofs.Common.{List, Ok, Option, [], ap, arith, map, refl, subst, suc, sym, ℕ, ◌++◌, ◌∙◌, ◌∷◌, ◌≡◌, ◌≤◌}
+use Rattle.std.proofs.lemmas.List.{append-nil}
 
 pub record Stands (A : Assembly) (ms : Monitors) (asks : List Asked) (acks : List Acknowledgement) (leads : List Leadership) (net : Network) : Type 0 where
   pub w : World

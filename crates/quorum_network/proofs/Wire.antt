@@ -1,18 +1,14 @@
 -- A datagram from the wire that is handed on as a monitor's was sent by that monitor to this one.
-use Rattle.std.proofs.Common.{◌≡◌, ℕ, ◌<◌, ◌^◌, eqb, Bool, true, false, cond, List, ◌∷◌, Option, None, Result, Ok, Err, refl, sym, ap, subst, ◌∙◌, inl, inr}
-use Rattle.std.proofs.lemmas.Bool.{eqb-true}
+use Rattle.law_names.proofs.Table.{Stop}
 use Rattle.mon_bytes.proofs.Fields.{byte_found}
 use Rattle.mon_bytes.specs.Reading.{number}
-use Rattle.mon_link.specs.declared.link.Got.{Got}
-use Rattle.mon_link.specs.declared.link.Got.TheVariants.{Datagram, Idle, Closed}
-use Rattle.mon_link.specs.declared.link.Peer.{Peer}
-use Rattle.mon_link.specs.declared.link.Peer.TheVariants.{Monitor, Client}
-use Rattle.mon_types.specs.declared.names.Stop.{Stop}
 use Rattle.mon_name.proofs.Frames.{comes_off}
 use Rattle.mon_name.specs.Frames.{of_mark, of_tag, unframed}
 use Rattle.mon_name.specs.Naming.{HandsOn, if_framed, taken_off, without_frame}
-use Rattle.quorum_network.specs.Network.{Network, IsAnswer}
+use Rattle.quorum_network.proofs.Names.{Client, Closed, Datagram, Got, Idle, IsAnswer, Monitor, Network, Peer}
 use Rattle.quorum_network.specs.Wire.{CameOver, IsOverWire}
+use Rattle.std.proofs.Common.{Bool, Err, List, None, Ok, Option, Result, ap, cond, eqb, false, inl, inr, refl, subst, sym, true, ℕ, ◌<◌, ◌^◌, ◌∙◌, ◌∷◌, ◌≡◌}
+use Rattle.std.proofs.lemmas.Bool.{eqb-true}
 
 module _ (tag : ℕ) (lt : tag < 2 ^ 64) (net : Network) (i : ℕ) where
   taken : (from : Peer) (bytes : List ℕ) → CameOver tag net i from bytes → IsAnswer net i (Ok (taken_off tag from bytes))

@@ -1,7 +1,9 @@
 -- The value of a command that is asked becomes the next version of the log.
+use Rattle.law_names.proofs.Runs.{AllValues, Asked, IsAsked, IsCommand, IsValue, Keeps, RequestFits, command_of, log_from, request_of, view_at, within}
+use Rattle.law_names.proofs.Table.{Command, Learn, Op, Readings, Service, Session, Store, apply_op, entry, incrementals, play, put_number, readings_of, service_last, service_of, text, value}
 use Rattle.log_copies.proofs.Growing as growing
-use Rattle.log_copies.proofs.Sending.{keeps_noted}
 use Rattle.log_copies.proofs.Matching.{monitor_keeps, read_last}
+use Rattle.log_copies.proofs.Sending.{keeps_noted}
 use Rattle.log_copies.specs.Versions.{HasVersions}
 use Rattle.log_model.proofs.Committed.{holds, texts, value_told}
 use Rattle.log_model.proofs.Lists.{length_push}
@@ -11,31 +13,11 @@ use Rattle.log_model.proofs.Records.{IsVersion}
 use Rattle.log_model.proofs.RowReadings as rows
 use Rattle.log_model.proofs.RuleCells.{log_high}
 use Rattle.log_model.proofs.Windows.{row_of}
-use Rattle.log_model.specs.LogOfValues.{AllValues, IsCommand, IsValue, view_at}
-use Rattle.log_model.specs.Windows.{Keeps, log_from, within}
-use Rattle.mon_bytes.specs.declared.command.Command.{Command}
 use Rattle.mon_bytes.specs.declared.command.Command.TheVariants as command
-use Rattle.mon_msg.specs.Fold.{entry, incrementals}
-use Rattle.mon_msg.specs.Protocol.Changes.{Learn}
-use Rattle.mon_msg.specs.Protocol.Played.{play}
-use Rattle.mon_msg.specs.Protocol.Readings.{Readings, readings_of}
-use Rattle.mon_msg.specs.Protocol.Services.{service_last}
-use Rattle.mon_msg.specs.Protocol.Value.{service_of, value}
-use Rattle.mon_msg.specs.Puts.{put_number}
-use Rattle.mon_tx.specs.Map.{Store, apply_op}
-use Rattle.mon_tx.specs.Text.{text}
 use Rattle.mon_tx.specs.declared.key.Area.TheVariants as area
 use Rattle.mon_tx.specs.declared.key.Key.TheVariants as key
-use Rattle.mon_tx.specs.declared.op.Op.{Op}
-use Rattle.mon_wire.specs.declared.request.Service.{Service}
-use Rattle.mon_wire.specs.declared.request.Session.{Session}
 use Rattle.quorum_agreement.proofs.Made.{keeps_stay}
 use Rattle.quorum_laws.proofs.Values.{made}
-use Rattle.quorum_model.specs.Agree.{IsAsked}
-use Rattle.quorum_model.specs.CalmSchedule.{request_of}
-use Rattle.quorum_model.specs.Clients.{command_of}
-use Rattle.quorum_model.specs.Events.{RequestFits}
-use Rattle.quorum_model.specs.World.{Asked}
 use Rattle.quorum_walk.proofs.FineCourses.{Val}
 use Rattle.std.proofs.Common.{List, None, Ok, Some, [], ap, arith, cond, length, refl, subst, suc, sym, ℕ, ◌++◌, ◌<◌, ◌^◌, ◌∙◌, ◌∷◌, ◌≡◌, ◌≤◌}
 use Rattle.std.proofs.lemmas.Bool.{le-leb, lt-ltb}

@@ -1,37 +1,12 @@
 -- The rows by which a leader asks what was accepted, if no member lacks more than one version.
-use Rattle.mon_bytes.specs.declared.entry.Entry.{Entry}
-use Rattle.mon_msg.specs.Protocol.Answers.{last_answer}
-use Rattle.mon_msg.specs.Protocol.Changes.{Last, Learn, Numbers, Promise, Vote}
-use Rattle.mon_msg.specs.Protocol.Collecting.{begin_found, collect, collect_with, commits_to, commits_with, missed, settle}
-use Rattle.mon_msg.specs.Protocol.Course.{Course, change, change_if, ◌>>=◌}
-use Rattle.mon_msg.specs.Protocol.Found.{better, counts}
-use Rattle.mon_msg.specs.Protocol.Leader.{all_answered, hear_whole, note, note_answer, note_pending}
-use Rattle.mon_msg.specs.Protocol.Leading.{be_active, begin_with, extend, is_alone}
-use Rattle.mon_msg.specs.Protocol.Learning.{learn, news_from}
-use Rattle.mon_msg.specs.Protocol.Length.{fits}
-use Rattle.mon_msg.specs.Protocol.Peon.{cancel}
-use Rattle.mon_msg.specs.Protocol.Played.{play}
-use Rattle.mon_msg.specs.Protocol.Readings.{Readings, epoch_of, epoch_or_first, or_zero, promise_of}
-use Rattle.mon_msg.specs.Protocol.Records.{most_value, record_at}
-use Rattle.mon_msg.specs.Protocol.Sending.{members, message_to}
-use Rattle.mon_msg.specs.Protocol.Sets.{are_within, only}
-use Rattle.mon_msg.specs.Protocol.State.{State}
-use Rattle.mon_msg.specs.Protocol.Table.{at_rest, react}
+use Rattle.law_names.proofs.Runs.{Monitors}
+use Rattle.law_names.proofs.Table.{Body, Course, Entry, Found, Last, Learn, Me, Numbers, Op, Promise, Readings, Sent, State, Told, Vote, Which, all_answered, are_within, at_rest, be_active, begin_found, begin_with, better, cancel, change, change_if, collect, collect_with, commits_to, commits_with, counts, epoch_of, epoch_or_first, extend, fits, flat_map, has, hear_whole, is_alone, last_answer, learn, members, message_to, missed, most_value, news_from, next_number, note, note_pending, only, or_zero, play, promise_of, react, record_at, settle, text, with_rank, ◌>>=◌}
+use Rattle.mon_msg.specs.Protocol.Leader.{note_answer}
 use Rattle.mon_msg.specs.declared.input.Input.TheVariants as input
-use Rattle.mon_msg.specs.declared.paxos.Found.{Found}
 use Rattle.mon_msg.specs.declared.paxos.LeaderStage.TheVariants as stage
-use Rattle.mon_msg.specs.declared.plan.Sent.{Sent}
 use Rattle.mon_msg.specs.declared.plan.Sent.TheVariants as send
-use Rattle.mon_msg.specs.declared.view.Me.{Me}
-use Rattle.mon_tx.specs.Text.{text}
-use Rattle.mon_tx.specs.declared.op.Op.{Op}
-use Rattle.mon_types.specs.Proposal.{next_number}
-use Rattle.mon_types.specs.Ranks.{has, with_rank}
 use Rattle.mon_types.specs.declared.names.Which.TheVariants as which
-use Rattle.mon_types.specs.declared.names.Which.{Which}
-use Rattle.mon_wire.specs.declared.body.Body.{Body}
 use Rattle.mon_wire.specs.declared.body.Body.TheVariants as body
-use Rattle.mon_wire.specs.declared.parts.Told.{Told}
 use Rattle.mon_wire.specs.declared.phase.Phase.TheVariants as phase
 use Rattle.quorum_elects.proofs.Moving.{Sound}
 use Rattle.quorum_elects.proofs.Ranks.{same_or_not}
@@ -41,21 +16,18 @@ use Rattle.quorum_elects.proofs.Tests.{and_false}
 use Rattle.quorum_elects.proofs.Values.{FoundShort, pending_short}
 use Rattle.quorum_elects.proofs.Walking.{Surely, and_then, both, by_test, done, so, weaken, where_fits}
 use Rattle.quorum_model.proofs.Members.{member_of}
-use Rattle.quorum_model.specs.Monitors.{Monitors}
 use Rattle.quorum_recovers.proofs.LastAnswers.{IsAnswer, ToldShort, answer_is, better_short, counts_short}
 use Rattle.quorum_recovers.proofs.States.{IsActive, IsAsking, IsHearing, IsProposing, among_flat, asks_of, follows, get_other, get_set, lease_given, missed_one}
 use Rattle.quorum_walk.proofs.FineCourses.{Val}
 use Rattle.quorum_walk.proofs.Lists.{Among, among_left, among_right}
 use Rattle.quorum_walk.proofs.Ranks.{has_only_is, has_with_is, within_at}
 use Rattle.quorum_walk.proofs.Sparing.{Own, Spares, learned_own, own_of}
+use Rattle.std.proofs.Common.{Bool, List, None, Ok, Option, Result, Some, [], ap, arith, cond, drop, eqb, false, if◌then◌else◌, inl, inr, length, ltb, map, max, refl, replicate, slice_index_or, slice_set, subst, suc, sym, true, zero, ℕ, ◌&&◌, ◌+◌, ◌-◌, ◌<◌, ◌^◌, ◌∙◌, ◌∷◌, ◌≡◌, ◌≤◌, ◌⊎◌}
+use Rattle.std.proofs.lemmas.Bool.{le-ltb, lt-ltb, ltb-false, ltb-true}
+use Rattle.std.proofs.lemmas.List.{length-set}
 use Rattle.table_rows.proofs.Electing as electing
 use Rattle.table_rows.proofs.Electing.{collect_row, greater_last_row, last_row, number_above, promised}
 use Rattle.table_rows.proofs.Serving.{begins, learned, learns_one}
-use Rattle.std.proofs.Common.{Bool, List, None, Ok, Option, Result, Some, [], ap, arith, cond, eqb, false, inl, inr, length, ltb, map, max, refl, subst, suc, sym, true, zero, ℕ, ◌&&◌, ◌+◌, ◌-◌, ◌<◌, ◌^◌, ◌∙◌, ◌∷◌, ◌≡◌, ◌≤◌, ◌⊎◌}
-use Rattle.std.proofs.lemmas.Bool.{le-ltb, lt-ltb, ltb-false, ltb-true}
-use Rattle.std.proofs.lemmas.List.{length-set}
-use Rattle.std.specs.List.{flat_map}
-use Rattle.std.specs.Prelude.{drop, if◌then◌else◌, replicate, slice_index_or, slice_set}
 
 module _ (ms : Monitors) (several : 1 < ms.count) (i : ℕ) (lt : ltb i ms.count ≡ true) (sh : List Entry) (now : ℕ) where
   abbrev n : ℕ

@@ -1,21 +1,12 @@
 -- Members that lack a version get it, and a value is accepted and committed.
+use Rattle.law_names.proofs.Runs.{Monitors, World}
+use Rattle.law_names.proofs.Table.{Body, Course, Op, Origin, Phase, Readings, Session, State, are_within, has, no_ranks, only, same_phase, shared_entries, with_rank}
 use Rattle.log_model.proofs.Records.{IsVersion}
-use Rattle.mon_msg.specs.Protocol.Course.{Course}
-use Rattle.mon_msg.specs.Protocol.Phases.{same_phase}
-use Rattle.mon_msg.specs.Protocol.Readings.{Readings, shared_entries}
-use Rattle.mon_msg.specs.Protocol.Sets.{are_within, only}
-use Rattle.mon_msg.specs.Protocol.State.{State}
-use Rattle.mon_msg.specs.declared.plan.Origin.{Origin}
 use Rattle.mon_msg.specs.declared.plan.Origin.TheVariants as origin
-use Rattle.mon_tx.specs.declared.op.Op.{Op}
-use Rattle.mon_types.specs.Ranks.{has, no_ranks, with_rank}
-use Rattle.mon_wire.specs.declared.body.Body.{Body}
 use Rattle.mon_wire.specs.declared.body.Body.TheVariants as body
 use Rattle.mon_wire.specs.declared.kind.Kind.TheVariants as kind
-use Rattle.mon_wire.specs.declared.phase.Phase.{Phase}
 use Rattle.mon_wire.specs.declared.phase.Phase.TheVariants as phase
 use Rattle.mon_wire.specs.declared.reply.Reply.TheVariants as reply
-use Rattle.mon_wire.specs.declared.request.Session.{Session}
 use Rattle.quorum_elects.proofs.Can.{New, Onward, Scope, new_stays}
 use Rattle.quorum_elects.proofs.InTurn.{InTurn, Peon, Turned, at_first, covers_one, covers_with, each_in_turn, not_peon, peon_or_not}
 use Rattle.quorum_elects.proofs.Majorities.{Majority, scope}
@@ -28,13 +19,11 @@ use Rattle.quorum_elects.proofs.Tests.{and_false, chosen, in_phase, itself_is, o
 use Rattle.quorum_elects.specs.Electing as electing
 use Rattle.quorum_elects.specs.Plans as plans
 use Rattle.quorum_laws.specs.Accepting.{readings_at}
-use Rattle.quorum_model.specs.Monitors.{Monitors}
-use Rattle.quorum_model.specs.World.{World}
 use Rattle.quorum_recovers.proofs.Known.{message_tells, value_fine, within_log}
 use Rattle.quorum_recovers.proofs.Leaders as leaders
 use Rattle.quorum_recovers.proofs.States.{IsActive, IsHearing, IsProposing}
-use Rattle.quorum_recovers.proofs.Terms.{Term}
 use Rattle.quorum_recovers.proofs.Terms as terms
+use Rattle.quorum_recovers.proofs.Terms.{Term}
 use Rattle.quorum_recovers.proofs.ValueRows.{Accepts, Commits, accepts, counts_accept, learns}
 use Rattle.quorum_recovers.specs.Plan as plan
 use Rattle.quorum_walk.proofs.FineCourses.{Val}

@@ -1,24 +1,14 @@
 -- What every run says of the records of a monitor, and of what waits.
+use Rattle.law_names.proofs.Runs.{Envelope, Keeps, Monitors, World, log_from, within}
+use Rattle.law_names.proofs.Table.{AllByRecursion, Cell, Learn, Op, State, Store, cell, entry, number, play, readings_of, record_at, text, transaction_in}
+use Rattle.log_copies.proofs.Matching.{monitor_keeps, read_last, record_there}
 use Rattle.log_copies.proofs.Sending.{keeps_noted}
 use Rattle.log_copies.proofs.Standing.{Agrees}
-use Rattle.log_copies.proofs.Matching.{monitor_keeps, read_last, record_there}
 use Rattle.log_copies.proofs.Unmarked.{OnLog}
 use Rattle.log_model.proofs.Records.{IsVersion}
 use Rattle.log_model.proofs.RuleCells.{log_high}
-use Rattle.log_model.specs.Windows.{Keeps, log_from, within}
-use Rattle.mon_msg.specs.Fold.{entry}
-use Rattle.mon_msg.specs.Protocol.Changes.{Learn}
-use Rattle.mon_msg.specs.Protocol.Played.{play}
-use Rattle.mon_msg.specs.Protocol.Readings.{readings_of}
-use Rattle.mon_msg.specs.Protocol.Records.{record_at, transaction_in}
-use Rattle.mon_msg.specs.Protocol.State.{State}
-use Rattle.mon_tx.specs.Decision.{Cell}
-use Rattle.mon_tx.specs.Keys.{cell, number}
-use Rattle.mon_tx.specs.Map.{Store}
-use Rattle.mon_tx.specs.Text.{text}
 use Rattle.mon_tx.specs.declared.key.Area.TheVariants as area
 use Rattle.mon_tx.specs.declared.key.Key.TheVariants as key
-use Rattle.mon_tx.specs.declared.op.Op.{Op}
 use Rattle.quorum_agreement.proofs.Chosen.{IsEntry, some_rank}
 use Rattle.quorum_agreement.proofs.Grown.{first_is}
 use Rattle.quorum_agreement.proofs.Invariant.{EnvelopeMatches, OfLog, remembers}
@@ -26,15 +16,12 @@ use Rattle.quorum_agreement.proofs.Step.{copy_marked}
 use Rattle.quorum_elects.proofs.Can.{New}
 use Rattle.quorum_laws.proofs.Invariant.{EnvelopeFine, InvOf, StateFits}
 use Rattle.quorum_laws.specs.Accepting.{readings_at}
-use Rattle.quorum_model.specs.Monitors.{Monitors}
-use Rattle.quorum_model.specs.World.{Envelope, World}
 use Rattle.quorum_near.proofs.LowWorlds.{first_of}
 use Rattle.quorum_near.proofs.Whole.{Holds}
 use Rattle.quorum_walk.proofs.FineCourses.{Val}
 use Rattle.quorum_walk.proofs.Lists.{all_get}
 use Rattle.std.proofs.Common.{IfSome, List, None, Option, Some, [], ap, arith, cond, false, inl, inr, length, max, refl, subst, suc, sym, ℕ, ◌+◌, ◌<◌, ◌∙◌, ◌∷◌, ◌≡◌, ◌≤◌, ◌⊎◌}
 use Rattle.std.proofs.lemmas.Bool.{false≢true, le-leb, lt-ltb}
-use Rattle.std.specs.List.{AllByRecursion}
 
 -- a value that a record encodes
 pub record IsThere (records : ℕ → Cell) (v : ℕ) : Type 0 where

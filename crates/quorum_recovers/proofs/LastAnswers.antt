@@ -1,17 +1,10 @@
 -- What a peon answers to COLLECT, if neither it nor the leader lacks more than one version.
-use Rattle.mon_msg.specs.Protocol.Answers.{answer_of, answer_with, last_answer, is_complete, told_of, sent_values}
-use Rattle.mon_msg.specs.Protocol.Found.{better, counts, is_newer}
-use Rattle.mon_msg.specs.Protocol.Length.{fits, message_length, most_message}
+use Rattle.law_names.proofs.Table.{Body, Cell, Found, Op, Readings, Told, answer_of, better, counts, fits, is_complete, last_answer, longest, most_value, pending, promise_of, record_at, run_from, run_of, sent_values, text, told_of}
+use Rattle.mon_msg.specs.Protocol.Answers.{answer_with}
+use Rattle.mon_msg.specs.Protocol.Found.{is_newer}
+use Rattle.mon_msg.specs.Protocol.Length.{message_length, most_message}
 use Rattle.mon_msg.specs.Protocol.Parts.{value_length}
-use Rattle.mon_msg.specs.Protocol.Readings.{Readings, promise_of}
-use Rattle.mon_msg.specs.Protocol.Records.{longest, most_value, pending, record_at, run_from, run_of}
-use Rattle.mon_msg.specs.declared.paxos.Found.{Found}
-use Rattle.mon_tx.specs.Decision.{Cell}
-use Rattle.mon_tx.specs.Text.{text}
-use Rattle.mon_tx.specs.declared.op.Op.{Op}
-use Rattle.mon_wire.specs.declared.body.Body.{Body}
 use Rattle.mon_wire.specs.declared.body.Body.TheVariants as body
-use Rattle.mon_wire.specs.declared.parts.Told.{Told}
 use Rattle.quorum_elects.proofs.Values.{FoundShort, pending_short}
 use Rattle.std.proofs.Common.{Bool, IfSome, List, None, Option, Some, [], ap, arith, cond, false, leb, length, refl, subst, suc, sym, true, ℕ, ◌&&◌, ◌+◌, ◌-◌, ◌<◌, ◌∙◌, ◌∷◌, ◌≡◌, ◌≤◌}
 use Rattle.std.proofs.lemmas.Bool.{cond_both, le-leb, le-ltb, leb-true, lt-ltb}

@@ -1,45 +1,33 @@
 -- A leader asks a member what it accepted, and hears the answer.
+use Rattle.law_names.proofs.Runs.{Monitors, World}
+use Rattle.law_names.proofs.Table.{Body, Course, Entry, Learn, Op, Readings, are_within, has, most_value, no_ranks, only, play, record_at, shared_entries, text, with_rank}
 use Rattle.log_model.proofs.Records.{IsVersion}
-use Rattle.mon_bytes.specs.declared.entry.Entry.{Entry}
-use Rattle.mon_msg.specs.Protocol.Changes.{Learn}
-use Rattle.mon_msg.specs.Protocol.Course.{Course}
-use Rattle.mon_msg.specs.Protocol.Played.{play}
-use Rattle.mon_msg.specs.Protocol.Readings.{Readings, shared_entries}
-use Rattle.mon_msg.specs.Protocol.Records.{most_value, record_at}
-use Rattle.mon_msg.specs.Protocol.Sets.{are_within, only}
 use Rattle.mon_msg.specs.declared.plan.Sent.TheVariants as send
-use Rattle.mon_tx.specs.Text.{text}
-use Rattle.mon_tx.specs.declared.op.Op.{Op}
-use Rattle.mon_types.specs.Ranks.{has, no_ranks, with_rank}
-use Rattle.mon_wire.specs.declared.body.Body.{Body}
 use Rattle.mon_wire.specs.declared.body.Body.TheVariants as body
 use Rattle.mon_wire.specs.declared.kind.Kind.TheVariants as kind
 use Rattle.mon_wire.specs.declared.phase.Phase.TheVariants as phase
 use Rattle.quorum_elects.proofs.Can.{New, Onward, Sane, Scope, new_stays, reached_holds}
 use Rattle.quorum_elects.proofs.Majorities.{Majority, scope}
 use Rattle.quorum_elects.proofs.Moving.{Did}
-use Rattle.quorum_elects.proofs.Ranks.{same_or_not}
 use Rattle.quorum_elects.proofs.Planning.{Does, does_then, does_weaker}
+use Rattle.quorum_elects.proofs.Ranks.{same_or_not}
 use Rattle.quorum_elects.proofs.Standing.{Is, letter}
 use Rattle.quorum_elects.proofs.Steps.{deliver, is_now, is_stays}
 use Rattle.quorum_elects.specs.Plans as plans
 use Rattle.quorum_laws.specs.Accepting.{readings_at}
-use Rattle.quorum_model.specs.Monitors.{Monitors}
-use Rattle.quorum_model.specs.World.{World}
 use Rattle.quorum_near.proofs.Whole.{Holds}
-use Rattle.quorum_recovers.proofs.CollectRows.{Asks, Hears, Settles, Matches, asked, drop_none, hears_again, hears_more, hears_same}
+use Rattle.quorum_recovers.proofs.CollectRows.{Asks, Hears, Matches, Settles, asked, drop_none, hears_again, hears_more, hears_same}
 use Rattle.quorum_recovers.proofs.Known.{IsThere, learned_there, low_of, message_fine, message_tells, value_there}
 use Rattle.quorum_recovers.proofs.LastAnswers.{IsAnswer}
 use Rattle.quorum_recovers.proofs.States.{IsActive, IsAsking, IsHearing, IsProposing}
-use Rattle.quorum_recovers.proofs.Terms.{Term}
 use Rattle.quorum_recovers.proofs.Terms as terms
+use Rattle.quorum_recovers.proofs.Terms.{Term}
 use Rattle.quorum_walk.proofs.FineCourses.{Val}
 use Rattle.quorum_walk.proofs.Lists.{Among}
 use Rattle.quorum_walk.proofs.Ranks.{has_only, has_only_is, has_with, has_with_is, within_at}
-use Rattle.std.proofs.Common.{Bool, List, None, Some, [], ap, arith, false, inl, inr, length, ltb, max, refl, subst, suc, sym, true, zero, ℕ, ◌*◌, ◌+◌, ◌-◌, ◌<◌, ◌^◌, ◌∙◌, ◌∷◌, ◌≡◌, ◌≤◌, ◌⊎◌}
+use Rattle.std.proofs.Common.{Bool, List, None, Some, [], ap, arith, drop, false, inl, inr, length, ltb, max, refl, subst, suc, sym, true, zero, ℕ, ◌*◌, ◌+◌, ◌-◌, ◌<◌, ◌^◌, ◌∙◌, ◌∷◌, ◌≡◌, ◌≤◌, ◌⊎◌}
 use Rattle.std.proofs.lemmas.Bool.{cases_lt, false≢true, le-ltb, lt-ltb}
 use Rattle.std.proofs.lemmas.List.{length-set}
-use Rattle.std.specs.Prelude.{drop}
 
 module _ (G : Majority) (Q : Term G) where
   abbrev ms : Monitors

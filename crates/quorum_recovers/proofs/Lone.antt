@@ -1,52 +1,26 @@
 -- One monitor alone serves once it is started.
-use Rattle.election_rules.specs.Ranking.{allows}
-use Rattle.election_rules.specs.declared.rule.Rule.{Rule}
-use Rattle.mon_bytes.specs.declared.command.Command.{Command}
-use Rattle.mon_bytes.specs.declared.command.CommandRefused.{CommandRefused}
-use Rattle.mon_bytes.specs.declared.entry.Entry.{Entry}
-use Rattle.mon_msg.specs.Protocol.Changes.{Boot, Epoch, Learn}
-use Rattle.mon_msg.specs.Protocol.Collecting.{begin_found, catch_up, collect_with, settle}
-use Rattle.mon_msg.specs.Protocol.Commands.{is_too_long, may_propose}
-use Rattle.mon_msg.specs.Protocol.Course.{Course, arm_if, change, change_if, disarm, elector_is, leader_is, ◌▸◌}
-use Rattle.mon_msg.specs.Protocol.Entering.{bootstrap, next_even, scores_count, win_alone}
-use Rattle.mon_msg.specs.Protocol.Leading.{be_active, extend, has_queue, is_alone}
-use Rattle.mon_msg.specs.Protocol.Phases.{same_phase}
-use Rattle.mon_msg.specs.Protocol.Played.{play}
-use Rattle.mon_msg.specs.Protocol.Proposing.{begin_made, refusal}
-use Rattle.mon_msg.specs.Protocol.Readings.{Readings, epoch_of, or_zero, promise_of}
-use Rattle.mon_msg.specs.Protocol.Sending.{members}
-use Rattle.mon_msg.specs.Protocol.Services.{service_last}
-use Rattle.mon_msg.specs.Protocol.Sets.{is_empty, only}
-use Rattle.mon_msg.specs.Protocol.State.{State, booting}
-use Rattle.mon_msg.specs.Protocol.Table.{at_rest, first_elector, react}
-use Rattle.mon_msg.specs.Protocol.Value.{service_of, value}
+use Rattle.law_names.proofs.Runs.{Monitors, request_of}
+use Rattle.law_names.proofs.Table.{Boot, Command, CommandRefused, Course, Entry, Epoch, Found, Learn, Me, Op, Readings, Rule, Session, State, allows, arm_if, at_rest, be_active, begin_found, begin_made, booting, bootstrap, catch_up, change, change_if, collect_with, disarm, elector_is, epoch_of, extend, first_elector, has_queue, is_alone, is_empty, is_too_long, leader_is, may_propose, members, next_even, next_number, only, or_zero, play, promise_of, react, refusal, same_phase, scores_count, service_last, service_of, settle, value, ◌▸◌}
+use Rattle.mon_msg.specs.Protocol.Entering.{win_alone}
 use Rattle.mon_msg.specs.declared.input.Input.TheVariants as input
-use Rattle.mon_msg.specs.declared.paxos.Found.{Found}
 use Rattle.mon_msg.specs.declared.paxos.LeaderStage.TheVariants as stage
 use Rattle.mon_msg.specs.declared.plan.Origin.TheVariants as origin
 use Rattle.mon_msg.specs.declared.plan.Sent.TheVariants as send
-use Rattle.mon_msg.specs.declared.view.Me.{Me}
-use Rattle.mon_tx.specs.declared.op.Op.{Op}
-use Rattle.mon_types.specs.Proposal.{next_number}
 use Rattle.mon_wire.specs.declared.phase.Phase.TheVariants as phase
 use Rattle.mon_wire.specs.declared.phase.Timer.TheVariants as timer
 use Rattle.mon_wire.specs.declared.reply.Reply.TheVariants as reply
-use Rattle.mon_wire.specs.declared.request.Session.{Session}
 use Rattle.quorum_elects.proofs.Moving.{Sound}
 use Rattle.quorum_elects.proofs.Walking.{Surely, done, so}
 use Rattle.quorum_elects.specs.Ready.{NumbersHaveRoom}
-use Rattle.quorum_recovers.proofs.States.{takes_command}
 use Rattle.quorum_model.proofs.Members.{member_of}
-use Rattle.quorum_model.specs.CalmSchedule.{request_of}
-use Rattle.quorum_model.specs.Monitors.{Monitors}
+use Rattle.quorum_recovers.proofs.States.{takes_command}
 use Rattle.quorum_walk.proofs.FineCourses.{Val}
 use Rattle.quorum_walk.proofs.Lists.{Among}
 use Rattle.quorum_walk.proofs.Sparing.{Own, learned_own}
+use Rattle.std.proofs.Common.{Bool, Err, List, None, Ok, Option, Result, Some, [], ap, arith, false, inl, inr, is_some, max, not, refl, subst, suc, sym, true, ℕ, ◌&&◌, ◌+◌, ◌^◌, ◌∙◌, ◌∷◌, ◌≡◌, ◌≤◌, ◌⊎◌}
 use Rattle.table_rows.proofs.Electing.{alone, collects_alone, leads_alone, number_above, reigning, start_row, wins_alone}
 use Rattle.table_rows.proofs.Serving as rows
 use Rattle.table_rows.proofs.Serving.{begins_alone, none_pends}
-use Rattle.std.proofs.Common.{Bool, Err, List, None, Ok, Option, Result, Some, [], ap, arith, false, inl, inr, max, not, refl, subst, suc, sym, true, ℕ, ◌&&◌, ◌+◌, ◌^◌, ◌∙◌, ◌∷◌, ◌≡◌, ◌≤◌, ◌⊎◌}
-use Rattle.std.specs.Prelude.{is_some}
 
 -- it leads itself, and has l versions
 pub record IsAlone (l : ℕ) (w : Readings) (s : State) : Type 0 where

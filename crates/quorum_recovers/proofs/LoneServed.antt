@@ -1,29 +1,13 @@
 -- A map of one monitor serves, in every run.
 use Rattle.calm_sizes.specs.Sizes.{AllShort, longest}
-use Rattle.election_rules.specs.Ranking.{allows}
-use Rattle.election_rules.specs.declared.rule.Rule.{Rule}
+use Rattle.law_names.proofs.Runs.{AllFit, Event, IsAsked, IsCommand, Keeps, Monitors, Ran, World, first_world, ran, request_of, run}
+use Rattle.law_names.proofs.Table.{AllByRecursion, Command, Course, Learn, Readings, Rule, Session, allows, are_within, entry, has, is_too_long, number, only, play, refusal, service_of, shared_entries, text, value}
 use Rattle.log_copies.proofs.Matching.{record_there}
 use Rattle.log_copies.specs.Versions.{HasVersions}
-use Rattle.log_model.specs.LogOfValues.{IsCommand}
-use Rattle.log_model.specs.Windows.{Keeps}
-use Rattle.mon_bytes.specs.declared.command.Command.{Command}
-use Rattle.mon_msg.specs.Fold.{entry}
-use Rattle.mon_msg.specs.Protocol.Changes.{Learn}
-use Rattle.mon_msg.specs.Protocol.Commands.{is_too_long}
-use Rattle.mon_msg.specs.Protocol.Course.{Course}
-use Rattle.mon_msg.specs.Protocol.Played.{play}
-use Rattle.mon_msg.specs.Protocol.Proposing.{refusal}
-use Rattle.mon_msg.specs.Protocol.Readings.{Readings, shared_entries}
-use Rattle.mon_msg.specs.Protocol.Sets.{are_within, only}
-use Rattle.mon_msg.specs.Protocol.Value.{service_of, value}
-use Rattle.mon_tx.specs.Keys.{number}
-use Rattle.mon_tx.specs.Text.{text}
 use Rattle.mon_tx.specs.declared.key.Area.TheVariants as area
 use Rattle.mon_tx.specs.declared.key.Key.TheVariants as key
-use Rattle.mon_types.specs.Ranks.{has}
 use Rattle.mon_wire.specs.declared.phase.Phase.TheVariants as phase
 use Rattle.mon_wire.specs.declared.reply.Reply.TheVariants as reply
-use Rattle.mon_wire.specs.declared.request.Session.{Session}
 use Rattle.quorum_agreement.proofs.Grown.{first_is}
 use Rattle.quorum_agreement.proofs.LoneWorlds.{IsWhole, LoneHolds, OfLone}
 use Rattle.quorum_agreement.proofs.Runs.{lone_run}
@@ -43,12 +27,6 @@ use Rattle.quorum_elects.specs.Ready.{AllNear, IsReady}
 use Rattle.quorum_elects.specs.Ways.{Clock, OthersRest}
 use Rattle.quorum_laws.specs.Accepting.{IsMajorityOf, readings_at}
 use Rattle.quorum_model.proofs.Continuing.{at, ran_on}
-use Rattle.quorum_model.specs.Agree.{IsAsked}
-use Rattle.quorum_model.specs.CalmSchedule.{request_of}
-use Rattle.quorum_model.specs.Events.{AllFit}
-use Rattle.quorum_model.specs.Monitors.{Monitors}
-use Rattle.quorum_model.specs.Runs.{Ran, ran, run}
-use Rattle.quorum_model.specs.World.{Event, World, first_world}
 use Rattle.quorum_near.proofs.Low.{first_low}
 use Rattle.quorum_recovers.proofs.Asked.{asked_at, asked_is, keeps, last_is, learned_is, request_fits, service_room, value_val}
 use Rattle.quorum_recovers.proofs.Known.{record_read}
@@ -59,7 +37,6 @@ use Rattle.quorum_recovers.specs.Serving.{IsServed}
 use Rattle.quorum_walk.proofs.Ranks.{has_only, has_only_is}
 use Rattle.std.proofs.Common.{Bool, Err, List, None, Option, Some, [], ap, arith, false, inl, inr, length, ltb, max, refl, subst, suc, sym, true, unwrap_or, ℕ, ◌&&◌, ◌*◌, ◌++◌, ◌+◌, ◌<◌, ◌^◌, ◌∙◌, ◌∷◌, ◌≡◌, ◌≤◌, ◌⊎◌}
 use Rattle.std.proofs.lemmas.Bool.{le-ltb}
-use Rattle.std.specs.List.{AllByRecursion}
 
 module _ (most : 1 ≤ 15) (rule : Rule) (events : List Event) (F : AllFit 1 events) (on : (ran (lone most rule) events).stop ≡ None) (q : List Bool) (M : IsMajorityOf 1 q) (ready : IsReady (lone most rule) q (run (lone most rule) events))
     (session : Session) (cmd : Command) (form : IsCommand cmd) (brief : is_too_long cmd ≡ false) (clock : Clock) where

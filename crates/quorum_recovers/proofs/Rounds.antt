@@ -1,9 +1,6 @@
 -- A leader hears all of its quorum, under a number above all that were promised.
-use Rattle.mon_msg.specs.Protocol.Course.{Course}
-use Rattle.mon_msg.specs.Protocol.Readings.{Readings, promise_of, shared_entries}
-use Rattle.mon_msg.specs.Protocol.Sets.{are_within, only}
-use Rattle.mon_types.specs.Ranks.{has, no_ranks, with_rank}
-use Rattle.mon_wire.specs.declared.body.Body.{Body}
+use Rattle.law_names.proofs.Runs.{Monitors, World}
+use Rattle.law_names.proofs.Table.{Body, Course, Readings, are_within, has, no_ranks, only, promise_of, shared_entries, with_rank}
 use Rattle.mon_wire.specs.declared.body.Body.TheVariants as body
 use Rattle.mon_wire.specs.declared.kind.Kind.TheVariants as kind
 use Rattle.mon_wire.specs.declared.phase.Phase.TheVariants as phase
@@ -20,15 +17,13 @@ use Rattle.quorum_elects.specs.Electing as electing
 use Rattle.quorum_elects.specs.Plans as plans
 use Rattle.quorum_elects.specs.Ready.{HasRoom}
 use Rattle.quorum_laws.specs.Accepting.{readings_at}
-use Rattle.quorum_model.specs.Monitors.{Monitors}
-use Rattle.quorum_model.specs.World.{World}
 use Rattle.quorum_recovers.proofs.CollectRows.{Asks, asks_above}
 use Rattle.quorum_recovers.proofs.Known.{low_of}
 use Rattle.quorum_recovers.proofs.LastAnswers.{IsAnswer}
 use Rattle.quorum_recovers.proofs.Leaders as leaders
 use Rattle.quorum_recovers.proofs.States.{IsAsking, IsHearing, IsProposing}
-use Rattle.quorum_recovers.proofs.Terms.{Term, answered_is}
 use Rattle.quorum_recovers.proofs.Terms as terms
+use Rattle.quorum_recovers.proofs.Terms.{Term, answered_is}
 use Rattle.quorum_recovers.specs.Plan as plan
 use Rattle.quorum_walk.proofs.Ranks.{has_only, has_only_is, within_at}
 use Rattle.std.proofs.Common.{Bool, List, None, [], ap, arith, cond, false, inl, inr, length, ltb, max, refl, subst, suc, sym, true, ℕ, ◌&&◌, ◌*◌, ◌++◌, ◌+◌, ◌<◌, ◌^◌, ◌∙◌, ◌∷◌, ◌≡◌, ◌≤◌, ◌⊎◌}

@@ -1,15 +1,7 @@
 -- A majority that is near the whole log serves, in every run.
-use Rattle.election_rules.specs.Ranking.{allows}
-use Rattle.log_model.specs.LogOfValues.{IsCommand}
-use Rattle.mon_bytes.specs.declared.command.Command.{Command}
-use Rattle.mon_bytes.specs.declared.command.CommandRefused.{CommandRefused}
-use Rattle.mon_msg.specs.Protocol.Commands.{is_too_long}
-use Rattle.mon_msg.specs.Protocol.Proposing.{refusal}
-use Rattle.mon_msg.specs.Protocol.Readings.{promise_of}
-use Rattle.mon_msg.specs.Protocol.Value.{value}
-use Rattle.mon_types.specs.Ranks.{has}
+use Rattle.law_names.proofs.Runs.{AllFit, Event, IsAsked, IsCommand, Monitors, World, ran, request_of, run}
+use Rattle.law_names.proofs.Table.{Command, CommandRefused, Session, allows, has, is_too_long, promise_of, refusal, value}
 use Rattle.mon_wire.specs.declared.reply.Reply.TheVariants as reply
-use Rattle.mon_wire.specs.declared.request.Session.{Session}
 use Rattle.quorum_elects.proofs.Can.{Can, Onward, Sane, Scope, reached_holds}
 use Rattle.quorum_elects.proofs.Elected.{Led, elected_by, its_sane, near_lacks, the_majority, way, way_on}
 use Rattle.quorum_elects.proofs.Majorities.{Candidacy, Majority, scope}
@@ -22,12 +14,6 @@ use Rattle.quorum_elects.specs.Plans.{PlannedWay}
 use Rattle.quorum_elects.specs.Ready.{AllNear, HasRoom, IsReady, LacksAtMost}
 use Rattle.quorum_elects.specs.Ways.{Clock, ComesInLease, HasWay, IsAskedBy}
 use Rattle.quorum_laws.specs.Accepting.{IsMajorityOf, readings_at}
-use Rattle.quorum_model.specs.Agree.{IsAsked}
-use Rattle.quorum_model.specs.CalmSchedule.{request_of}
-use Rattle.quorum_model.specs.Events.{AllFit}
-use Rattle.quorum_model.specs.Monitors.{Monitors}
-use Rattle.quorum_model.specs.Runs.{ran, run}
-use Rattle.quorum_model.specs.World.{Event, World}
 use Rattle.quorum_near.proofs.Whole.{near}
 use Rattle.quorum_recovers.proofs.Asked.{asked_at, request_fits}
 use Rattle.quorum_recovers.proofs.Leaders as leaders

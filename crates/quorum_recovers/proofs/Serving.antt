@@ -1,27 +1,11 @@
 -- A leader that a majority follows commits what was in progress, and answers a client.
+use Rattle.law_names.proofs.Runs.{IsAsked, IsCommand, Monitors, World, request_of}
+use Rattle.law_names.proofs.Table.{Body, Command, CommandRefused, Course, Op, Phase, Readings, Session, State, entry, has, is_too_long, only, promise_of, refusal, same_phase, service_of, shared_entries, text, value}
 use Rattle.log_copies.proofs.Unmarked.{OnLog}
-use Rattle.log_model.specs.LogOfValues.{IsCommand}
-use Rattle.mon_bytes.specs.declared.command.Command.{Command}
-use Rattle.mon_bytes.specs.declared.command.CommandRefused.{CommandRefused}
-use Rattle.mon_msg.specs.Fold.{entry}
-use Rattle.mon_msg.specs.Protocol.Commands.{is_too_long}
-use Rattle.mon_msg.specs.Protocol.Course.{Course}
-use Rattle.mon_msg.specs.Protocol.Phases.{same_phase}
-use Rattle.mon_msg.specs.Protocol.Proposing.{refusal}
-use Rattle.mon_msg.specs.Protocol.Readings.{Readings, promise_of, shared_entries}
-use Rattle.mon_msg.specs.Protocol.Sets.{only}
-use Rattle.mon_msg.specs.Protocol.State.{State}
-use Rattle.mon_msg.specs.Protocol.Value.{service_of, value}
 use Rattle.mon_msg.specs.declared.plan.Origin.TheVariants as origin
-use Rattle.mon_tx.specs.Text.{text}
-use Rattle.mon_tx.specs.declared.op.Op.{Op}
-use Rattle.mon_types.specs.Ranks.{has}
-use Rattle.mon_wire.specs.declared.body.Body.{Body}
 use Rattle.mon_wire.specs.declared.body.Body.TheVariants as body
 use Rattle.mon_wire.specs.declared.phase.Phase.TheVariants as phase
-use Rattle.mon_wire.specs.declared.phase.Phase.{Phase}
 use Rattle.mon_wire.specs.declared.reply.Reply.TheVariants as reply
-use Rattle.mon_wire.specs.declared.request.Session.{Session}
 use Rattle.quorum_agreement.proofs.Chosen.{Chosen, IsEntry}
 use Rattle.quorum_agreement.proofs.Invariant.{OfLog}
 use Rattle.quorum_elects.proofs.Can.{New, Onward, Scope, log_prefix_on, new_stays}
@@ -42,18 +26,14 @@ use Rattle.quorum_laws.proofs.Invariant.{InvOf}
 use Rattle.quorum_laws.proofs.Reading.{as_accepted, state_holds}
 use Rattle.quorum_laws.specs.Accepting.{readings_at}
 use Rattle.quorum_laws.specs.Values.{has_heard}
-use Rattle.quorum_model.specs.Agree.{IsAsked}
-use Rattle.quorum_model.specs.CalmSchedule.{request_of}
-use Rattle.quorum_model.specs.Monitors.{Monitors}
-use Rattle.quorum_model.specs.World.{World}
 use Rattle.quorum_recovers.proofs.Asked.{asked_at, asked_is, last_is, request_fits, service_room, value_val}
 use Rattle.quorum_recovers.proofs.Committing as committing
 use Rattle.quorum_recovers.proofs.Known.{on_log, within_log}
 use Rattle.quorum_recovers.proofs.Leaders as leaders
 use Rattle.quorum_recovers.proofs.Rounds as rounds
 use Rattle.quorum_recovers.proofs.States.{IsActive, IsHearing, IsProposing}
-use Rattle.quorum_recovers.proofs.Terms.{Term}
 use Rattle.quorum_recovers.proofs.Terms as terms
+use Rattle.quorum_recovers.proofs.Terms.{Term}
 use Rattle.quorum_recovers.proofs.ValueRows.{Proposes, Refuses, proposes}
 use Rattle.quorum_recovers.specs.Plan as plan
 use Rattle.quorum_walk.proofs.FineCourses.{Val}

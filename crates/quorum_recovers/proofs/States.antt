@@ -1,39 +1,18 @@
 -- The states of a leader that asks, proposes and commits, and of its peons.
+use Rattle.law_names.proofs.Runs.{request_of}
+use Rattle.law_names.proofs.Table.{Cell, Command, Course, Entry, Me, Op, Origin, Phase, Readings, Session, State, ask, at_leader, at_rest, epoch_of, fits, flat_map, has, hear_client, is_leading, longest, missed, most_value, or_zero, promise_of, react, record_at, run_from, run_of, same_phase, text}
 use Rattle.mon_bytes.specs.declared.command.Command.TheVariants as command
-use Rattle.mon_bytes.specs.declared.command.Command.{Command}
-use Rattle.mon_bytes.specs.declared.entry.Entry.{Entry}
 use Rattle.mon_lease.specs.Lease as lease
-use Rattle.mon_msg.specs.Protocol.Collecting.{missed}
-use Rattle.mon_msg.specs.Protocol.Commands.{ask, at_leader}
-use Rattle.mon_msg.specs.Protocol.Course.{Course}
-use Rattle.mon_msg.specs.Protocol.Hearing.{hear_client}
-use Rattle.mon_msg.specs.Protocol.Length.{fits}
-use Rattle.mon_msg.specs.Protocol.Phases.{is_leading, same_phase}
-use Rattle.mon_msg.specs.Protocol.Readings.{Readings, epoch_of, or_zero, promise_of}
-use Rattle.mon_msg.specs.Protocol.Records.{longest, most_value, record_at, run_from, run_of}
-use Rattle.mon_msg.specs.Protocol.State.{State}
-use Rattle.mon_msg.specs.Protocol.Table.{at_rest, react}
 use Rattle.mon_msg.specs.declared.input.Input.TheVariants as input
 use Rattle.mon_msg.specs.declared.plan.Origin.TheVariants as origin
-use Rattle.mon_msg.specs.declared.plan.Origin.{Origin}
-use Rattle.mon_msg.specs.declared.view.Me.{Me}
-use Rattle.mon_tx.specs.Decision.{Cell}
-use Rattle.mon_tx.specs.Text.{text}
-use Rattle.mon_tx.specs.declared.op.Op.{Op}
-use Rattle.mon_types.specs.Ranks.{has}
 use Rattle.mon_wire.specs.declared.body.Body.TheVariants as body
-use Rattle.mon_wire.specs.declared.phase.Phase.{Phase}
 use Rattle.mon_wire.specs.declared.phase.Phase.TheVariants as phase
-use Rattle.mon_wire.specs.declared.request.Session.{Session}
 use Rattle.quorum_elects.proofs.Values.{FoundShort}
-use Rattle.quorum_model.specs.CalmSchedule.{request_of}
 use Rattle.quorum_recovers.proofs.LastAnswers.{fits_commit, run_one}
 use Rattle.quorum_walk.proofs.Lists.{Among, among_left, among_right}
+use Rattle.std.proofs.Common.{Bool, List, Option, Some, [], ap, arith, cond, false, inl, inr, length, min, refl, slice_index_or, slice_set, subst, suc, true, zero, ℕ, ◌+◌, ◌-◌, ◌<◌, ◌^◌, ◌||◌, ◌∙◌, ◌∷◌, ◌≡◌, ◌≤◌}
 use Rattle.table_rows.proofs.Hearing.{IsLeader, IsMember, asked}
 use Rattle.table_rows.proofs.Serving.{asks_leader}
-use Rattle.std.proofs.Common.{Bool, List, Option, Some, [], ap, arith, cond, false, inl, inr, length, min, refl, subst, suc, true, zero, ℕ, ◌+◌, ◌-◌, ◌<◌, ◌^◌, ◌||◌, ◌∙◌, ◌∷◌, ◌≡◌, ◌≤◌}
-use Rattle.std.specs.List.{flat_map}
-use Rattle.std.specs.Prelude.{slice_index_or, slice_set}
 
 -- ---- the states
 

@@ -1,20 +1,16 @@
 -- A leader whose members lack at most one version.
-use Rattle.mon_msg.specs.Protocol.Leading.{is_alone}
-use Rattle.mon_msg.specs.Protocol.Sets.{are_within, only}
-use Rattle.mon_msg.specs.Protocol.State.{State}
-use Rattle.mon_types.specs.Ranks.{count_of, has, is_majority, no_ranks}
+use Rattle.law_names.proofs.Runs.{World}
+use Rattle.law_names.proofs.Table.{State, are_within, count_of, has, is_alone, is_majority, list_all, no_ranks, only, range_with_len}
 use Rattle.quorum_agreement.proofs.Others.{others}
 use Rattle.quorum_elects.proofs.Majorities.{Majority}
 use Rattle.quorum_elects.proofs.Ranks.{one_counts}
 use Rattle.quorum_elects.specs.Ready.{HasRoom}
 use Rattle.quorum_laws.specs.Accepting.{IsMajorityOf}
 use Rattle.quorum_model.proofs.Members.{member_of}
-use Rattle.quorum_model.specs.World.{World}
 use Rattle.quorum_recovers.specs.Plan.{answered_at}
 use Rattle.quorum_walk.proofs.Ranks.{has_only_is, within_at}
 use Rattle.std.proofs.Common.{Bool, List, Option, Some, ap, arith, false, ltb, not, refl, suc, true, zero, ℕ, ◌&&◌, ◌*◌, ◌+◌, ◌<◌, ◌^◌, ◌||◌, ◌∙◌, ◌≡◌, ◌≤◌}
 use Rattle.std.proofs.lemmas.Bool.{ltb-true}
-use Rattle.std.specs.List.{list_all, range_with_len}
 use Rattle.std.specs.Option.{option_map_or}
 
 -- the answers that a plan sees are those in the state of a monitor that is up

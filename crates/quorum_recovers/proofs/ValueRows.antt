@@ -1,55 +1,28 @@
 -- The rows by which a leader commits a value, and proposes one that a client asks.
-use Rattle.mon_bytes.specs.declared.command.Command.{Command}
-use Rattle.mon_bytes.specs.declared.command.CommandRefused.{CommandRefused}
-use Rattle.mon_bytes.specs.declared.entry.Entry.{Entry}
-use Rattle.mon_lease.specs.Lease.{stands}
-use Rattle.mon_msg.specs.Protocol.Changes.{Last, Learn, Vote}
-use Rattle.mon_msg.specs.Protocol.Commands.{is_too_long, may_propose}
-use Rattle.mon_msg.specs.Protocol.Course.{Course, change}
-use Rattle.mon_msg.specs.Protocol.Leading.{be_active, begin_with, commit, extend, has_queue, is_alone}
-use Rattle.mon_msg.specs.Protocol.Phases.{is_leading, is_peon, same_phase}
-use Rattle.mon_msg.specs.Protocol.Proposing.{begin_made, refusal}
-use Rattle.mon_msg.specs.Protocol.Readings.{Readings, epoch_of, epoch_or_first, or_zero}
-use Rattle.mon_msg.specs.Protocol.Reads.{is_standing}
-use Rattle.mon_msg.specs.Protocol.Records.{most_value}
-use Rattle.mon_msg.specs.Protocol.Sending.{answers_to, members, message_to}
-use Rattle.mon_msg.specs.Protocol.Services.{service_last}
-use Rattle.mon_msg.specs.Protocol.Sets.{are_within, is_empty, only}
-use Rattle.mon_msg.specs.Protocol.State.{State, lease_of}
-use Rattle.mon_msg.specs.Protocol.Table.{at_rest, react}
-use Rattle.mon_msg.specs.Protocol.Value.{service_of, value}
+use Rattle.law_names.proofs.Runs.{Monitors, request_of}
+use Rattle.law_names.proofs.Table.{Command, CommandRefused, Course, Entry, Last, Learn, Me, Op, Origin, Phase, Readings, Session, State, Vote, answers_to, are_within, at_rest, be_active, begin_made, begin_with, change, commit, epoch_of, epoch_or_first, extend, has, has_queue, is_alone, is_empty, is_leading, is_peon, is_standing, is_too_long, lease_of, may_propose, members, message_to, most_value, only, or_zero, react, refusal, same_phase, service_last, service_of, stands, text, value, with_rank}
 use Rattle.mon_msg.specs.Protocol.Value as mon_value
 use Rattle.mon_msg.specs.declared.input.Input.TheVariants as input
 use Rattle.mon_msg.specs.declared.paxos.LeaderStage.TheVariants as stage
-use Rattle.mon_msg.specs.declared.plan.Origin.{Origin}
 use Rattle.mon_msg.specs.declared.plan.Origin.TheVariants as origin
 use Rattle.mon_msg.specs.declared.plan.Sent.TheVariants as send
-use Rattle.mon_msg.specs.declared.view.Me.{Me}
-use Rattle.mon_tx.specs.Text.{text}
-use Rattle.mon_tx.specs.declared.op.Op.{Op}
-use Rattle.mon_types.specs.Ranks.{has, with_rank}
 use Rattle.mon_wire.specs.declared.body.Body.TheVariants as body
-use Rattle.mon_wire.specs.declared.phase.Phase.{Phase}
 use Rattle.mon_wire.specs.declared.phase.Phase.TheVariants as phase
 use Rattle.mon_wire.specs.declared.reply.Reply.TheVariants as reply
-use Rattle.mon_wire.specs.declared.request.Session.{Session}
 use Rattle.quorum_elects.proofs.Moving.{Sound}
 use Rattle.quorum_elects.proofs.Rows.{sound_more}
 use Rattle.quorum_elects.proofs.Standing.{SaysTo, among_map, among_members, letter}
 use Rattle.quorum_elects.proofs.Walking.{Surely, done, so, weaken}
 use Rattle.quorum_model.proofs.Members.{member_of}
-use Rattle.quorum_model.specs.CalmSchedule.{request_of}
-use Rattle.quorum_model.specs.Monitors.{Monitors}
 use Rattle.quorum_recovers.proofs.CollectRows.{same_own}
 use Rattle.quorum_recovers.proofs.States.{IsActive, IsHearing, IsProposing, follows, lease_given, or_true, proposes_to, takes_command}
 use Rattle.quorum_walk.proofs.FineCourses.{Val}
 use Rattle.quorum_walk.proofs.Lists.{Among, among_left, among_right}
 use Rattle.quorum_walk.proofs.Sparing.{Own}
+use Rattle.std.proofs.Common.{Bool, Err, List, None, Ok, Option, Result, Some, [], ap, arith, eqb, false, if◌then◌else◌, inl, inr, length, ltb, map, not, refl, subst, suc, sym, true, ℕ, ◌&&◌, ◌-◌, ◌<◌, ◌^◌, ◌∙◌, ◌∷◌, ◌≡◌, ◌≤◌, ◌⊎◌}
+use Rattle.std.proofs.lemmas.Bool.{lt-ltb}
 use Rattle.table_rows.proofs.Serving as rows
 use Rattle.table_rows.proofs.Serving.{accept_row, accepted, begin_row, commit_row, last_accept_row, learned}
-use Rattle.std.proofs.Common.{Bool, Err, List, None, Ok, Option, Result, Some, [], ap, arith, eqb, false, inl, inr, length, ltb, map, not, refl, subst, suc, sym, true, ℕ, ◌&&◌, ◌-◌, ◌<◌, ◌^◌, ◌∙◌, ◌∷◌, ◌≡◌, ◌≤◌, ◌⊎◌}
-use Rattle.std.proofs.lemmas.Bool.{lt-ltb}
-use Rattle.std.specs.Prelude.{if◌then◌else◌}
 
 module _ (ms : Monitors) (several : 1 < ms.count) (i : ℕ) (lt : ltb i ms.count ≡ true) (sh : List Entry) (now : ℕ) where
   abbrev n : ℕ

@@ -1,22 +1,13 @@
 -- One member starts, and asks another one how far it is.
 use Rattle.calm_sizes.proofs.Stores.{short_behind}
+use Rattle.law_names.proofs.Runs.{World, most_size, size_of}
+use Rattle.law_names.proofs.Table.{Body, Boot, Change, Course, Epoch, Readings, Store, apply, booting, encoded, epoch_of, has, joined, number_bytes, place, quorum_of, react, readings_of, shared_entries}
 use Rattle.log_model.proofs.TextSizes.{area_length, key_length}
-use Rattle.mon_kv.specs.Readers.{most_size, size_of}
 use Rattle.mon_msg.proofs.Joining.{apply-joined}
-use Rattle.mon_msg.specs.Joined.{joined}
-use Rattle.mon_msg.specs.Protocol.Changes.{Boot, Change, Epoch, encoded}
-use Rattle.mon_msg.specs.Protocol.Course.{Course}
-use Rattle.mon_msg.specs.Protocol.Readings.{Readings, epoch_of, readings_of, shared_entries}
-use Rattle.mon_msg.specs.Protocol.State.{booting, quorum_of}
-use Rattle.mon_msg.specs.Protocol.Table.{react}
 use Rattle.mon_msg.specs.declared.input.Input.TheVariants as input
-use Rattle.mon_tx.specs.Keys.{place}
-use Rattle.mon_tx.specs.Map.{Store, apply, number_bytes}
 use Rattle.mon_tx.specs.declared.key.Area.TheVariants as area
 use Rattle.mon_tx.specs.declared.key.Key.TheVariants as key
-use Rattle.mon_types.specs.Ranks.{has}
 use Rattle.mon_wire.specs.declared.body.Body.TheVariants as body
-use Rattle.mon_wire.specs.declared.body.Body.{Body}
 use Rattle.mon_wire.specs.declared.phase.Phase.TheVariants as phase
 use Rattle.quorum_elects.proofs.Can.{Can, New, Onward, Scope, then, weaker}
 use Rattle.quorum_elects.proofs.Moving.{Bears, Did, Sound}
@@ -27,9 +18,8 @@ use Rattle.quorum_elects.proofs.Walking.{Surely, weaken}
 use Rattle.quorum_elects.specs.Ready.{HasRoom}
 use Rattle.quorum_laws.specs.Accepting.{readings_at}
 use Rattle.quorum_model.proofs.Members.{member_of}
-use Rattle.quorum_model.specs.World.{World}
-use Rattle.quorum_rejoins.proofs.Events.{deliver, start, start_copy}
 use Rattle.quorum_rejoins.proofs.Copying.{Mail, T1}
+use Rattle.quorum_rejoins.proofs.Events.{deliver, start, start_copy}
 use Rattle.quorum_rejoins.proofs.Sizes.{put_small}
 use Rattle.quorum_rejoins.proofs.Taking.{Begins, begins}
 use Rattle.quorum_rejoins.proofs.Turns.{AddsNone, Gives, Provider, turn_k, turn_p}

@@ -2,34 +2,18 @@
 use Rattle.calm_sizes.proofs.Shorts.{PutsShort, short_apply}
 use Rattle.calm_sizes.proofs.Stores.{number_short}
 use Rattle.calm_sizes.specs.Sizes.{AllShort, longest}
+use Rattle.law_names.proofs.Runs.{World}
+use Rattle.law_names.proofs.Table.{AllByRecursion, Body, Change, Cookie, Course, Entry, Fits, Key, KeyPlace, Last, Mark, Place, Readings, State, Store, SyncStage, Unmark, after_entries, apply, chunk, copy_changes, encoded, epoch_of, has, is_after, is_armed, is_done, joined, ops_of, played, readings_of, shared_entries}
 use Rattle.log_model.proofs.Lists.{all_append, all_front}
 use Rattle.log_model.proofs.SharedEntries.{shared_spares}
-use Rattle.mon_bytes.specs.declared.entry.Entry.{Entry}
 use Rattle.mon_bytes.specs.declared.entry.KeyPlace.TheVariants as key_place
-use Rattle.mon_bytes.specs.declared.entry.KeyPlace.{KeyPlace}
 use Rattle.mon_msg.proofs.Changed.{readings-joined}
 use Rattle.mon_msg.proofs.Joining.{apply-joined}
-use Rattle.mon_msg.specs.Joined.{joined}
-use Rattle.mon_wire.specs.Message.PartLengths.{key_place_length}
-use Rattle.mon_msg.specs.Protocol.Changes.{Change, Last, Mark, Unmark, ops_of, put_back, encoded}
-use Rattle.mon_msg.specs.Protocol.Chunks.{copy_changes}
-use Rattle.mon_msg.specs.Protocol.Course.{Course}
-use Rattle.mon_msg.specs.Protocol.Places.{after_entries, is_after, is_done}
-use Rattle.mon_msg.specs.Protocol.Played.{Fits, played}
-use Rattle.mon_msg.specs.Protocol.Providing.{chunk}
-use Rattle.mon_msg.specs.Protocol.Readings.{Readings, epoch_of, readings_of, shared_entries}
-use Rattle.mon_msg.specs.Protocol.State.{State}
-use Rattle.mon_msg.specs.Protocol.Timers.{is_armed}
+use Rattle.mon_msg.specs.Protocol.Changes.{put_back}
 use Rattle.mon_msg.specs.declared.synchronization.SyncStage.TheVariants as sync
-use Rattle.mon_msg.specs.declared.synchronization.SyncStage.{SyncStage}
-use Rattle.mon_tx.specs.Map.{Store, apply}
 use Rattle.mon_tx.specs.declared.key.Key.TheVariants as key
-use Rattle.mon_tx.specs.declared.key.Key.{Key}
-use Rattle.mon_types.specs.Ranks.{has}
+use Rattle.mon_wire.specs.Message.PartLengths.{key_place_length}
 use Rattle.mon_wire.specs.declared.body.Body.TheVariants as body
-use Rattle.mon_wire.specs.declared.body.Body.{Body}
-use Rattle.mon_wire.specs.declared.parts.Cookie.{Cookie}
-use Rattle.mon_wire.specs.declared.parts.Place.{Place}
 use Rattle.mon_wire.specs.declared.phase.Phase.TheVariants as phase
 use Rattle.mon_wire.specs.declared.phase.Timer.TheVariants as timer
 use Rattle.quorum_elects.proofs.Can.{Can, New, Onward, Scope, reached_holds, rests, then, weaker}
@@ -38,7 +22,6 @@ use Rattle.quorum_elects.proofs.Standing.{Is, letter}
 use Rattle.quorum_elects.proofs.Steps.{is_now, is_stays}
 use Rattle.quorum_elects.proofs.Walking.{weaken}
 use Rattle.quorum_laws.specs.Accepting.{readings_at}
-use Rattle.quorum_model.specs.World.{World}
 use Rattle.quorum_rejoins.proofs.Events.{deliver, deliver_copy, ring_copy}
 use Rattle.quorum_rejoins.proofs.Giving.{Gives as GivesChunk, Grants, gives, grants_full, held_set, next_cookie}
 use Rattle.quorum_rejoins.proofs.Progress.{Brings, IsBrief, all_filter, brief_place, brings, filter_within, left_less, not_done}
@@ -46,11 +29,9 @@ use Rattle.quorum_rejoins.proofs.Sizes.{IsStill, copy_small, over_small}
 use Rattle.quorum_rejoins.proofs.Taking.{Asked, Chunks, Copies, Ends, Replays, Takes, ends, takes_chunk, takes_cookie, takes_last}
 use Rattle.quorum_rejoins.proofs.Turns.{AddsNone, Gives, Provider, Turn, turn_k, turn_p}
 use Rattle.quorum_walk.proofs.Sparing.{EntrySpares, Own, copied_own, own_of}
-use Rattle.std.proofs.Common.{List, None, Option, Some, [], ap, arith, false, inl, inr, length, ltb, refl, subst, suc, sym, true, zero, ℕ, ◌*◌, ◌++◌, ◌+◌, ◌<◌, ◌^◌, ◌∙◌, ◌∷◌, ◌≡◌, ◌≤◌, ◌⊎◌}
+use Rattle.std.proofs.Common.{List, None, Option, Some, [], ap, arith, false, filter, inl, inr, length, ltb, refl, slice_index_or, subst, suc, sym, true, zero, ℕ, ◌*◌, ◌++◌, ◌+◌, ◌<◌, ◌^◌, ◌∙◌, ◌∷◌, ◌≡◌, ◌≤◌, ◌⊎◌}
 use Rattle.std.proofs.lemmas.Bool.{false≢true, le-ltb}
 use Rattle.std.proofs.lemmas.List.{length-set}
-use Rattle.std.specs.List.{AllByRecursion, filter}
-use Rattle.std.specs.Prelude.{slice_index_or}
 
 -- ---- what changes of a copy put
 

@@ -1,21 +1,13 @@
 -- Single events at a monitor that may be in a full synchronization.
-use Rattle.mon_msg.specs.Protocol.Readings.{readings_of, shared_entries}
-use Rattle.mon_msg.specs.Protocol.State.{State, booting}
-use Rattle.mon_msg.specs.Protocol.Course.{Course}
-use Rattle.mon_msg.specs.Protocol.Table.{react}
+use Rattle.law_names.proofs.Runs.{Arrival, Deliver, Envelope, Ring, Start, World}
+use Rattle.law_names.proofs.Table.{Course, Message, State, Timer, booting, has, react, readings_of, shared_entries}
 use Rattle.mon_msg.specs.declared.input.Input.TheVariants as input
-use Rattle.mon_types.specs.Ranks.{has}
-use Rattle.mon_wire.specs.declared.message.Message.{Message}
-use Rattle.mon_wire.specs.declared.phase.Timer.{Timer}
 use Rattle.quorum_elects.proofs.Can.{Can, New, Sane, Scope, new_step}
 use Rattle.quorum_elects.proofs.Moving.{Bears, Did, Sound, comes, copies}
 use Rattle.quorum_elects.proofs.Walking.{Surely}
 use Rattle.quorum_model.proofs.Members.{member_of}
-use Rattle.quorum_model.specs.Meets.{Arrival}
-use Rattle.quorum_model.specs.World.{Deliver, Envelope, Ring, Start, World}
-use Rattle.std.proofs.Common.{Some, ap, ltb, refl, suc, true, ℕ, ◌≡◌}
+use Rattle.std.proofs.Common.{Some, ap, ltb, option_map, refl, suc, true, ℕ, ◌≡◌}
 use Rattle.std.proofs.lemmas.Bool.{ltb-true}
-use Rattle.std.specs.Option.{option_map}
 
 abbrev arrives : (at : ℕ) → Envelope → Arrival
 arrives at e = record { rank = e.to; at = at; input = input.Deliver e.message }

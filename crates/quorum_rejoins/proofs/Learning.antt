@@ -1,45 +1,27 @@
 -- The rows by which a monitor takes the versions that it lacks.
 use Rattle.calm_sizes.proofs.Stores.{ChangeShort}
 use Rattle.calm_sizes.specs.Sizes.{longest}
+use Rattle.law_names.proofs.Runs.{Monitors}
+use Rattle.law_names.proofs.Table.{AllByRecursion, Cookie, Course, Entry, Fits, Last, Me, Op, Place, Readings, Sent, State, Which, ask_chunk, at_rest, bootstrap, change, change_all, epoch_of, learn, learn_changes, next_place, played, react, replay_or_end, requester_is, take, take_and_ask, take_last, text, ◌>>=◌, ◌▸◌}
 use Rattle.log_model.proofs.Lists.{all_append}
-use Rattle.mon_bytes.specs.declared.entry.Entry.{Entry}
 use Rattle.mon_bytes.specs.declared.entry.KeyPlace.TheVariants as key_place
-use Rattle.mon_msg.specs.Protocol.Changes.{Last}
-use Rattle.mon_msg.specs.Protocol.Chunks.{next_place, replay_or_end, take, take_and_ask, take_last}
-use Rattle.mon_msg.specs.Protocol.Copying.{ask_chunk}
-use Rattle.mon_msg.specs.Protocol.Course.{Course, change, change_all, requester_is, ◌>>=◌, ◌▸◌}
-use Rattle.mon_msg.specs.Protocol.Entering.{bootstrap}
-use Rattle.mon_msg.specs.Protocol.Learning.{learn, learn_changes}
-use Rattle.mon_msg.specs.Protocol.Played.{Fits, played}
-use Rattle.mon_msg.specs.Protocol.Readings.{Readings, epoch_of}
-use Rattle.mon_msg.specs.Protocol.State.{State}
-use Rattle.mon_msg.specs.Protocol.Table.{at_rest, react}
 use Rattle.mon_msg.specs.declared.input.Input.TheVariants as input
 use Rattle.mon_msg.specs.declared.plan.Sent.TheVariants as send
-use Rattle.mon_msg.specs.declared.plan.Sent.{Sent}
 use Rattle.mon_msg.specs.declared.synchronization.SyncStage.TheVariants as sync
-use Rattle.mon_msg.specs.declared.view.Me.{Me}
-use Rattle.mon_tx.specs.Text.{text}
-use Rattle.mon_tx.specs.declared.op.Op.{Op}
-use Rattle.mon_types.specs.declared.names.Which.{Which}
 use Rattle.mon_wire.specs.declared.body.Body.TheVariants as body
-use Rattle.mon_wire.specs.declared.parts.Cookie.{Cookie}
-use Rattle.mon_wire.specs.declared.parts.Place.{Place}
 use Rattle.mon_wire.specs.declared.phase.Phase.TheVariants as phase
 use Rattle.quorum_elects.proofs.Moving.{Sound}
 use Rattle.quorum_elects.proofs.Standing.{letter}
 use Rattle.quorum_elects.proofs.Walking.{Surely, done, so}
 use Rattle.quorum_model.proofs.Members.{member_of}
-use Rattle.quorum_model.specs.Monitors.{Monitors}
 use Rattle.quorum_rejoins.proofs.Taking.{Chunks, Takes, gives_to, is_ours_now}
 use Rattle.quorum_walk.proofs.Lists.{Among}
 use Rattle.quorum_walk.proofs.Sparing.{Own, Spares, learned_own, own_of, played_more}
-use Rattle.table_rows.proofs.Electing.{probes}
-use Rattle.table_rows.proofs.Serving.{chunk_row, last_chunk_row}
 use Rattle.std.proofs.Common.{Bool, List, Ok, Result, Some, [], ap, arith, false, inl, leb, length, ltb, refl, subst, suc, sym, true, ℕ, ◌++◌, ◌+◌, ◌<◌, ◌^◌, ◌∙◌, ◌∷◌, ◌≡◌, ◌≤◌}
 use Rattle.std.proofs.lemmas.Bool.{le-leb, lt-ltb}
 use Rattle.std.proofs.lemmas.List.{length-set}
-use Rattle.std.specs.List.{AllByRecursion}
+use Rattle.table_rows.proofs.Electing.{probes}
+use Rattle.table_rows.proofs.Serving.{chunk_row, last_chunk_row}
 
 -- ---- values that are learned
 

@@ -2,6 +2,8 @@
 use Rattle.calm_sizes.proofs.Keys.{fold_keys, fold_listed, kept_from, log_keys, service_keys, version_at}
 use Rattle.calm_sizes.proofs.Listed.{In, few_within, here, run, there}
 use Rattle.calm_sizes.proofs.Shorts.{fold_short}
+use Rattle.law_names.proofs.Runs.{AllValues, log_from}
+use Rattle.law_names.proofs.Table.{AllByRecursion, Area, Body, Cell, Cookie, Entry, Key, KeyPlace, Kv, Log, Op, Place as ChunkPlace, Store, after_entries, chunk, chunk_with, entries, fits, fold, get, given_entries, given_values, is_after, is_done, is_finished, longest, place, place_cmp, reach, record_at, run_from, run_of, shared, shared_entries, text}
 use Rattle.log_copies.proofs.Ordered.{entry_of, past_up}
 use Rattle.log_copies.specs.Copies.{is_past}
 use Rattle.log_model.proofs.Committed.{holds}
@@ -9,43 +11,22 @@ use Rattle.log_model.proofs.Lists.{all_append}
 use Rattle.log_model.proofs.Records.{run_from_length}
 use Rattle.log_model.proofs.SharedEntries.{Pair, entries_found}
 use Rattle.log_model.proofs.TextSizes.{KeyFits, area_length, key_length}
-use Rattle.log_model.specs.LogOfValues.{AllValues}
-use Rattle.log_model.specs.Windows.{log_from}
-use Rattle.mon_bytes.specs.declared.entry.Entry.{Entry}
 use Rattle.mon_bytes.specs.declared.entry.KeyPlace.TheVariants as key_place
-use Rattle.mon_bytes.specs.declared.entry.KeyPlace.{KeyPlace}
 use Rattle.mon_msg.proofs.Fitting.{besides_entries, besides_records, given_entries-is, given_values-is}
 use Rattle.mon_msg.proofs.Runs.{have_room, longest_is}
-use Rattle.mon_msg.specs.Fold.{fold}
-use Rattle.mon_wire.specs.Message.PartLengths.{entry_length, key_place_length, value_length}
-use Rattle.mon_msg.specs.Protocol.Length.{fits}
-use Rattle.mon_msg.specs.Protocol.Places.{after_entries, is_after, is_done}
-use Rattle.mon_msg.specs.Protocol.Providing.{chunk, chunk_with, given_entries, given_values, is_finished, reach}
-use Rattle.mon_msg.specs.Protocol.Readings.{shared_entries}
-use Rattle.mon_msg.specs.Protocol.Records.{IsLongest, longest, record_at, run_from, run_of}
+use Rattle.mon_msg.specs.Protocol.Records.{IsLongest}
 use Rattle.mon_tx.proofs.Places.{places_total}
-use Rattle.mon_tx.specs.Decision.{Cell}
-use Rattle.mon_tx.specs.Keys.{place, shared}
-use Rattle.mon_tx.specs.Text.{text}
-use Rattle.mon_tx.specs.Map.{Place, Store, place_cmp}
+use Rattle.mon_tx.specs.Map.{Place}
 use Rattle.mon_tx.specs.declared.key.Area.TheVariants as area
-use Rattle.mon_tx.specs.declared.key.Area.{Area}
 use Rattle.mon_tx.specs.declared.key.Key.TheVariants as key
-use Rattle.mon_tx.specs.declared.key.Key.{Key}
-use Rattle.mon_tx.specs.declared.op.Op.{Op}
+use Rattle.mon_wire.specs.Message.PartLengths.{entry_length, key_place_length, value_length}
 use Rattle.mon_wire.specs.declared.body.Body.TheVariants as body
-use Rattle.mon_wire.specs.declared.body.Body.{Body}
-use Rattle.mon_wire.specs.declared.parts.Cookie.{Cookie}
-use Rattle.mon_wire.specs.declared.parts.Place.{Place as ChunkPlace}
-use Rattle.mon_wire.specs.declared.request.Service.TheVariants.{Kv, Log}
 use Rattle.quorum_walk.proofs.Lists.{Among}
-use Rattle.std.proofs.Common.{Bool, List, None, Option, Some, [], ap, arith, cond, false, inl, inr, leb, length, map, not, refl, subst, suc, sym, true, zero, ℕ, ◌&&◌, ◌++◌, ◌+◌, ◌-◌, ◌<◌, ◌^◌, ◌∙◌, ◌∷◌, ◌≡◌, ◌≤◌, ◌⊎◌, ◌||◌}
+use Rattle.std.proofs.Common.{Bool, List, None, Option, Some, [], ap, arith, cond, false, filter, inl, inr, leb, length, map, not, refl, subst, suc, sum_by, sym, true, zero, ℕ, ◌&&◌, ◌++◌, ◌+◌, ◌-◌, ◌<◌, ◌^◌, ◌||◌, ◌∙◌, ◌∷◌, ◌≡◌, ◌≤◌, ◌⊎◌}
 use Rattle.std.proofs.lemmas.Bool.{cond_both, false≢true, le-leb, leb-false, leb-true}
-use Rattle.std.proofs.lemmas.List.{length-append, length-map, nil_from_length}
 use Rattle.std.proofs.lemmas.List.Sums.{sum_by-cons}
+use Rattle.std.proofs.lemmas.List.{length-append, length-map, nil_from_length}
 use Rattle.std.specs.Cmp.{eq_by_cmp_equiv}
-use Rattle.std.specs.FinMap.{entries, get}
-use Rattle.std.specs.List.{AllByRecursion, filter, sum_by}
 use Rattle.std.specs.Ordering.{is_eq, is_lt}
 use Rattle.std.specs.declared.cmp.Ordering.TheVariants.{Equal, Greater, Less}
 use Rattle.std.specs.declared.cmp.Ordering.{Ordering}

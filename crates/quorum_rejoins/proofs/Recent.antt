@@ -1,47 +1,30 @@
 -- One member copies the versions that it lacks from another one.
 use Rattle.calm_sizes.proofs.Records.{entry_short}
 use Rattle.calm_sizes.proofs.Stores.{ChangeShort}
+use Rattle.law_names.proofs.Runs.{AllValues, World}
+use Rattle.law_names.proofs.Table.{AllByRecursion, Body, Change, Cookie, Course, Fits, Op, Place, Readings, State, Store, chunk, epoch_of, has, is_after, played, readings_of, record_at, shared_entries, text}
 use Rattle.log_model.proofs.Records.{AreVersions, version_spares}
-use Rattle.log_model.specs.LogOfValues.{AllValues}
 use Rattle.mon_bytes.specs.declared.entry.KeyPlace.TheVariants as key_place
-use Rattle.mon_msg.specs.Protocol.Changes.{Change}
-use Rattle.mon_msg.specs.Protocol.Course.{Course}
-use Rattle.mon_msg.specs.Protocol.Places.{is_after}
-use Rattle.mon_msg.specs.Protocol.Played.{Fits, played}
-use Rattle.mon_msg.specs.Protocol.Providing.{chunk}
-use Rattle.mon_msg.specs.Protocol.Readings.{Readings, epoch_of, readings_of, shared_entries}
-use Rattle.mon_msg.specs.Protocol.Records.{record_at}
-use Rattle.mon_msg.specs.Protocol.State.{State}
 use Rattle.mon_msg.specs.declared.synchronization.SyncStage.TheVariants as sync
-use Rattle.mon_tx.specs.Map.{Store}
-use Rattle.mon_tx.specs.Text.{text}
-use Rattle.mon_tx.specs.declared.op.Op.{Op}
-use Rattle.mon_types.specs.Ranks.{has}
 use Rattle.mon_wire.specs.declared.body.Body.TheVariants as body
-use Rattle.mon_wire.specs.declared.body.Body.{Body}
-use Rattle.mon_wire.specs.declared.parts.Cookie.{Cookie}
-use Rattle.mon_wire.specs.declared.parts.Place.{Place}
 use Rattle.quorum_elects.proofs.Can.{Can, New, Onward, Scope, reached_holds, rests, then, weaker}
 use Rattle.quorum_elects.proofs.Moving.{Did, Sound}
 use Rattle.quorum_elects.proofs.Standing.{Is, letter}
 use Rattle.quorum_elects.proofs.Steps.{is_now, is_stays}
 use Rattle.quorum_elects.proofs.Walking.{weaken}
 use Rattle.quorum_laws.specs.Accepting.{readings_at}
-use Rattle.quorum_model.specs.World.{World}
 use Rattle.quorum_near.proofs.Whole.{Holds}
 use Rattle.quorum_recovers.proofs.Known.{message_tells}
-use Rattle.quorum_rejoins.proofs.Events.{deliver}
 use Rattle.quorum_rejoins.proofs.Copying.{Mail, T1}
+use Rattle.quorum_rejoins.proofs.Events.{deliver}
 use Rattle.quorum_rejoins.proofs.Giving.{Gives as GivesChunk, Grants, gives, grants_recent, held_set, next_cookie}
 use Rattle.quorum_rejoins.proofs.Learning.{IsPlain, Learns, Stops, learns_chunk, learns_last}
 use Rattle.quorum_rejoins.proofs.Progress.{BringsValues, brings_values}
 use Rattle.quorum_rejoins.proofs.Taking.{Asked, Chunks, Takes, takes_cookie}
 use Rattle.quorum_rejoins.proofs.Turns.{AddsNone, Gives, Provider, turn_k, turn_p}
 use Rattle.quorum_walk.proofs.Sparing.{Own, own_of}
-use Rattle.std.proofs.Common.{List, None, Some, [], ap, arith, false, inl, inr, length, ltb, refl, subst, suc, sym, true, zero, ℕ, ◌*◌, ◌+◌, ◌-◌, ◌<◌, ◌^◌, ◌∙◌, ◌∷◌, ◌≡◌, ◌≤◌, ◌⊎◌}
+use Rattle.std.proofs.Common.{List, None, Some, [], ap, arith, false, filter, inl, inr, length, ltb, refl, slice_index_or, subst, suc, sym, true, zero, ℕ, ◌*◌, ◌+◌, ◌-◌, ◌<◌, ◌^◌, ◌∙◌, ◌∷◌, ◌≡◌, ◌≤◌, ◌⊎◌}
 use Rattle.std.proofs.lemmas.List.{length-set}
-use Rattle.std.specs.List.{AllByRecursion, filter}
-use Rattle.std.specs.Prelude.{slice_index_or}
 
 -- versions of a log leave a monitor's own numbers, and are short
 plain_all : (log : List (List ℕ)) (fits : length log ≤ 2 ^ 62) (all : AllValues log) (xs : List (List Op)) (v : ℕ) → v + length xs ≤ length log → AreVersions log (suc v) xs → AllByRecursion IsPlain xs

@@ -1,27 +1,13 @@
 -- A majority that has room catches up, however far its members are from the whole log.
 use Rattle.calm_sizes.proofs.Records.{entry_short}
 use Rattle.calm_sizes.specs.Sizes.{AllShort, longest}
+use Rattle.law_names.proofs.Runs.{AllFit, Event, Monitors, World, first_read, last_of, log_from, most_size, ran, run, size_of}
+use Rattle.law_names.proofs.Table.{AllByRecursion, Command, Course, Op, Readings, Session, State, Store, booting, epoch_of, has, lag, number, react, readings_of, record_at, same_phase, shared_entries, text}
 use Rattle.log_copies.proofs.Matching.{monitor_keeps, read_last, record_there}
-use Rattle.log_model.specs.Windows.{first_read, log_from}
-use Rattle.mon_bytes.specs.declared.command.Command.{Command}
-use Rattle.mon_kv.specs.Readers.{most_size, size_of}
-use Rattle.mon_msg.specs.Protocol.Course.{Course}
-use Rattle.mon_msg.specs.Protocol.Phases.{same_phase}
-use Rattle.mon_msg.specs.Protocol.Probing.{lag}
-use Rattle.mon_msg.specs.Protocol.Readings.{Readings, epoch_of, readings_of, shared_entries}
-use Rattle.mon_msg.specs.Protocol.Records.{record_at}
-use Rattle.mon_msg.specs.Protocol.State.{State, booting}
-use Rattle.mon_msg.specs.Protocol.Table.{react}
 use Rattle.mon_msg.specs.declared.input.Input.TheVariants as input
-use Rattle.mon_tx.specs.Keys.{number}
-use Rattle.mon_tx.specs.Map.{Store}
-use Rattle.mon_tx.specs.Text.{text}
 use Rattle.mon_tx.specs.declared.key.Area.TheVariants as area
 use Rattle.mon_tx.specs.declared.key.Key.TheVariants as key
-use Rattle.mon_tx.specs.declared.op.Op.{Op}
-use Rattle.mon_types.specs.Ranks.{has}
 use Rattle.mon_wire.specs.declared.phase.Phase.TheVariants as phase
-use Rattle.mon_wire.specs.declared.request.Session.{Session}
 use Rattle.quorum_agreement.proofs.Grown.{first_is}
 use Rattle.quorum_elects.proofs.Can.{Can, Onward, Sane, Scope, for_each, reached_holds, rests, then, weaker}
 use Rattle.quorum_elects.proofs.Elected.{near_lacks}
@@ -34,11 +20,6 @@ use Rattle.quorum_elects.specs.Ways.{Clock}
 use Rattle.quorum_laws.specs.Accepting.{IsMajorityOf, readings_at}
 use Rattle.quorum_model.proofs.Continuing.{at}
 use Rattle.quorum_model.proofs.Members.{member_of}
-use Rattle.quorum_model.specs.Events.{AllFit}
-use Rattle.quorum_model.specs.Growth.{last_of}
-use Rattle.quorum_model.specs.Monitors.{Monitors}
-use Rattle.quorum_model.specs.Runs.{ran, run}
-use Rattle.quorum_model.specs.World.{Event, World}
 use Rattle.quorum_near.proofs.Whole.{Holds, every, last_read, mark_read}
 use Rattle.quorum_near.specs.Near.{SomeNear}
 use Rattle.quorum_recovers.proofs.Known.{at_cell, entry_value, low_of, on_log, record_read, within_log}
@@ -50,7 +31,6 @@ use Rattle.quorum_rejoins.proofs.Turns.{Gives, Provider, Turn, adds_none}
 use Rattle.quorum_rejoins.specs.Lagging.{CaughtUp, HaveRoom, LacksMore}
 use Rattle.std.proofs.Common.{Bool, List, Option, Some, ap, arith, false, inl, inr, length, ltb, refl, subst, suc, sym, true, zero, ℕ, ◌*◌, ◌+◌, ◌<◌, ◌^◌, ◌∙◌, ◌≡◌, ◌≤◌, ◌⊎◌}
 use Rattle.std.proofs.lemmas.Bool.{cases_lt, false≢true, lt-ltb}
-use Rattle.std.specs.List.{AllByRecursion}
 
 -- a store keeps at most 752 versions
 low_from : (c : ℕ) → c < log_from c + 752

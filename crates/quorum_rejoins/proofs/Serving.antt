@@ -1,11 +1,7 @@
 -- Any majority that has room catches up. It serves if it is ready and none of its members lacks from 2 to 11 versions.
+use Rattle.law_names.proofs.Runs.{AllFit, Arrives, Client, Crash, Deliver, Event, IsCommand, Monitors, PlainFits, Ran, Ring, Start, World, first_world, plain_of, ran, run, run_from}
+use Rattle.law_names.proofs.Table.{Command, Session, has, is_too_long, or_zero}
 use Rattle.log_model.proofs.Lists.{all_append}
-use Rattle.log_model.specs.LogOfValues.{IsCommand}
-use Rattle.mon_bytes.specs.declared.command.Command.{Command}
-use Rattle.mon_msg.specs.Protocol.Commands.{is_too_long}
-use Rattle.mon_msg.specs.Protocol.Readings.{or_zero}
-use Rattle.mon_types.specs.Ranks.{has}
-use Rattle.mon_wire.specs.declared.request.Session.{Session}
 use Rattle.quorum_elects.proofs.Can.{Can, Scope, steps_append, weaker}
 use Rattle.quorum_elects.proofs.Elected.{near_lacks, way_on}
 use Rattle.quorum_elects.proofs.Steps.{steps_fit}
@@ -13,13 +9,9 @@ use Rattle.quorum_elects.specs.Ready.{AllNear, HasRoom, IsReady, LacksAtMost}
 use Rattle.quorum_elects.specs.Ways.{AreSteps, Clock, ComesInLease, HasWay, IsStep, OthersRest}
 use Rattle.quorum_laws.specs.Accepting.{IsMajorityOf}
 use Rattle.quorum_model.proofs.Continuing.{at, ran_on}
-use Rattle.quorum_model.specs.Events.{AllFit, PlainFits}
-use Rattle.quorum_model.specs.Monitors.{Monitors}
-use Rattle.quorum_model.specs.Runs.{Ran, ran, run, run_from}
-use Rattle.quorum_model.specs.World.{Client, Arrives, Crash, Deliver, Event, Ring, Start, World, first_world, plain_of}
-use Rattle.quorum_recovers.proofs.Asked.{request_fits}
 use Rattle.quorum_near.proofs.Whole.{every}
 use Rattle.quorum_near.specs.Near.{IsNear}
+use Rattle.quorum_recovers.proofs.Asked.{request_fits}
 use Rattle.quorum_recovers.proofs.Served.{close_serve, serves_any}
 use Rattle.quorum_recovers.specs.Serving.{IsServed}
 use Rattle.quorum_rejoins.proofs.Rejoined.{AllCaught, all_catch_up}

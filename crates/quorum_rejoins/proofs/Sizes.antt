@@ -3,34 +3,26 @@ use Rattle.calm_sizes.proofs.AnyRuns.{OnSomeLog}
 use Rattle.calm_sizes.proofs.Listed.{In, counted, here, size_within, there, weight}
 use Rattle.calm_sizes.proofs.Weights.{fold_small, found_listed, keys_of, never_full, own_weight, size_parts}
 use Rattle.calm_sizes.specs.Sizes.{AllShort, longest}
+use Rattle.law_names.proofs.Runs.{AllValues, entry_size, most_size, size_of}
+use Rattle.law_names.proofs.Table.{AllByRecursion, KeyPlace, Place as ChunkPlace, Readings, State, Store, SyncStage, empty, entries, fold, get, insert, is_local, number, place_cmp, readings_of, retain_keys, shared}
 use Rattle.log_copies.proofs.Own.{own_local}
 use Rattle.log_copies.proofs.Standing.{Agrees}
 use Rattle.log_copies.proofs.UnderWay.{InStage, Marked}
 use Rattle.log_copies.specs.Copies.{IsFolded, IsFuzzyCopy, IsRecord, is_own, is_past, shared_with_records}
 use Rattle.log_model.proofs.Places.{get_kept, is_shared, same_place, shared_is}
 use Rattle.log_model.proofs.SharedEntries.{Pair, entries_found}
-use Rattle.log_model.specs.LogOfValues.{AllValues}
-use Rattle.mon_bytes.specs.declared.entry.KeyPlace.{KeyPlace}
-use Rattle.mon_kv.specs.Readers.{entry_size, most_size, size_of}
-use Rattle.mon_msg.specs.Fold.{fold}
-use Rattle.mon_msg.specs.Protocol.Readings.{Readings, readings_of}
-use Rattle.mon_msg.specs.Protocol.State.{State}
 use Rattle.mon_msg.specs.declared.synchronization.SyncStage.TheVariants as sync
-use Rattle.mon_msg.specs.declared.synchronization.SyncStage.{SyncStage}
 use Rattle.mon_tx.proofs.Places.{places_total}
-use Rattle.mon_tx.specs.Keys.{is_local, number, shared}
-use Rattle.mon_tx.specs.Map.{Place, Store, place_cmp}
+use Rattle.mon_tx.specs.Map.{Place}
 use Rattle.mon_tx.specs.declared.key.Area.TheVariants as area
 use Rattle.mon_tx.specs.declared.key.Key.TheVariants as key
-use Rattle.mon_wire.specs.declared.parts.Place.{Place as ChunkPlace}
 use Rattle.mon_wire.specs.declared.phase.Phase.TheVariants as phase
 use Rattle.quorum_agreement.proofs.Step.{copy_marked}
-use Rattle.std.proofs.Common.{Bool, List, None, Option, Some, [], ap, arith, cond, false, inl, inr, length, not, refl, subst, suc, sym, true, ℕ, ◌+◌, ◌^◌, ◌∙◌, ◌∷◌, ◌≡◌, ◌≤◌, ◌⊎◌}
+use Rattle.std.proofs.Common.{Bool, List, None, Option, Some, [], ap, arith, cond, false, inl, inr, length, not, refl, subst, suc, sum_by, sym, true, ℕ, ◌+◌, ◌^◌, ◌∙◌, ◌∷◌, ◌≡◌, ◌≤◌, ◌⊎◌}
 use Rattle.std.proofs.lemmas.Bool.{false≢true}
 use Rattle.std.proofs.lemmas.List.Sums.{sum_by-cons}
 use Rattle.std.specs.Cmp.{eq_by_cmp_equiv}
-use Rattle.std.specs.FinMap.{empty, entries, get, get-empty, get-entries, get-insert, insert, retain_keys}
-use Rattle.std.specs.List.{AllByRecursion, sum_by}
+use Rattle.std.specs.FinMap.{get-empty, get-entries, get-insert}
 use Rattle.std.specs.Ordering.{eq_by_cmp}
 
 -- ---- what one store has of another

@@ -1,33 +1,13 @@
 -- The rows by which a monitor starts, and takes a whole copy.
 use Rattle.calm_sizes.proofs.Stores.{ChangeShort}
-use Rattle.mon_bytes.specs.declared.entry.Entry.{Entry}
+use Rattle.law_names.proofs.Runs.{Monitors}
+use Rattle.law_names.proofs.Table.{AllByRecursion, Boot, Change, Cookie, Course, Entry, Epoch, Fits, KeyPlace, Last, Mark, Me, Place, Readings, State, SyncStage, Unmark, Which, after_entries, arm, armed, ask_chunk, at_rest, awaits_cookie, booting, change_all, copy_changes, disarm, epoch_of, first_place, floor_of, full_sync, is_armed, is_cookie, lag, message_to, next_place, only_ping, play, played, react, recent_sync, replay_any, replay_or_end, requester_is, same_flag, same_key_place, same_phase, same_place, start, step_of, take, take_and_ask, take_last, takes_chunks, ◌>>=◌, ◌▸◌}
 use Rattle.mon_bytes.specs.declared.entry.KeyPlace.TheVariants as key_place
-use Rattle.mon_bytes.specs.declared.entry.KeyPlace.{KeyPlace}
-use Rattle.mon_msg.specs.Protocol.Changes.{Boot, Change, Epoch, Last, Mark, Unmark}
-use Rattle.mon_msg.specs.Protocol.Chunks.{copy_changes, next_place, replay_or_end, take, take_and_ask, take_last, takes_chunks}
-use Rattle.mon_msg.specs.Protocol.Copying.{ask_chunk, awaits_cookie, first_place, same_flag}
-use Rattle.mon_msg.specs.Protocol.Course.{Course, arm, change_all, disarm, requester_is, ◌>>=◌, ◌▸◌}
-use Rattle.mon_msg.specs.Protocol.Phases.{same_phase}
-use Rattle.mon_msg.specs.Protocol.Places.{after_entries, is_cookie, same_key_place, same_place}
-use Rattle.mon_msg.specs.Protocol.Played.{Fits, play, played}
-use Rattle.mon_msg.specs.Protocol.Probing.{lag}
-use Rattle.mon_msg.specs.Protocol.Readings.{Readings, epoch_of}
-use Rattle.mon_msg.specs.Protocol.Replay.{replay_any, step_of}
-use Rattle.mon_msg.specs.Protocol.State.{State, booting}
-use Rattle.mon_msg.specs.Protocol.Synchronizing.{floor_of, full_sync, recent_sync}
-use Rattle.mon_msg.specs.Protocol.Table.{at_rest, react, start}
-use Rattle.mon_msg.specs.Protocol.Timers.{armed, is_armed, only_ping}
+use Rattle.mon_msg.specs.Protocol.Sending as sending
 use Rattle.mon_msg.specs.declared.input.Input.TheVariants as input
 use Rattle.mon_msg.specs.declared.plan.Sent.TheVariants as send
 use Rattle.mon_msg.specs.declared.synchronization.SyncStage.TheVariants as sync
-use Rattle.mon_msg.specs.declared.synchronization.SyncStage.{SyncStage}
-use Rattle.mon_msg.specs.declared.view.Me.{Me}
-use Rattle.mon_msg.specs.Protocol.Sending.{message_to}
-use Rattle.mon_msg.specs.Protocol.Sending as sending
-use Rattle.mon_types.specs.declared.names.Which.{Which}
 use Rattle.mon_wire.specs.declared.body.Body.TheVariants as body
-use Rattle.mon_wire.specs.declared.parts.Cookie.{Cookie}
-use Rattle.mon_wire.specs.declared.parts.Place.{Place}
 use Rattle.mon_wire.specs.declared.phase.Phase.TheVariants as phase
 use Rattle.mon_wire.specs.declared.phase.Timer.TheVariants as timer
 use Rattle.quorum_elects.proofs.Rows.{counted}
@@ -35,18 +15,15 @@ use Rattle.quorum_elects.proofs.Standing.{SaysAll, among_map, among_others, lett
 use Rattle.quorum_elects.proofs.Walking.{Surely, by_test, done, never, so}
 use Rattle.quorum_elects.specs.Ready.{HasRoom}
 use Rattle.quorum_model.proofs.Members.{member_of}
-use Rattle.quorum_model.specs.Monitors.{Monitors}
 use Rattle.quorum_rejoins.proofs.Giving.{same_cookie_is}
 use Rattle.quorum_walk.proofs.Lists.{Among}
-use Rattle.table_rows.proofs.Electing.{asks_recent_row, copies_again_row, copies_row, probes, probing, start_row}
-use Rattle.table_rows.proofs.Hearing.{IsProvider}
-use Rattle.table_rows.proofs.Serving.{chunk_row, cookie_row, last_chunk_row, step_row}
-use Rattle.std.proofs.Common.{Bool, List, None, Ok, Option, Result, Some, [], ap, arith, false, inl, inr, leb, length, ltb, not, refl, subst, suc, sym, true, ℕ, ◌&&◌, ◌+◌, ◌-◌, ◌<◌, ◌^◌, ◌∙◌, ◌∷◌, ◌≡◌, ◌≤◌, ◌⊎◌}
+use Rattle.std.proofs.Common.{Bool, List, None, Ok, Option, Result, Some, [], ap, arith, false, if◌then◌else◌, inl, inr, is_some, leb, length, ltb, not, refl, slice_index_or, slice_set, subst, suc, sym, true, ℕ, ◌&&◌, ◌+◌, ◌-◌, ◌<◌, ◌^◌, ◌∙◌, ◌∷◌, ◌≡◌, ◌≤◌, ◌⊎◌}
 use Rattle.std.proofs.lemmas.Bool.{eq-eqb, le-leb, lt-ltb}
 use Rattle.std.proofs.lemmas.List.{length-set}
 use Rattle.std.proofs.lemmas.Slice.Eq.{bytes_eq-Decides}
-use Rattle.std.specs.List.{AllByRecursion}
-use Rattle.std.specs.Prelude.{if◌then◌else◌, is_some, slice_index_or, slice_set}
+use Rattle.table_rows.proofs.Electing.{asks_recent_row, copies_again_row, copies_row, probes, probing, start_row}
+use Rattle.table_rows.proofs.Hearing.{IsProvider}
+use Rattle.table_rows.proofs.Serving.{chunk_row, cookie_row, last_chunk_row, step_row}
 
 -- ---- places
 

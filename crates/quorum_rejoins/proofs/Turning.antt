@@ -1,21 +1,10 @@
 -- One member of a set catches up, by whichever copy it needs.
+use Rattle.law_names.proofs.Runs.{World, most_size, size_of}
+use Rattle.law_names.proofs.Table.{AllByRecursion, Course, Fits, Op, Readings, Store, SyncStage, cell, epoch_of, epoch_or_first, floor_of, has, lag, play, readings_of, record_at, shared_entries, text}
 use Rattle.log_copies.proofs.UnderWay.{floor_short, there_short}
-use Rattle.mon_kv.specs.Readers.{most_size, size_of}
-use Rattle.mon_msg.specs.Protocol.Course.{Course}
-use Rattle.mon_msg.specs.Protocol.Played.{Fits, play}
-use Rattle.mon_msg.specs.Protocol.Probing.{lag}
-use Rattle.mon_msg.specs.Protocol.Readings.{Readings, epoch_of, epoch_or_first, readings_of, shared_entries}
-use Rattle.mon_msg.specs.Protocol.Records.{record_at}
-use Rattle.mon_msg.specs.Protocol.Synchronizing.{floor_of}
 use Rattle.mon_msg.specs.declared.synchronization.SyncStage.TheVariants as sync
-use Rattle.mon_msg.specs.declared.synchronization.SyncStage.{SyncStage}
-use Rattle.mon_tx.specs.Keys.{cell}
-use Rattle.mon_tx.specs.Map.{Store}
-use Rattle.mon_tx.specs.Text.{text}
 use Rattle.mon_tx.specs.declared.key.Area.TheVariants as area
 use Rattle.mon_tx.specs.declared.key.Key.TheVariants as key
-use Rattle.mon_tx.specs.declared.op.Op.{Op}
-use Rattle.mon_types.specs.Ranks.{has}
 use Rattle.mon_wire.specs.declared.body.Body.TheVariants as body
 use Rattle.mon_wire.specs.declared.phase.Phase.TheVariants as phase
 use Rattle.quorum_elects.proofs.Can.{Can, Onward, Scope, then, weaker}
@@ -25,10 +14,9 @@ use Rattle.quorum_elects.proofs.Steps.{is_now}
 use Rattle.quorum_elects.proofs.Walking.{weaken}
 use Rattle.quorum_elects.specs.Ready.{HasRoom}
 use Rattle.quorum_laws.specs.Accepting.{readings_at}
-use Rattle.quorum_model.specs.World.{World}
-use Rattle.quorum_rejoins.proofs.Events.{deliver, deliver_copy}
 use Rattle.quorum_rejoins.proofs.Beginnings.{StartedOf, Told, asks_how_far}
 use Rattle.quorum_rejoins.proofs.Copying.{Joined, T1, Waiting, bears, copies_whole, puts_mark}
+use Rattle.quorum_rejoins.proofs.Events.{deliver, deliver_copy}
 use Rattle.quorum_rejoins.proofs.Progress.{IsBrief}
 use Rattle.quorum_rejoins.proofs.Recent as recent
 use Rattle.quorum_rejoins.proofs.Sizes.{IsStill}
@@ -37,7 +25,6 @@ use Rattle.quorum_rejoins.proofs.Turns.{AddsNone, Provider, turn_k}
 use Rattle.quorum_walk.proofs.Sparing.{Own, own_of}
 use Rattle.std.proofs.Common.{Bool, List, Some, [], ap, arith, false, inl, inr, length, ltb, refl, subst, suc, sym, true, ℕ, ◌&&◌, ◌+◌, ◌<◌, ◌^◌, ◌∙◌, ◌∷◌, ◌≡◌, ◌≤◌, ◌⊎◌}
 use Rattle.std.proofs.lemmas.Bool.{and_parts, ltb-false, ltb-true}
-use Rattle.std.specs.List.{AllByRecursion}
 
 mark_fits : (m : Store) → AllByRecursion Fits (mark (readings_of m) ∷ [])
 unfolding readings_of

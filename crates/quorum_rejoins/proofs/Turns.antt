@@ -1,18 +1,11 @@
 -- What stays in the world while one member of a set copies from another one.
+use Rattle.law_names.proofs.Runs.{World, grown}
+use Rattle.law_names.proofs.Table.{Change, Course, Readings, State, Store, apply, encoded, joined, readings_of, same_phase}
 use Rattle.mon_msg.proofs.Joining.{apply-joined}
-use Rattle.mon_msg.specs.Joined.{joined}
-use Rattle.mon_msg.specs.Protocol.Changes.{Change, encoded}
-use Rattle.mon_msg.specs.Protocol.Course.{Course}
-use Rattle.mon_msg.specs.Protocol.Phases.{same_phase}
-use Rattle.mon_msg.specs.Protocol.Readings.{Readings, readings_of}
-use Rattle.mon_msg.specs.Protocol.State.{State}
-use Rattle.mon_tx.specs.Map.{Store, apply}
 use Rattle.mon_wire.specs.declared.phase.Phase.TheVariants as phase
 use Rattle.quorum_agreement.proofs.Grown.{grown_marked, grown_none}
 use Rattle.quorum_elects.proofs.Can.{Onward, Sane, Scope}
 use Rattle.quorum_elects.proofs.Moving.{Moved}
-use Rattle.quorum_model.specs.Growth.{grown}
-use Rattle.quorum_model.specs.World.{World}
 use Rattle.std.proofs.Common.{Bool, List, Some, [], ap, false, inl, inr, length, refl, subst, sym, true, ℕ, ◌∙◌, ◌≡◌, ◌≤◌, ◌⊎◌}
 
 -- A store with these readings adds nothing to the log: it is marked, or has no version that the log lacks.

@@ -1,50 +1,22 @@
 -- Each event replies that it doesn't serve only for a cause, or hands on a ROUTE.
+use Rattle.law_names.proofs.Table.{AllByRecursion, Asked, Body, Command, CommandRefused, Course, Entry, Input, Me, Message, Op, Origin, Readings, Reply, Sent, Service, Session, ShownMap, State, Vote, answer_to, answers_to, asked_of, at_rest, begin_with, cancel, change, changes_after, clients_are, epoch_of, full_sync, insert, kept_from, made, members, message_to, queue_up, react, read_map, refusal, send, service_first, service_last, service_of, shown, since, value, value_if_made, wait_under, ◌▸◌}
 use Rattle.map_kv.specs.Text as kv_text
 use Rattle.map_kv.specs.declared.inc.KvInc.TheVariants as inc
 use Rattle.mon_bytes.specs.declared.command.Command.TheVariants as command
-use Rattle.mon_bytes.specs.declared.command.Command.{Command}
 use Rattle.mon_bytes.specs.declared.command.CommandRefused.TheVariants as refused_as
-use Rattle.mon_bytes.specs.declared.command.CommandRefused.{CommandRefused}
-use Rattle.mon_bytes.specs.declared.entry.Entry.{Entry}
-use Rattle.mon_msg.specs.Protocol.Changes.{Vote}
-use Rattle.mon_msg.specs.Protocol.Commands.{queue_up, wait_under}
-use Rattle.mon_msg.specs.Protocol.Course.{Course, change, clients_are, ◌▸◌}
-use Rattle.mon_msg.specs.Protocol.Leading.{begin_with}
-use Rattle.mon_msg.specs.Protocol.Peon.{cancel}
-use Rattle.mon_msg.specs.Protocol.Proposing.{asked_of, refusal}
-use Rattle.mon_msg.specs.Protocol.Readings.{Readings, epoch_of}
-use Rattle.mon_msg.specs.Protocol.Reads.{changes_after, shown, since}
-use Rattle.mon_msg.specs.Protocol.Sending.{answer_to, answers_to, members, message_to, send}
-use Rattle.mon_msg.specs.Protocol.Services.{kept_from, read_map, service_first, service_last}
-use Rattle.mon_msg.specs.Protocol.State.{State}
-use Rattle.mon_msg.specs.Protocol.Synchronizing.{full_sync}
-use Rattle.mon_msg.specs.Protocol.Table.{at_rest, react}
-use Rattle.mon_msg.specs.Protocol.Value.{made, made_kv, made_log, service_of, value, value_if_made}
-use Rattle.mon_msg.specs.declared.clients.Asked.{Asked}
+use Rattle.mon_msg.specs.Protocol.Value.{made_kv, made_log}
 use Rattle.mon_msg.specs.declared.input.Input.TheVariants as input
-use Rattle.mon_msg.specs.declared.input.Input.{Input}
 use Rattle.mon_msg.specs.declared.plan.Origin.TheVariants as origin
-use Rattle.mon_msg.specs.declared.plan.Origin.{Origin}
 use Rattle.mon_msg.specs.declared.plan.Sent.TheVariants as sent
-use Rattle.mon_msg.specs.declared.plan.Sent.{Sent}
-use Rattle.mon_msg.specs.declared.view.Me.{Me}
-use Rattle.mon_tx.specs.declared.op.Op.{Op}
 use Rattle.mon_wire.specs.declared.body.Body.TheVariants as body
-use Rattle.mon_wire.specs.declared.body.Body.{Body}
-use Rattle.mon_wire.specs.declared.message.Message.{Message}
 use Rattle.mon_wire.specs.declared.reply.Reply.TheVariants as reply
-use Rattle.mon_wire.specs.declared.reply.Reply.{Reply}
 use Rattle.mon_wire.specs.declared.reply.ShownMap.TheVariants as map
-use Rattle.mon_wire.specs.declared.reply.ShownMap.{ShownMap}
-use Rattle.mon_wire.specs.declared.request.Service.{Service}
-use Rattle.mon_wire.specs.declared.request.Session.{Session}
 use Rattle.quorum_replies.specs.Causes.{HasCause, HasCauseToRoute}
 use Rattle.quorum_replies.specs.Kinds.{IsServing, kind_of}
 use Rattle.quorum_walk.proofs.Lists.{all_append, all_map, all_of}
-use Rattle.std.proofs.Common.{Bool, Err, List, None, Ok, Option, Result, Some, [], cond, eqb, false, filter, inl, inr, leb, length, ltb, map, not, refl, subst, true, suc, ℕ, ◌++◌, ◌-◌, ◌∷◌, ◌≡◌, ◌⊎◌}
+use Rattle.std.proofs.Common.{Bool, Err, List, None, Ok, Option, Result, Some, [], cond, eqb, false, filter, inl, inr, leb, length, ltb, map, not, refl, subst, suc, true, ℕ, ◌++◌, ◌-◌, ◌∷◌, ◌≡◌, ◌⊎◌}
 use Rattle.std.proofs.lemmas.Bool.{cond_both}
-use Rattle.std.specs.FinMap.{contains_key, insert}
-use Rattle.std.specs.List.{AllByRecursion}
+use Rattle.std.specs.FinMap.{contains_key}
 use Rattle.table_walk.proofs.Acts.{acts_of}
 use Rattle.table_walk.proofs.Steps.{ActSteps, CommandOf, FoundOf, InHand, IsOwn, MayAnswer, MaySay, MaySend, MayTell, Nothing, ReadOf, Steps, ValueOf, busy_queue, busy_sessions, not_readable, origin_of, refused, shows_map, shows_since, too_much, unread, unserved}
 use Rattle.table_walk.proofs.Table.{walked}

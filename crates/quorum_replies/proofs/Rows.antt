@@ -1,30 +1,13 @@
 -- No event replies to a session more often than its monitor has requests of it.
-use Rattle.mon_bytes.specs.declared.entry.Entry.{Entry}
-use Rattle.mon_msg.specs.Protocol.Course.{Course}
-use Rattle.mon_msg.specs.Protocol.Leading.{begin_with}
-use Rattle.mon_msg.specs.Protocol.Readings.{Readings, epoch_of}
-use Rattle.mon_msg.specs.Protocol.Sending.{answers_to, members, message_to}
-use Rattle.mon_msg.specs.Protocol.State.{State}
-use Rattle.mon_msg.specs.Protocol.Synchronizing.{full_sync}
-use Rattle.mon_msg.specs.Protocol.Table.{react}
-use Rattle.mon_msg.specs.Protocol.Value.{value}
-use Rattle.mon_msg.specs.declared.clients.Asked.{Asked}
+use Rattle.law_names.proofs.Table.{AllByRecursion, Asked, Body, Course, Entry, Input, Me, Origin, Readings, Reply, Sent, Session, State, answers_to, begin_with, epoch_of, full_sync, members, message_to, react, value}
 use Rattle.mon_msg.specs.declared.input.Input.TheVariants as input
-use Rattle.mon_msg.specs.declared.input.Input.{Input}
 use Rattle.mon_msg.specs.declared.plan.Origin.TheVariants as origin
-use Rattle.mon_msg.specs.declared.plan.Origin.{Origin}
 use Rattle.mon_msg.specs.declared.plan.Sent.TheVariants as sent
-use Rattle.mon_msg.specs.declared.plan.Sent.{Sent}
-use Rattle.mon_msg.specs.declared.view.Me.{Me}
 use Rattle.mon_wire.specs.declared.body.Body.TheVariants as body
-use Rattle.mon_wire.specs.declared.body.Body.{Body}
 use Rattle.mon_wire.specs.declared.reply.Reply.TheVariants as reply
-use Rattle.mon_wire.specs.declared.reply.Reply.{Reply}
 use Rattle.mon_wire.specs.declared.request.Request.TheVariants as request
-use Rattle.mon_wire.specs.declared.request.Session.{Session}
 use Rattle.quorum_replies.proofs.Spending.{held, of_any, of_session, queued, queued_append, replies, replies_append, spent, split, waiting_append}
 use Rattle.std.proofs.Common.{List, None, Option, Some, [], ap, arith, eqb, filter, map, refl, suc, ℕ, ◌+◌, ◌∷◌, ◌≡◌, ◌≤◌}
-use Rattle.std.specs.List.{AllByRecursion}
 use Rattle.table_walk.proofs.Acts.{acts_of}
 use Rattle.table_walk.proofs.Steps.{ActSteps, InHand, IsOwn, MaySay, MayTell, Steps, brought, origin_of}
 use Rattle.table_walk.proofs.Table.{walked}

@@ -1,40 +1,13 @@
 -- What the datagrams of a process show of it, after any steps of a network.
-use Rattle.std.proofs.Common.{◌≡◌, ℕ, ◌+◌, ◌^◌, ◌<◌, eqb, ltb, nat_lt, Bool, true, false, cond, List, [], ◌∷◌, ◌++◌, map, take, drop, length, Option, Some, None, Result, Ok, Err, refl, sym, ap, subst, ◌∙◌, append_assoc}
-use Rattle.std.proofs.lemmas.Bool.{eqb-true, eq-eqb, lt-ltb, ltb-false}
-use Rattle.std.proofs.lemmas.List.{append_cancel_left, map-append}
-use Rattle.std.specs.List.{AllByRecursion, Contains}
-use Rattle.std.specs.Prelude.{IfOk}
+use Rattle.law_names.proofs.Runs.{Arrives, Meeting, Monitors, Plain, PlainFits, Ran, Reacts, Stop, World, after_meeting, epoch, happens, me_of, meets, most_size, moved, put_at, size_of}
+use Rattle.law_names.proofs.Table.{AllByRecursion, Contains, Input, Me, Reaction, Sent, State, Store, Which, apply, due, epoch_of, readings_of}
 use Rattle.mon_bounds.specs.Fitting.{answer_in}
-use Rattle.mon_frag.specs.Pieces.{pieces_of, u64_bytes}
-use Rattle.mon_kv.specs.Readers.{epoch, most_size, size_of}
-use Rattle.mon_link.specs.Clocks.{Readings}
-use Rattle.mon_link.specs.Links.{Observed}
-use Rattle.mon_link.specs.declared.link.Outgoing.{Outgoing}
-use Rattle.mon_link.specs.declared.link.Peer.TheVariants.{Client, Monitor}
-use Rattle.mon_link.specs.declared.link.Peer.{Peer}
-use Rattle.mon_msg.specs.Protocol.Reaction.{Reaction}
-use Rattle.mon_msg.specs.Protocol.Readings.{epoch_of, readings_of}
-use Rattle.mon_msg.specs.Protocol.State.{State}
-use Rattle.mon_msg.specs.Protocol.Timers.{due}
+use Rattle.mon_frag.specs.Pieces.{u64_bytes}
 use Rattle.mon_msg.specs.declared.input.Input.TheVariants as input
-use Rattle.mon_msg.specs.declared.input.Input.{Input}
 use Rattle.mon_msg.specs.declared.plan.Sent.TheVariants as sent
-use Rattle.mon_msg.specs.declared.plan.Sent.{Sent}
-use Rattle.mon_msg.specs.declared.view.Me.{Me}
-use Rattle.mon_name.specs.Numbers.{renumbered}
 use Rattle.mon_node.proofs.Sending.{all_numbered as numbers_found}
-use Rattle.mon_node.specs.Hearing.{Given, Heard, clock_read, due_by, heard, wait_until}
-use Rattle.mon_node.specs.Iterations.{Iteration, done, ended_iteration, iteration, map_after, next_number, numbered_by, reacted, reaction_to, sent_by, start}
-use Rattle.mon_node.specs.Nodes.{Node, Serving, unstarted}
-use Rattle.mon_node.specs.Posting.{boot_in, datagrams, letters, next_after_message}
-use Rattle.mon_node.specs.Serving.{of_input, sends_of}
 use Rattle.mon_node.specs.declared.end.NodeEnd.TheVariants as end
-use Rattle.mon_node.specs.declared.end.NodeEnd.{NodeEnd}
-use Rattle.mon_node.specs.declared.hearing.TimedInput.{TimedInput}
-use Rattle.mon_store.specs.StoreView.{StoreView}
-use Rattle.mon_tx.specs.Map.{Store, apply}
 use Rattle.mon_types.specs.declared.names.Which.TheVariants as which
-use Rattle.mon_types.specs.declared.names.Which.{Which}
 use Rattle.mon_watch.specs.Kinds.{kind_at, kind_named}
 use Rattle.mon_watch.specs.Seen.{after_header, header_read, nothing_seen}
 use Rattle.mon_watch.specs.declared.seen.Seen.{Seen}
@@ -43,13 +16,7 @@ use Rattle.mon_wire.specs.declared.kind.Kind.{Kind}
 use Rattle.quorum_laws.proofs.Events.{all_runs}
 use Rattle.quorum_laws.proofs.Invariant.{InvOf}
 use Rattle.quorum_laws.proofs.Meetings.{member_of}
-use Rattle.quorum_model.specs.Events.{PlainFits}
 use Rattle.quorum_model.specs.Happens as model
-use Rattle.quorum_model.specs.Happens.{Stop, after_meeting, happens, moved, put_at}
-use Rattle.quorum_model.specs.Meets.{Meeting, Reacts, meets}
-use Rattle.quorum_model.specs.Monitors.{Monitors, me_of}
-use Rattle.quorum_model.specs.Runs.{Ran}
-use Rattle.quorum_model.specs.World.{Arrives, Plain, World}
 use Rattle.quorum_network.proofs.Assembled.{assembly}
 use Rattle.quorum_network.proofs.Events.{IsMe, known}
 use Rattle.quorum_network.proofs.Facts.{Reach}
@@ -58,12 +25,14 @@ use Rattle.quorum_network.proofs.Invariant.{IfUp, Inv, IsAlive, IsUp}
 use Rattle.quorum_network.proofs.Kept.{bounded, epoch_short, happens_so, met, named}
 use Rattle.quorum_network.proofs.Letters.{Letter}
 use Rattle.quorum_network.proofs.Lives.{process_alone}
+use Rattle.quorum_network.proofs.Names.{AllMay, Alone, Begins, Client, Doing, Down, Given, Heard, IsAsked, Iterates, Iteration, Kept, Lost, May, Monitor, Network, Node, NodeEnd, Observed, Outgoing, Peer, Process, Readings, Serving, Step, StepOutcome, StoreView, TimedInput, Until, Up, Whole, acknowledgements, alone, at_end, boot_in, clock_read, datagrams, done, down, due_by, ended_iteration, heard, iteration, iteration_of, kept_reaction, leaderships, letters, life, lives_then, map_after, map_of, network, newest, next_after_message, next_number, number_of, numbered_by, of_input, outcome_of, own, pieces_of, reacted, reaction_to, renumbered, requests, sends_of, sent_by, start, under, unstarted, wait_until}
 use Rattle.quorum_network.proofs.Sends.{SentHasText, have_texts}
 use Rattle.quorum_network.proofs.Steps.{EventFine, IterationFine, begins_fine, entered_holds, has_here, kept_kv, newest_here, none_has, turns_fine}
 use Rattle.quorum_network.proofs.Whole.{Stands, facts, stands}
-use Rattle.quorum_network.specs.Lives.{Alone, alone, life, lives_then, outcome_at, own}
-use Rattle.quorum_network.specs.Network.{AllMay, Begins, Doing, Down, IsAsked, Iterates, Kept, Lost, May, Network, Process, Step, StepOutcome, Until, Up, Whole, at_end, down, iteration_of, kept_reaction, map_of, network, newest, number_of, outcome_of, under}
-use Rattle.quorum_network.specs.Requests.{acknowledgements, leaderships, requests}
+use Rattle.quorum_network.specs.Lives.{outcome_at}
+use Rattle.std.proofs.Common.{Bool, Err, IfOk, List, None, Ok, Option, Result, Some, [], ap, append_assoc, cond, drop, eqb, false, length, ltb, map, nat_lt, refl, subst, sym, take, true, ℕ, ◌++◌, ◌+◌, ◌<◌, ◌^◌, ◌∙◌, ◌∷◌, ◌≡◌}
+use Rattle.std.proofs.lemmas.Bool.{eq-eqb, eqb-true, lt-ltb, ltb-false}
+use Rattle.std.proofs.lemmas.List.{append_cancel_left, map-append}
 use Rattle.watch_laws.proofs.Datagrams.{all, one, reads_short, sent_all}
 use Rattle.watch_laws.proofs.Runs.{GoodAt, follows, is_so, unseen}
 use Rattle.watch_laws.proofs.Showing.{At}

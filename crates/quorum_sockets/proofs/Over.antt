@@ -1,29 +1,19 @@
 -- What a link over a socket gives was sent by another process, so the steps may be made.
-use Rattle.std.proofs.Common.{◌≡◌, ℕ, ◌<◌, ◌^◌, Bool, true, false, List, [], ◌∷◌, Option, Some, None, Result, Ok, Err, inl, inr, sym, ap, subst, ◌∙◌, arith}
-use Rattle.std.specs.List.{Contains}
+use Rattle.law_names.proofs.Runs.{Monitors}
+use Rattle.law_names.proofs.Table.{Contains, Stop, Timer, due}
 use Rattle.mon_hello.specs.Formats.{a_hello, mark_of}
 use Rattle.mon_hello.specs.Greets.{outgoing}
 use Rattle.mon_hello.specs.declared.hello.Hello.{Hello}
 use Rattle.mon_link.specs.Histories.{received}
-use Rattle.mon_link.specs.declared.link.Got.TheVariants.{Datagram, Idle, Closed}
-use Rattle.mon_link.specs.declared.link.Got.{Got}
-use Rattle.mon_link.specs.declared.link.Outgoing.{Outgoing}
-use Rattle.mon_link.specs.declared.link.Peer.TheVariants.{Monitor, Client}
-use Rattle.mon_link.specs.declared.link.Peer.{Peer}
-use Rattle.mon_msg.specs.Protocol.Timers.{due}
 use Rattle.mon_name.proofs.Frames.{comes_off}
 use Rattle.mon_name.specs.Frames.{framed, unframed}
 use Rattle.mon_name.specs.Naming.{wired}
-use Rattle.mon_name.specs.Numbers.{renumbered}
-use Rattle.mon_node.specs.Hearing.{due_by}
 use Rattle.mon_resend.specs.Copied.{IsOneOf}
-use Rattle.mon_types.specs.declared.names.Stop.{Stop}
-use Rattle.mon_wire.specs.declared.phase.Timer.{Timer}
-use Rattle.quorum_model.specs.Monitors.{Monitors}
+use Rattle.quorum_network.proofs.Names.{AllMay, Begins, Client, Closed, Datagram, Doing, Down, Got, Idle, IsAnswer, IsAsked, Iterates, May, Monitor, Network, Outgoing, Peer, Process, Step, Up, due_by, network, posted, renumbered, under}
 use Rattle.quorum_network.proofs.Wire.{unmarked}
-use Rattle.quorum_network.specs.Network.{AllMay, Begins, Doing, Down, IsAnswer, IsAsked, Iterates, May, Network, Process, Step, Up, network, posted, under}
-use Rattle.stack_laws.specs.Stack.{IsMade, on_wire}
 use Rattle.quorum_sockets.specs.Sockets.{AllMayOver, AreSockets, IsAskedOver, IsFromSocket, Life, MayOver, to_monitor}
+use Rattle.stack_laws.specs.Stack.{IsMade, on_wire}
+use Rattle.std.proofs.Common.{Bool, Err, List, None, Ok, Option, Result, Some, [], ap, arith, false, inl, inr, subst, sym, true, ℕ, ◌<◌, ◌^◌, ◌∙◌, ◌∷◌, ◌≡◌}
 
 -- a hello isn't framed
 unframed_hello : (tag : ℕ) (h : Hello) → unframed tag (a_hello.text h) ≡ None

@@ -1,15 +1,12 @@
 -- What the link of a life was asked to send is in the network.
-use Rattle.std.proofs.Common.{◌≡◌, ℕ, suc, eqb, Bool, true, false, cond, List, [], ◌∷◌, ◌++◌, map, Some, inl, inr, refl, sym, ap, subst, ◌∙◌, arith}
-use Rattle.std.proofs.lemmas.Bool.{eqb-true}
-use Rattle.std.specs.List.{Contains}
-use Rattle.mon_link.specs.Histories.{Happened, sent}
-use Rattle.mon_link.specs.declared.link.Outgoing.{Outgoing}
-use Rattle.mon_msg.specs.declared.view.Me.{Me}
+use Rattle.law_names.proofs.Runs.{Monitors, me_of}
+use Rattle.law_names.proofs.Table.{Contains, Me}
 use Rattle.mon_resend.specs.Copied.{IsOneOf}
-use Rattle.quorum_model.specs.Monitors.{Monitors, me_of}
 use Rattle.quorum_network.proofs.Lives.{sends_alone}
-use Rattle.quorum_network.specs.Lives.{alone, own, sent_of}
-use Rattle.quorum_network.specs.Network.{Posted, Step, network, posted, under}
+use Rattle.quorum_network.proofs.Names.{Happened, Outgoing, Posted, Step, alone, network, own, posted, sent, under}
+use Rattle.quorum_network.specs.Lives.{sent_of}
+use Rattle.std.proofs.Common.{Bool, List, Some, [], ap, arith, cond, eqb, false, inl, inr, map, refl, subst, suc, sym, true, ℕ, ◌++◌, ◌∙◌, ◌∷◌, ◌≡◌}
+use Rattle.std.proofs.lemmas.Bool.{eqb-true}
 
 one_of_map : (f : Outgoing → Outgoing) (ds : List Outgoing) (d : Outgoing) → IsOneOf ds d → IsOneOf (map f ds) (f d)
 one_of_map f [] d h = absurd h

@@ -1,12 +1,7 @@
 -- What a watch noted is what the datagrams below make of it, and its answers show that.
-use Rattle.std.proofs.Common.{◌≡◌, ℕ, List, [], ◌∷◌, ◌++◌, Option, Some, None, Result, Ok, Err, inl, inr, refl, sym, ap, subst, ◌∙◌}
-use Rattle.mon_link.specs.Histories.{Happened, sent}
+use Rattle.law_names.proofs.Table.{Member, Stop}
 use Rattle.mon_link.specs.Histories.Happened.{Received, WasSent}
 use Rattle.mon_link.specs.Layers.{Steps}
-use Rattle.mon_link.specs.declared.link.Got.{Got}
-use Rattle.mon_link.specs.declared.link.Peer.TheVariants.{Client}
-use Rattle.mon_types.specs.declared.member.Member.{Member}
-use Rattle.mon_types.specs.declared.names.Stop.{Stop}
 use Rattle.mon_watch.specs.Answering.{admitted, answer, asker, passed}
 use Rattle.mon_watch.specs.Histories.{AnswerIsSent, IsAskedAfter, WatchState, WatchedDoes}
 use Rattle.mon_watch.specs.Traffic.{notes_got, notes_sent}
@@ -14,10 +9,12 @@ use Rattle.mon_watch.specs.declared.notes.Notes.{Notes}
 use Rattle.mon_watch.specs.declared.request.Asker.{Asker}
 use Rattle.mon_watch.specs.declared.seen.Seen.{Seen}
 use Rattle.mon_watch.specs.declared.times.DiskTimes.{DiskTimes}
+use Rattle.quorum_network.proofs.Names.{Client, Got, Happened, sent}
+use Rattle.quorum_sockets.specs.Status.{ShowsNotes, Watches}
 use Rattle.stack_laws.proofs.Going.{watch_stays}
+use Rattle.std.proofs.Common.{Err, List, None, Ok, Option, Result, Some, [], ap, inl, inr, refl, subst, sym, ℕ, ◌++◌, ◌∙◌, ◌∷◌, ◌≡◌}
 use Rattle.watch_laws.proofs.Datagrams.{ShowsSame, all, comes_same, goes_same, one}
 use Rattle.watch_laws.specs.Datagrams.{to_peer}
-use Rattle.quorum_sockets.specs.Status.{ShowsNotes, Watches}
 
 -- a status answer leaves the notes as they are
 answer_unnoted : (own client : ℕ) (m : Member) (shown n : Notes) (id : ℕ) (a b : DiskTimes) (unkept : ℕ) → notes_sent own (Client client) (answer m shown id a b unkept) n ≡ n

@@ -1,24 +1,6 @@
 -- The acts leave a monitor that waits for a timer.
-use Rattle.mon_msg.specs.Protocol.Changes.{Epoch}
-use Rattle.mon_msg.specs.Protocol.Collecting.{begin_found, collect, collect_with, reign, settle}
-use Rattle.mon_msg.specs.Protocol.Course.{Course, change}
-use Rattle.mon_msg.specs.Protocol.Entering.{adopt, bootstrap, elect, in_next_epoch, in_odd_epoch, is_even, win}
-use Rattle.mon_msg.specs.Protocol.Leading.{be_active, begin, begin_alone, begin_with, commit, extend, has_queue, is_alone}
-use Rattle.mon_msg.specs.Protocol.Learning.{learn}
-use Rattle.mon_msg.specs.Protocol.Phases.{phase_of}
-use Rattle.mon_msg.specs.Protocol.Readings.{epoch_of, or_zero, promise_of}
-use Rattle.mon_msg.specs.Protocol.Sending.{members}
-use Rattle.mon_msg.specs.Protocol.Sets.{is_empty}
-use Rattle.mon_msg.specs.Protocol.State.{State}
-use Rattle.mon_msg.specs.Protocol.Synchronizing.{full_sync, recent_sync}
-use Rattle.mon_msg.specs.declared.paxos.Found.{Found}
-use Rattle.mon_msg.specs.declared.paxos.LeaderStage.{LeaderStage}
+use Rattle.law_names.proofs.Table.{Course, Epoch, Found, LeaderStage, Me, Op, Origin, State, SyncStage, adopt, be_active, begin, begin_alone, begin_found, begin_with, bootstrap, change, collect, collect_with, commit, elect, epoch_of, extend, full_sync, has_queue, in_next_epoch, in_odd_epoch, is_alone, is_empty, is_even, learn, members, next_number, or_zero, phase_of, promise_of, recent_sync, reign, settle, win}
 use Rattle.mon_msg.specs.declared.paxos.LeaderStage.TheVariants as stage
-use Rattle.mon_msg.specs.declared.plan.Origin.{Origin}
-use Rattle.mon_msg.specs.declared.synchronization.SyncStage.{SyncStage}
-use Rattle.mon_msg.specs.declared.view.Me.{Me}
-use Rattle.mon_tx.specs.declared.op.Op.{Op}
-use Rattle.mon_types.specs.Proposal.{next_number}
 use Rattle.mon_types.specs.declared.names.Which.TheVariants as which
 use Rattle.mon_wire.specs.declared.phase.Phase.TheVariants as phase
 use Rattle.mon_wire.specs.declared.phase.Timer.TheVariants as timer

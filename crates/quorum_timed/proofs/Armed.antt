@@ -1,24 +1,17 @@
 -- Timers that are armed and disarmed, and what a phase waits for.
-use Rattle.mon_msg.specs.Protocol.Leading.{is_alone}
-use Rattle.mon_msg.specs.Protocol.Phases.{is_leading, same_phase}
-use Rattle.mon_msg.specs.Protocol.State.{State}
+use Rattle.law_names.proofs.Table.{Me, Phase, State, SyncStage, Timer, armed, disarmed, end_of, index_of, is_alone, is_armed, is_leading, length_of, only_ping, same_phase, unarmed}
 use Rattle.mon_msg.specs.Protocol.Course.{timers_in}
-use Rattle.mon_msg.specs.Protocol.Timers.{armed, armed_once, disarmed, end_of, index_of, is_armed, length_of, only_ping, unarmed}
+use Rattle.mon_msg.specs.Protocol.Timers.{armed_once}
 use Rattle.mon_msg.specs.declared.synchronization.SyncStage.TheVariants as sync
-use Rattle.mon_msg.specs.declared.synchronization.SyncStage.{SyncStage}
-use Rattle.mon_msg.specs.declared.view.Me.{Me}
 use Rattle.mon_wire.specs.declared.phase.Phase.TheVariants as phase
-use Rattle.mon_wire.specs.declared.phase.Phase.{Phase}
 use Rattle.mon_wire.specs.declared.phase.Timer.TheVariants as timer
-use Rattle.mon_wire.specs.declared.phase.Timer.{Timer}
 use Rattle.quorum_timed.specs.Waiting.{timer_of}
-use Rattle.std.proofs.Common.{Bool, List, None, Option, Some, [], ap, arith, cond, eqb, false, inl, inr, length, min, not, refl, subst, sym, true, ℕ, ◌&&◌, ◌+◌, ◌<◌, ◌^◌, ◌||◌, ◌∙◌, ◌∷◌, ◌≡◌, ◌≤◌, ◌⊎◌}
-use Rattle.std.proofs.lemmas.Bool.{cond_both, eqb-false, false≢true, or_left}
+use Rattle.std.proofs.Common.{Bool, List, None, Option, Some, [], ap, arith, cond, eqb, false, inl, inr, is_some, length, min, not, refl, slice_index_or, slice_set, subst, sym, true, ℕ, ◌&&◌, ◌+◌, ◌<◌, ◌^◌, ◌||◌, ◌∙◌, ◌∷◌, ◌≡◌, ◌≤◌, ◌⊎◌}
 use Rattle.std.proofs.lemmas.Bool.Decides.{eqb_tells}
+use Rattle.std.proofs.lemmas.Bool.{cond_both, eqb-false, false≢true, or_left}
 use Rattle.std.proofs.lemmas.Grind.{get_or-set_at}
 use Rattle.std.proofs.lemmas.List.{get_or-set_other, length-set}
 use Rattle.std.proofs.lemmas.Option.{none-some}
-use Rattle.std.specs.Prelude.{is_some, slice_index_or, slice_set}
 
 abbrev pub Timers : Type 0
 Timers = List (Option ℕ)

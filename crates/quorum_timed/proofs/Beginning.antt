@@ -1,18 +1,14 @@
 -- A timed run can begin after every run.
-use Rattle.mon_msg.specs.Protocol.State.{State}
-use Rattle.mon_msg.specs.declared.view.Me.{Me}
-use Rattle.mon_types.specs.Ranks.{has}
-use Rattle.quorum_model.specs.Monitors.{Monitors, me_of}
-use Rattle.quorum_model.specs.Runs.{run}
-use Rattle.quorum_model.specs.World.{Event}
+use Rattle.law_names.proofs.Runs.{Event, Monitors, me_of, run}
+use Rattle.law_names.proofs.Table.{Me, State, has}
 use Rattle.quorum_timed.proofs.Armed.{later_good}
 use Rattle.quorum_timed.proofs.Worlds.{waits}
 use Rattle.quorum_timed.specs.Begins.{Begins, at_rest}
 use Rattle.quorum_timed.specs.Timed.{Pace}
 use Rattle.quorum_timed.specs.Times.{latest}
 use Rattle.quorum_timed.specs.Waiting.{Waits}
-use Rattle.std.proofs.Common.{Bool, IfSome, List, None, Option, Some, arith, refl, true, ℕ, ◌+◌, ◌<◌, ◌≡◌, ◌≤◌}
-use Rattle.std.specs.Prelude.{IsSomeAnd, ⊤}
+use Rattle.std.proofs.Common.{Bool, IfSome, IsSomeAnd, List, None, Option, Some, arith, refl, true, ℕ, ◌+◌, ◌<◌, ◌≡◌, ◌≤◌}
+use Rattle.std.specs.Prelude.{⊤}
 
 -- a monitor that waits at a time waits at each later one
 pub later : (me : Me) (a b : ℕ) (s : State) → a ≤ b → Waits me a s → Waits me b s

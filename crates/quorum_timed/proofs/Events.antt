@@ -1,19 +1,12 @@
 -- Each event leaves its monitor waiting for a timer, as the law says it.
-use Rattle.mon_bytes.specs.declared.entry.Entry.{Entry}
-use Rattle.mon_msg.specs.Protocol.Course.{Course}
-use Rattle.mon_msg.specs.Protocol.Readings.{Readings}
-use Rattle.mon_msg.specs.Protocol.State.{State, booting}
-use Rattle.mon_msg.specs.Protocol.Table.{at_rest, react}
+use Rattle.law_names.proofs.Table.{Course, Entry, Input, Me, Readings, State, Which, at_rest, booting, react}
 use Rattle.mon_msg.specs.declared.input.Input.TheVariants as input
-use Rattle.mon_msg.specs.declared.input.Input.{Input}
-use Rattle.mon_msg.specs.declared.view.Me.{Me}
-use Rattle.mon_types.specs.declared.names.Which.{Which}
-use Rattle.std.proofs.Common.{List, Ok, Result, subst, ℕ, ◌<◌, ◌≡◌, ◌≤◌}
-use Rattle.std.proofs.lemmas.Bool.{lt-ltb}
 use Rattle.quorum_timed.proofs.Acts.{Waiting}
 use Rattle.quorum_timed.proofs.Table.{reacts_waiting, starts_waiting}
-use Rattle.quorum_walk.proofs.Walk.{Then}
 use Rattle.quorum_timed.specs.Waiting.{Waits}
+use Rattle.quorum_walk.proofs.Walk.{Then}
+use Rattle.std.proofs.Common.{List, Ok, Result, subst, ℕ, ◌<◌, ◌≡◌, ◌≤◌}
+use Rattle.std.proofs.lemmas.Bool.{lt-ltb}
 
 module _ (me : Me) (shared : List Entry) (latest now : ℕ) (w : Readings) where
   told : (y : Course) (r : Result Course Which) → Then (Waiting me latest) r → r ≡ Ok y → Waits me latest y.state

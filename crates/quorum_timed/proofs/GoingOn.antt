@@ -1,14 +1,9 @@
 -- Whatever is overdue can come.
-use Rattle.mon_msg.specs.Protocol.State.{State}
-use Rattle.mon_msg.specs.Protocol.Timers.{end_of}
-use Rattle.mon_types.specs.Ranks.{has}
-use Rattle.mon_wire.specs.declared.phase.Timer.{Timer}
-use Rattle.quorum_model.specs.Happens.{happens}
-use Rattle.quorum_model.specs.Monitors.{Monitors}
-use Rattle.quorum_model.specs.World.{Arrives, Deliver, Event, Ring, World}
+use Rattle.law_names.proofs.Runs.{Arrives, Deliver, Event, Monitors, Ring, World, happens}
+use Rattle.law_names.proofs.Table.{State, Timer, end_of, has}
 use Rattle.quorum_timed.specs.Calls.{Calls}
 use Rattle.quorum_timed.specs.Timed.{Again, Arriving, Comes, Firing, GoesOn, IsRequest, MayBe, Owed, Pace, Timed, Went, new_between, owed_by, without_first}
-use Rattle.std.proofs.Common.{Bool, List, Ok, Some, arith, false, inl, leb, length, max, refl, suc, true, ℕ, ◌+◌, ◌++◌, ◌∷◌, ◌≡◌, ◌≤◌}
+use Rattle.std.proofs.Common.{Bool, List, Ok, Some, arith, false, inl, leb, length, max, refl, suc, true, ℕ, ◌++◌, ◌+◌, ◌∷◌, ◌≡◌, ◌≤◌}
 use Rattle.std.proofs.lemmas.Bool.{leb-false, leb-true}
 
 module _ (ms : Monitors) (q : List Bool) (pace : Pace) (t : Timed) where

@@ -1,9 +1,6 @@
 -- What events lead to in time is the world that the run of these events makes.
+use Rattle.law_names.proofs.Runs.{Event, Monitors, Ran, happens, ran_from, run_from}
 use Rattle.quorum_model.proofs.Continuing.{ran_next}
-use Rattle.quorum_model.specs.Happens.{happens}
-use Rattle.quorum_model.specs.Monitors.{Monitors}
-use Rattle.quorum_model.specs.Runs.{Ran, ran_from, run_from}
-use Rattle.quorum_model.specs.World.{Event}
 use Rattle.quorum_timed.specs.Timed.{Again, Arriving, Asking, Comes, Firing, Leads, Pace, Timed, at_time}
 use Rattle.std.proofs.Common.{Bool, List, Ok, [], ap, map, sym, ℕ, ◌∙◌, ◌∷◌, ◌≡◌}
 

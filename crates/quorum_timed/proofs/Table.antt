@@ -1,29 +1,16 @@
 -- Each event leaves its monitor waiting for a timer.
-use Rattle.mon_bytes.specs.declared.entry.Entry.{Entry}
-use Rattle.mon_msg.specs.Protocol.Course.{Course, disarm}
-use Rattle.mon_msg.specs.Protocol.Entering.{scores_count}
-use Rattle.mon_msg.specs.Protocol.Hearing.{hear, is_heard}
-use Rattle.mon_msg.specs.Protocol.Phases.{same_phase}
-use Rattle.mon_msg.specs.Protocol.Readings.{Readings}
-use Rattle.mon_msg.specs.Protocol.State.{State, booting}
-use Rattle.mon_msg.specs.Protocol.Table.{at_rest, before_start, react, running, start, timer_comes}
-use Rattle.mon_msg.specs.Protocol.Timers.{armed, end_of}
+use Rattle.law_names.proofs.Table.{Body, Course, Entry, Input, Me, Readings, State, Timer, armed, at_rest, before_start, booting, disarm, end_of, hear, is_heard, react, running, same_phase, scores_count, start, timer_comes}
 use Rattle.mon_msg.specs.declared.input.Input.TheVariants as input
-use Rattle.mon_msg.specs.declared.input.Input.{Input}
-use Rattle.mon_msg.specs.declared.view.Me.{Me}
 use Rattle.mon_types.specs.declared.names.Which.TheVariants as which
 use Rattle.mon_wire.specs.declared.body.Body.TheVariants as body
-use Rattle.mon_wire.specs.declared.body.Body.{Body}
 use Rattle.mon_wire.specs.declared.phase.Phase.TheVariants as phase
 use Rattle.mon_wire.specs.declared.phase.Timer.TheVariants as timer
-use Rattle.mon_wire.specs.declared.phase.Timer.{Timer}
 use Rattle.quorum_timed.proofs.Acts.{Timed, Waiting, bootstrap_waits}
 use Rattle.quorum_timed.proofs.Armed.{Good, armed_good, disarm_rests, disarmed_good, not_ping, not_propose, unarmed_good}
 use Rattle.quorum_timed.proofs.Rows.{election_ends_waits, get_chunk_waits, get_cookie_full_waits, get_cookie_recent_waits, hear_accept_waits, hear_ack_waits, hear_begin_waits, hear_chunk_waits, hear_client_waits, hear_collect_waits, hear_commit_waits, hear_cookie_waits, hear_forward_waits, hear_last_chunk_waits, hear_last_waits, hear_lease_ack_waits, hear_lease_waits, hear_no_cookie_waits, hear_ping_reply_waits, hear_ping_waits, hear_probe_reply_waits, hear_probe_waits, hear_propose_waits, hear_route_waits, hear_victory_waits, ping_waits, propose_due_waits, renew_waits, replay_step_waits}
 use Rattle.quorum_walk.proofs.Walk.{Then, by_test, done, where_fits}
-use Rattle.std.proofs.Common.{List, ltb, suc, true, ℕ, ◌≡◌, ◌≤◌}
+use Rattle.std.proofs.Common.{List, is_some, ltb, suc, true, ℕ, ◌≡◌, ◌≤◌}
 use Rattle.std.proofs.lemmas.Bool.{cond_both}
-use Rattle.std.specs.Prelude.{is_some}
 
 module _ (me : Me) (b now : ℕ) (le : now ≤ b) (many : ltb 1 me.member.monitors ≡ true) (shared : List Entry) where
   abbrev W : Course → Type 0

@@ -1,29 +1,14 @@
 -- In every run each monitor of two or more waits for a timer.
-use Rattle.mon_msg.specs.Protocol.Course.{Course}
-use Rattle.mon_msg.specs.Protocol.Reaction.{Reaction, any_reaction, reaction, reaction_of}
-use Rattle.mon_msg.specs.Protocol.Readings.{readings_of, shared_entries}
-use Rattle.mon_msg.specs.Protocol.State.{State}
-use Rattle.mon_msg.specs.Protocol.Table.{react}
+use Rattle.law_names.proofs.Runs.{Arrival, Arrives, Client, Crash, Deliver, Down, Envelope, Event, Full, Meeting, Monitors, NoMessage, Plain, Reacts, Ring, Start, Stop, World, after_meeting, first_world, goes_on, happens, in_world, kept_only, lost, me_if, me_of, meeting, meeting_at, meets, message_at, most_size, moved, plain_of, put_at, ran_from, run, run_from, size_of, state_at, unmoved}
+use Rattle.law_names.proofs.Table.{Course, Input, Me, Reaction, State, Store, Which, any_reaction, apply, react, reaction, reaction_of, readings_of, shared_entries}
 use Rattle.mon_msg.specs.declared.input.Input.TheVariants as input
-use Rattle.mon_msg.specs.declared.input.Input.{Input}
-use Rattle.mon_msg.specs.declared.view.Me.{Me}
-use Rattle.mon_tx.specs.Map.{Store, apply}
-use Rattle.mon_types.specs.declared.names.Which.{Which}
-use Rattle.quorum_model.specs.Happens.{Full, Stop, after_meeting, happens, in_world, kept_only, lost, moved, put_at, unmoved}
-use Rattle.mon_kv.specs.Readers.{most_size, size_of}
-use Rattle.quorum_model.specs.Meets.{Arrival, Down, Meeting, NoMessage, Reacts, meeting, meeting_at, meets, message_at, state_at}
-use Rattle.quorum_model.specs.Monitors.{Monitors, me_if, me_of}
-use Rattle.quorum_model.specs.Runs.{goes_on, ran_from, run, run_from}
-use Rattle.quorum_model.specs.World.{Arrives, Client, Crash, Deliver, Envelope, Event, Plain, Ring, Start, World, first_world, plain_of}
 use Rattle.quorum_timed.proofs.Armed.{Rests}
 use Rattle.quorum_timed.proofs.Table.{reacts_waiting, starts_waiting}
 use Rattle.quorum_timed.specs.Times.{latest, time_of}
 use Rattle.quorum_timed.specs.Waiting.{Waits}
 use Rattle.quorum_walk.proofs.Walk.{Then}
-use Rattle.std.proofs.Common.{Bool, Err, IfSome, List, None, Ok, Option, Result, Some, [], ap, arith, eqb, false, ltb, refl, subst, sym, true, ℕ, ◌<◌, ◌∙◌, ◌∷◌, ◌≡◌, ◌≤◌}
+use Rattle.std.proofs.Common.{Bool, Err, IfOk, IfSome, List, None, Ok, Option, Result, Some, [], ap, arith, eqb, false, ltb, nat_lt, option_map, refl, subst, sym, true, ℕ, ◌<◌, ◌∙◌, ◌∷◌, ◌≡◌, ◌≤◌}
 use Rattle.std.proofs.lemmas.Bool.{cond_both, eqb-true, lt-ltb}
-use Rattle.std.specs.Option.{option_map}
-use Rattle.std.specs.Prelude.{IfOk, nat_lt}
 
 module _ (b : ℕ) where
   -- a monitor of a rank, in a state

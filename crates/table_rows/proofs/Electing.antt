@@ -1,35 +1,13 @@
 -- The rows of starts, probes and elections, those by which a leader asks what its quorum accepted, and their acts.
-use Rattle.election_rules.specs.Ranking.{allows}
-use Rattle.election_rules.specs.declared.scores.Scores.{Scores}
-use Rattle.mon_bytes.specs.declared.entry.Entry.{Entry}
-use Rattle.mon_msg.specs.Protocol.Answers.{last_answer}
-use Rattle.mon_msg.specs.Protocol.Changes.{Boot, Epoch}
-use Rattle.mon_msg.specs.Protocol.Collecting.{collect, collect_with, reign, settle}
-use Rattle.mon_msg.specs.Protocol.Course.{Course, arm, arm_if, change, change_if, disarm, elector_is, forget_clients, in_phase, prober_is, ◌▸◌}
-use Rattle.mon_msg.specs.Protocol.Elections.{count_ack, election_ends, follow, hear_ack, hear_propose, hear_victory, is_allowed, merge, table_or, weigh}
-use Rattle.mon_msg.specs.Protocol.Entering.{adopt, bootstrap, elect, in_odd_epoch, is_even, next_even, own_table, scores_count, win, win_alone}
+use Rattle.law_names.proofs.Table.{Boot, Course, Entry, Epoch, Me, Op, Phase, Readings, Scores, State, Told, adopt, allows, arm, arm_if, at_rest, bootstrap, cancel, change, change_if, collect, collect_with, count_ack, count_of, disarm, elect, election_ends, elector_is, epoch_of, first_elector, forget_clients, full_sync, has, hear_ack, hear_collect, hear_last, hear_probe, hear_probe_reply, hear_propose, hear_victory, in_odd_epoch, in_phase, is_allowed, is_alone, is_armed, is_even, is_majority, lag, last_answer, members, merge, next_even, next_number, of_member, only, or_zero, others, own_table, prober_is, promise, promise_of, quorum_of, react, recent_sync, reign, same_phase, scores_count, send, send_each, settle, start, table_or, votes, weigh, win, ◌▸◌}
+use Rattle.mon_msg.specs.Protocol.Elections.{follow}
+use Rattle.mon_msg.specs.Protocol.Entering.{win_alone}
 use Rattle.mon_msg.specs.Protocol.Hearing.{fits_rule}
-use Rattle.mon_msg.specs.Protocol.Leader.{hear_answer, hear_last, of_member}
-use Rattle.mon_msg.specs.Protocol.Leading.{is_alone}
-use Rattle.mon_msg.specs.Protocol.Peon.{cancel, hear_collect, promise}
-use Rattle.mon_msg.specs.Protocol.Phases.{same_phase, votes}
-use Rattle.mon_msg.specs.Protocol.Probing.{hear_probe, hear_probe_reply, join_outside, lag}
-use Rattle.mon_msg.specs.Protocol.Readings.{Readings, epoch_of, or_zero, promise_of}
-use Rattle.mon_msg.specs.Protocol.Sending.{members, others, send, send_each}
-use Rattle.mon_msg.specs.Protocol.Sets.{only}
-use Rattle.mon_msg.specs.Protocol.State.{State, quorum_of}
-use Rattle.mon_msg.specs.Protocol.Synchronizing.{full_sync, recent_sync}
-use Rattle.mon_msg.specs.Protocol.Table.{at_rest, first_elector, react, start}
-use Rattle.mon_msg.specs.Protocol.Timers.{is_armed}
+use Rattle.mon_msg.specs.Protocol.Leader.{hear_answer}
+use Rattle.mon_msg.specs.Protocol.Probing.{join_outside}
 use Rattle.mon_msg.specs.declared.input.Input.TheVariants as input
-use Rattle.mon_msg.specs.declared.view.Me.{Me}
-use Rattle.mon_tx.specs.declared.op.Op.{Op}
-use Rattle.mon_types.specs.Proposal.{next_number}
-use Rattle.mon_types.specs.Ranks.{count_of, has, is_majority}
 use Rattle.mon_wire.specs.declared.body.Body.TheVariants as body
-use Rattle.mon_wire.specs.declared.parts.Told.{Told}
 use Rattle.mon_wire.specs.declared.phase.Phase.TheVariants as phase
-use Rattle.mon_wire.specs.declared.phase.Phase.{Phase}
 use Rattle.mon_wire.specs.declared.phase.Timer.TheVariants as timer
 use Rattle.std.proofs.Common.{Bool, List, None, Ok, Option, [], ap, arith, eq-eqb, false, if◌then◌else◌, is_some, ltb, max, not, refl, suc, true, ℕ, ◌&&◌, ◌+◌, ◌<◌, ◌^◌, ◌∙◌, ◌∷◌, ◌≡◌, ◌≤◌}
 use Rattle.std.proofs.lemmas.Bool.{le-leb, le-ltb, lt-leb, lt-ltb}

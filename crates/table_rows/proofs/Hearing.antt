@@ -1,26 +1,8 @@
 -- Messages that a monitor hears, and from whom.
-use Rattle.mon_bytes.specs.declared.entry.Entry.{Entry}
-use Rattle.mon_msg.specs.Protocol.Copying.{of_provider}
-use Rattle.mon_msg.specs.Protocol.Course.{Course, disarm, ◌▸◌}
-use Rattle.mon_msg.specs.Protocol.Hearing.{has_fitting_table, hear, hear_client}
-use Rattle.mon_msg.specs.Protocol.Leader.{is_one_of, of_member}
-use Rattle.mon_msg.specs.Protocol.Peon.{of_leader}
-use Rattle.mon_msg.specs.Protocol.Phases.{same_phase, votes}
-use Rattle.mon_msg.specs.Protocol.Readings.{Readings, epoch_of}
-use Rattle.mon_msg.specs.Protocol.State.{State}
-use Rattle.mon_msg.specs.Protocol.Table.{at_rest, react, timer_comes}
-use Rattle.mon_msg.specs.Protocol.Timers.{is_armed}
+use Rattle.law_names.proofs.Table.{Body, Course, Entry, Me, Message, Phase, Readings, Request, Session, State, Timer, Which, at_rest, disarm, epoch_of, has, hear, hear_client, is_armed, is_one_of, of_leader, of_member, of_provider, react, same_phase, timer_comes, votes, ◌▸◌}
+use Rattle.mon_msg.specs.Protocol.Hearing.{has_fitting_table}
 use Rattle.mon_msg.specs.declared.input.Input.TheVariants as input
-use Rattle.mon_msg.specs.declared.view.Me.{Me}
-use Rattle.mon_types.specs.Ranks.{has}
-use Rattle.mon_types.specs.declared.names.Which.{Which}
-use Rattle.mon_wire.specs.declared.body.Body.{Body}
-use Rattle.mon_wire.specs.declared.message.Message.{Message}
 use Rattle.mon_wire.specs.declared.phase.Phase.TheVariants as phase
-use Rattle.mon_wire.specs.declared.phase.Phase.{Phase}
-use Rattle.mon_wire.specs.declared.phase.Timer.{Timer}
-use Rattle.mon_wire.specs.declared.request.Request.{Request}
-use Rattle.mon_wire.specs.declared.request.Session.{Session}
 use Rattle.std.proofs.Common.{List, Result, ap, eq-eqb, false, ne_eqb, refl, sym, true, ℕ, ◌&&◌, ◌∙◌, ◌≡◌}
 
 -- a message of the monitor f of the same map, in epoch e

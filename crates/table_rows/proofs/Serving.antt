@@ -1,51 +1,16 @@
 -- The rows of values, leases, commands and copies, and their acts.
-use Rattle.mon_bytes.specs.declared.command.Command.{Command}
-use Rattle.mon_bytes.specs.declared.command.CommandRefused.{CommandRefused}
-use Rattle.mon_bytes.specs.declared.entry.Entry.{Entry}
+use Rattle.law_names.proofs.Table.{Command, CommandRefused, Cookie, Course, Entry, Last, LeaderStage, Learn, MOST_WAITING, Me, Op, Origin, Phase, Place, Readings, Reply, Session, State, SyncStage, Vote, answer, answer_any, are_within, arm, arm_if, ask, asked_of, at_leader, at_peon, at_rest, awaits_cookie, be_active, begin, begin_alone, begin_made, begin_with, cancel, change, change_all, chunk, clients_are, commit, commit_any, disarm, extend, first_place, grant, has_queue, hear_accept, hear_begin, hear_chunk, hear_commit, hear_cookie, hear_forward, hear_get_chunk, hear_get_cookie_full, hear_get_cookie_recent, hear_last_chunk, hear_lease, hear_lease_ack, hear_route, is_after, is_alone, is_armed, is_cookie, is_empty, is_leading, is_one_of, is_ours, is_peon, is_too_long, leader_is, leads_in, learn, may_propose, members, of_member, of_provider, pending, pending_of, peon_is, promise_of, propose, react, renew, replay_any, replay_step, reply_to, same_flag, same_phase, same_place, send, send_each, service_last, service_of, start_chunks, step_in, step_of, take_and_ask, take_last, takes_chunks, too_long, value, wait_under, with_rank, ◌>>=◌, ◌▸◌}
 use Rattle.mon_lease.specs.Lease as lease
-use Rattle.mon_msg.specs.Protocol.Changes.{Last, Learn, Vote}
-use Rattle.mon_msg.specs.Protocol.Chunks.{hear_chunk, hear_last_chunk, is_ours, take_and_ask, take_last, takes_chunks}
-use Rattle.mon_msg.specs.Protocol.Commands.{ask, at_leader, at_peon, hear_forward, hear_route, is_too_long, may_propose, reply_each, too_long, wait_under}
-use Rattle.mon_msg.specs.Protocol.Copying.{awaits_cookie, first_place, hear_cookie, of_provider, same_flag, start_chunks}
-use Rattle.mon_msg.specs.Protocol.Course.{Course, arm, arm_if, change, change_all, clients_are, disarm, disarm_if, leader_is, leads_in, peon_is, ◌>>=◌, ◌▸◌}
-use Rattle.mon_msg.specs.Protocol.Leader.{commit_any, hear_accept, hear_lease_ack, is_one_of, of_member, renew}
-use Rattle.mon_msg.specs.Protocol.Leading.{be_active, begin, begin_alone, begin_with, commit, extend, has_queue, is_alone}
-use Rattle.mon_msg.specs.Protocol.Learning.{learn}
-use Rattle.mon_msg.specs.Protocol.Peon.{cancel, hear_begin, hear_commit, hear_lease}
-use Rattle.mon_msg.specs.Protocol.Phases.{is_leading, is_peon, same_phase}
-use Rattle.mon_msg.specs.Protocol.Places.{is_after, is_cookie, same_place}
-use Rattle.mon_msg.specs.Protocol.Proposing.{asked_of, begin_made, propose}
-use Rattle.mon_msg.specs.Protocol.Providing.{chunk, grant, hear_get_chunk, hear_get_cookie_full, hear_get_cookie_recent}
-use Rattle.mon_msg.specs.Protocol.Readings.{Readings, promise_of}
-use Rattle.mon_msg.specs.Protocol.Records.{pending, pending_of}
-use Rattle.mon_msg.specs.Protocol.Replay.{replay_any, replay_step, step_in, step_of}
-use Rattle.mon_msg.specs.Protocol.Sending.{answer, answer_any, members, reply_to, send, send_each}
-use Rattle.mon_msg.specs.Protocol.Services.{service_last}
-use Rattle.mon_msg.specs.Protocol.Sets.{are_within, is_empty}
-use Rattle.mon_msg.specs.Protocol.State.{State}
-use Rattle.mon_msg.specs.Protocol.Table.{at_rest, react}
-use Rattle.mon_msg.specs.Protocol.Timers.{is_armed}
-use Rattle.mon_msg.specs.Protocol.Value.{service_of, value}
+use Rattle.mon_msg.specs.Protocol.Commands.{reply_each}
+use Rattle.mon_msg.specs.Protocol.Course.{disarm_if}
 use Rattle.mon_msg.specs.declared.input.Input.TheVariants as input
-use Rattle.mon_msg.specs.declared.limits.TheConstants.{MOST_WAITING}
 use Rattle.mon_msg.specs.declared.paxos.LeaderStage.TheVariants as stage
-use Rattle.mon_msg.specs.declared.paxos.LeaderStage.{LeaderStage}
 use Rattle.mon_msg.specs.declared.plan.Origin.TheVariants as origin
-use Rattle.mon_msg.specs.declared.plan.Origin.{Origin}
 use Rattle.mon_msg.specs.declared.synchronization.SyncStage.TheVariants as sync
-use Rattle.mon_msg.specs.declared.synchronization.SyncStage.{SyncStage}
-use Rattle.mon_msg.specs.declared.view.Me.{Me}
-use Rattle.mon_tx.specs.declared.op.Op.{Op}
-use Rattle.mon_types.specs.Ranks.{with_rank}
 use Rattle.mon_wire.specs.declared.body.Body.TheVariants as body
-use Rattle.mon_wire.specs.declared.parts.Cookie.{Cookie}
-use Rattle.mon_wire.specs.declared.parts.Place.{Place}
 use Rattle.mon_wire.specs.declared.phase.Phase.TheVariants as phase
-use Rattle.mon_wire.specs.declared.phase.Phase.{Phase}
 use Rattle.mon_wire.specs.declared.phase.Timer.TheVariants as timer
 use Rattle.mon_wire.specs.declared.reply.Reply.TheVariants as reply
-use Rattle.mon_wire.specs.declared.reply.Reply.{Reply}
-use Rattle.mon_wire.specs.declared.request.Session.{Session}
 use Rattle.std.proofs.Common.{Bool, List, None, Ok, Option, Result, Some, [], ap, arith, eq-eqb, false, filter, inl, inr, is_some, length, ltb, nat_le, ne_eqb, not, refl, slice_index_or, slice_set, suc, true, ℕ, ◌&&◌, ◌+◌, ◌-◌, ◌<◌, ◌==◌, ◌^◌, ◌∙◌, ◌∷◌, ◌≡◌, ◌≤◌, ◌⊎◌}
 use Rattle.std.proofs.lemmas.Bool.{false≢true, le-leb, le-ltb, lt-ltb}
 use Rattle.table_rows.proofs.Hearing.{IsLeader, IsMember, IsOther, IsProvider, heard, hears, in_phase_runs, is_of_leader, is_of_member, is_of_provider, of_a_leader, of_a_member, of_a_provider, rings}

@@ -1,45 +1,21 @@
 -- What is seen of a monitor after each act.
-use Rattle.election_rules.specs.declared.scores.Scores.{Scores}
-use Rattle.mon_msg.specs.Protocol.Collecting.{begin_found, collect, collect_with, commits_to, commits_with, missed, reign, settle}
-use Rattle.mon_msg.specs.Protocol.Course.{Course, disarm, leader_is, say, ◌▸◌}
-use Rattle.mon_msg.specs.Protocol.Elections.{is_allowed, may_defer, merge, stands_before, weigh}
-use Rattle.mon_msg.specs.Protocol.Entering.{adopt, bootstrap, elect, in_next_epoch, in_odd_epoch, own_table, win}
-use Rattle.mon_msg.specs.Protocol.Leading.{be_active, begin, begin_alone, begin_with, commit, extend, is_alone}
-use Rattle.mon_msg.specs.Protocol.Learning.{learn}
-use Rattle.mon_msg.specs.Protocol.Phases.{phase_of}
-use Rattle.mon_msg.specs.Protocol.Readings.{Readings, epoch_of, epoch_or_first, or_zero, promise_of}
-use Rattle.mon_msg.specs.Protocol.Sending.{answer_to, answers_to, members, message_to, others, send_each}
-use Rattle.mon_msg.specs.Protocol.State.{State}
-use Rattle.mon_msg.specs.declared.paxos.Found.{Found}
+use Rattle.law_names.proofs.Table.{AllByRecursion, Body, Course, Found, LeaderStage, Me, Message, Op, Origin, Phase, Readings, Reply, Scores, Sent, State, Which, adopt, answer_to, answers_to, be_active, begin, begin_alone, begin_found, begin_with, bootstrap, collect, collect_with, commit, commits_to, commits_with, disarm, elect, epoch_of, epoch_or_first, extend, flat_map, in_next_epoch, in_odd_epoch, is_allowed, is_alone, leader_is, learn, may_defer, members, merge, message_to, missed, next_number, or_zero, others, own_table, phase_of, promise_of, reign, say, send_each, settle, stands_before, weigh, win, ◌▸◌}
+use Rattle.mon_decode.specs.Headers.{kind_in}
 use Rattle.mon_msg.specs.declared.paxos.LeaderStage.TheVariants as stage
-use Rattle.mon_msg.specs.declared.paxos.LeaderStage.{LeaderStage}
 use Rattle.mon_msg.specs.declared.plan.Origin.TheVariants as origin
-use Rattle.mon_msg.specs.declared.plan.Origin.{Origin}
-use Rattle.mon_msg.specs.declared.plan.Sent.{Sent}
-use Rattle.mon_msg.specs.declared.view.Me.{Me}
-use Rattle.mon_tx.specs.declared.op.Op.{Op}
-use Rattle.mon_types.specs.Proposal.{next_number}
 use Rattle.mon_types.specs.declared.names.Which.TheVariants as which
-use Rattle.mon_types.specs.declared.names.Which.{Which}
 use Rattle.mon_watch.specs.Seen.{shown}
 use Rattle.mon_watch.specs.declared.seen.Seen.{Seen}
-use Rattle.mon_decode.specs.Headers.{kind_in}
 use Rattle.mon_wire.specs.declared.body.Body.TheVariants as body
-use Rattle.mon_wire.specs.declared.body.Body.{Body}
-use Rattle.mon_wire.specs.declared.message.Message.{Message}
 use Rattle.mon_wire.specs.declared.phase.Phase.TheVariants as phase
-use Rattle.mon_wire.specs.declared.phase.Phase.{Phase}
 use Rattle.mon_wire.specs.declared.phase.Timer.TheVariants as timer
 use Rattle.mon_wire.specs.declared.reply.Reply.TheVariants as reply
-use Rattle.mon_wire.specs.declared.reply.Reply.{Reply}
 use Rattle.quorum_walk.proofs.Learning.{Same, learns}
 use Rattle.quorum_walk.proofs.Lists.{all_flat_map, all_of}
 use Rattle.quorum_walk.proofs.Sparing.{Own, Spares, learned_own}
 use Rattle.quorum_walk.proofs.Walk.{Then, and_then, by_test, done, where_fits}
-use Rattle.std.proofs.Common.{Bool, Err, List, None, Ok, Option, Result, Some, [], ap, eqb, false, inl, inr, length, ltb, map, max, not, refl, subst, suc, sym, true, ℕ, ◌&&◌, ◌++◌, ◌+◌, ◌∙◌, ◌∷◌, ◌≡◌, ◌⊎◌}
+use Rattle.std.proofs.Common.{Bool, Err, List, None, Ok, Option, Result, Some, [], ap, eqb, false, inl, inr, is_some, length, ltb, map, max, not, refl, slice_index_or, subst, suc, sym, true, ℕ, ◌&&◌, ◌++◌, ◌+◌, ◌∙◌, ◌∷◌, ◌≡◌, ◌⊎◌}
 use Rattle.std.proofs.lemmas.Bool.{cond_both, false≢true}
-use Rattle.std.specs.List.{AllByRecursion, flat_map}
-use Rattle.std.specs.Prelude.{is_some, slice_index_or}
 use Rattle.watch_laws.proofs.Showing.{At, Is, IsIdle, IsSilent, Shown, all, has_others, idle_alone, nobody, still, told}
 use Rattle.watch_laws.specs.Watching.{ReadsShort}
 

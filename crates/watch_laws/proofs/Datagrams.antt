@@ -1,4 +1,6 @@
 -- What is seen of datagrams is what is seen of the messages that they are of.
+use Rattle.law_names.proofs.Runs.{Arrives, Crash, Down, Event, Meeting, Monitors, NoMessage, Reacts, Stop, World, first_world, happens, meets, plain_of, run}
+use Rattle.law_names.proofs.Table.{AllByRecursion, Body, HasText, Input, Message, Phase, Scores, Sent, State, epoch_of, range_with_len, readings_of}
 use Rattle.mon_decode.proofs.HeaderLaws.{reads_headers}
 use Rattle.mon_decode.specs.Headers.{header_of, heading, kind_in, same_kind}
 use Rattle.mon_decode.specs.declared.header.Header.{Header}
@@ -8,12 +10,8 @@ use Rattle.mon_link.specs.declared.link.Got.{Got}
 use Rattle.mon_link.specs.declared.link.Outgoing.{Outgoing}
 use Rattle.mon_link.specs.declared.link.Peer.TheVariants.{Client, Monitor}
 use Rattle.mon_link.specs.declared.link.Peer.{Peer}
-use Rattle.mon_msg.specs.Protocol.Readings.{epoch_of, readings_of}
-use Rattle.mon_msg.specs.Protocol.State.{State}
 use Rattle.mon_msg.specs.declared.input.Input.TheVariants as input
-use Rattle.mon_msg.specs.declared.input.Input.{Input}
 use Rattle.mon_msg.specs.declared.plan.Sent.TheVariants as sent
-use Rattle.mon_msg.specs.declared.plan.Sent.{Sent}
 use Rattle.mon_watch.specs.Kinds.{kind_at, kind_named}
 use Rattle.mon_watch.specs.Seen.{after_header, after_heard, after_phase, header_heard, header_read, nothing_seen, shown, taken_from}
 use Rattle.mon_watch.specs.Traffic.{no_notes, notes_got, notes_sent}
@@ -23,27 +21,16 @@ use Rattle.mon_wire.proofs.BodyLengths.{length-message}
 use Rattle.mon_wire.specs.Message.Bodies.{encoded}
 use Rattle.mon_wire.specs.Message.Length.{message_length}
 use Rattle.mon_wire.specs.Message.PartLengths.{table_length}
-use Rattle.mon_wire.specs.Message.Whole.{HasText, text}
-use Rattle.election_rules.specs.declared.scores.Scores.{Scores}
+use Rattle.mon_wire.specs.Message.Whole.{text}
 use Rattle.mon_wire.specs.declared.body.Body.TheVariants as body
-use Rattle.mon_wire.specs.declared.body.Body.{Body}
 use Rattle.mon_wire.specs.declared.kind.Kind.TheVariants as kind
-use Rattle.mon_wire.specs.declared.message.Message.{Message}
-use Rattle.mon_wire.specs.declared.phase.Phase.{Phase}
-use Rattle.quorum_model.specs.Happens.{Stop, happens}
-use Rattle.quorum_model.specs.Meets.{Down, Meeting, NoMessage, Reacts, meets}
-use Rattle.quorum_model.specs.Monitors.{Monitors}
-use Rattle.quorum_model.specs.Runs.{run}
-use Rattle.quorum_model.specs.World.{Arrives, Crash, Event, World, first_world, plain_of}
-use Rattle.std.proofs.Common.{Bool, List, None, Option, Some, [], ap, arith, cond, eqb, false, inl, inr, leb, length, map, not, refl, subst, sym, true, ℕ, ◌*◌, ◌+◌, ◌++◌, ◌<◌, ◌||◌, ◌∙◌, ◌∷◌, ◌≡◌, ◌≤◌}
-use Rattle.std.specs.Prelude.{Result, Ok, Err, is_some}
+use Rattle.std.proofs.Common.{Bool, Err, List, None, Ok, Option, Result, Some, [], ap, arith, cond, eqb, false, inl, inr, is_some, leb, length, map, not, refl, subst, sym, true, ℕ, ◌*◌, ◌++◌, ◌+◌, ◌<◌, ◌||◌, ◌∙◌, ◌∷◌, ◌≡◌, ◌≤◌}
 use Rattle.std.proofs.lemmas.Bool.Decides.{nat_tests}
 use Rattle.std.proofs.lemmas.List.{take_all}
 use Rattle.std.proofs.lemmas.Nat.{mul-le}
-use Rattle.std.specs.List.{AllByRecursion, range_with_len}
+use Rattle.watch_laws.proofs.Runs.{watch_is_so}
 use Rattle.watch_laws.specs.Datagrams.{AreOf, Call, Comes, Goes, IsToClient, LinkIsSo, given, is_short, noted, sent_at, sent_before, sent_from, sent_on, to_peer}
 use Rattle.watch_laws.specs.Watching.{IsSo, ReadsShort, after_all, after_message, fits, lags, seen_at, seen_before, seen_from, seen_on}
-use Rattle.watch_laws.proofs.Runs.{watch_is_so}
 
 -- ---- what is said of a monitor
 

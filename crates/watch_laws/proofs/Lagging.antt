@@ -1,38 +1,20 @@
 -- How long what is seen lags: until the next message that shows a phase.
+use Rattle.law_names.proofs.Runs.{Asked, Envelope, Meeting, Monitors, Plain, PlainFits, Reacts, World, first_world, map_after, meets, run, with_asked}
+use Rattle.law_names.proofs.Table.{AllByRecursion, Course, Input, Me, Message, Phase, Reaction, Readings, Sent, State, Which, any_reaction, epoch_of, react, reaction_of, readings_of, same_phase, shared_entries}
 use Rattle.mon_decode.specs.Headers.{heading, kind_in}
-use Rattle.mon_msg.specs.Protocol.Course.{Course}
-use Rattle.mon_msg.specs.Protocol.Phases.{same_phase}
-use Rattle.mon_msg.specs.Protocol.Reaction.{Reaction, any_reaction, reaction_of}
-use Rattle.mon_msg.specs.Protocol.Readings.{Readings, epoch_of, readings_of, shared_entries}
-use Rattle.mon_msg.specs.Protocol.State.{State}
-use Rattle.mon_msg.specs.Protocol.Table.{react}
-use Rattle.mon_msg.specs.declared.input.Input.{Input}
 use Rattle.mon_msg.specs.declared.plan.Sent.TheVariants as sent
-use Rattle.mon_msg.specs.declared.plan.Sent.{Sent}
-use Rattle.mon_msg.specs.declared.view.Me.{Me}
-use Rattle.mon_types.specs.declared.names.Which.{Which}
 use Rattle.mon_watch.specs.Seen.{after_phase, nothing_seen, shown, taken_from}
 use Rattle.mon_watch.specs.declared.seen.Seen.{Seen}
 use Rattle.mon_wire.specs.declared.kind.Kind.TheVariants as kind
 use Rattle.mon_wire.specs.declared.kind.Kind.{Kind}
-use Rattle.mon_wire.specs.declared.message.Message.{Message}
 use Rattle.mon_wire.specs.declared.phase.Phase.TheVariants as phase
-use Rattle.mon_wire.specs.declared.phase.Phase.{Phase}
 use Rattle.quorum_history.proofs.Phases.{no}
 use Rattle.quorum_laws.proofs.Events.{all_runs}
 use Rattle.quorum_laws.proofs.Invariant.{InvOf, InvWith}
 use Rattle.quorum_laws.proofs.Meetings.{Arriving, each_meeting, member_of}
-use Rattle.quorum_model.specs.Clients.{with_asked}
-use Rattle.quorum_model.specs.Events.{PlainFits}
-use Rattle.quorum_model.specs.Happens.{map_after}
-use Rattle.quorum_model.specs.Meets.{Meeting, Reacts, meets}
-use Rattle.quorum_model.specs.Monitors.{Monitors}
-use Rattle.quorum_model.specs.Runs.{run}
-use Rattle.quorum_model.specs.World.{Asked, Envelope, Plain, World, first_world}
-use Rattle.std.proofs.Common.{Bool, Err, List, None, Ok, Option, Result, Some, [], ap, cond, false, inl, inr, ltb, refl, subst, sym, true, ℕ, ◌&&◌, ◌∙◌, ◌∷◌, ◌≡◌}
+use Rattle.std.proofs.Common.{Bool, Err, List, None, Ok, Option, Result, Some, [], ap, cond, false, inl, inr, is_some, ltb, refl, subst, sym, true, ℕ, ◌&&◌, ◌∙◌, ◌∷◌, ◌≡◌}
 use Rattle.std.proofs.lemmas.Bool.{lt-ltb, or_cases}
-use Rattle.std.specs.List.{AllByRecursion, list_any}
-use Rattle.std.specs.Prelude.{is_some}
+use Rattle.std.specs.List.{list_any}
 use Rattle.watch_laws.proofs.Runs.{At_in, is_shown, no_source, so, tells, unseen}
 use Rattle.watch_laws.specs.Watching.{IsShown, LagEnds, ReadsShort, after_all, after_message, fits, is_seen, seen_before, seen_from}
 

@@ -1,22 +1,11 @@
 -- Phases that tests name, and bodies of messages that definitions choose.
-use Rattle.mon_bytes.specs.declared.entry.Entry.{Entry}
+use Rattle.law_names.proofs.Table.{Body, Cell, Cookie, Entry, Phase, Place as ChunkPlace, Readings, answer_of, chunk, given_entries, given_values, is_complete, is_even, is_finished, is_member, last_answer, pending, promise_of, reach, same_phase, sent_values, told_of, votes}
 use Rattle.mon_decode.specs.Headers.{kind_in}
-use Rattle.mon_msg.specs.Protocol.Answers.{answer_of, last_answer, is_complete, told_of, sent_values}
-use Rattle.mon_msg.specs.Protocol.Entering.{is_even}
-use Rattle.mon_msg.specs.Protocol.Phases.{is_member, same_phase, votes}
-use Rattle.mon_msg.specs.Protocol.Providing.{chunk, given_entries, given_values, is_finished, reach}
-use Rattle.mon_msg.specs.Protocol.Readings.{Readings, promise_of}
-use Rattle.mon_msg.specs.Protocol.Records.{pending}
-use Rattle.mon_tx.specs.Decision.{Cell}
 use Rattle.mon_watch.specs.Seen.{shown as shown_in}
 use Rattle.mon_wire.specs.declared.body.Body.TheVariants as body
-use Rattle.mon_wire.specs.declared.body.Body.{Body}
-use Rattle.mon_wire.specs.declared.parts.Cookie.{Cookie}
-use Rattle.mon_wire.specs.declared.parts.Place.{Place as ChunkPlace}
 use Rattle.mon_wire.specs.declared.phase.Phase.TheVariants as phase
-use Rattle.mon_wire.specs.declared.phase.Phase.{Phase}
 use Rattle.quorum_history.proofs.Phases.{no}
-use Rattle.std.proofs.Common.{List, None, Some, ap, arith, false, inl, inr, ltb, refl, true, ℕ, ◌&&◌, ◌∙◌, ◌||◌, ◌≡◌, ◌⊎◌}
+use Rattle.std.proofs.Common.{List, None, Some, ap, arith, false, inl, inr, ltb, refl, true, ℕ, ◌&&◌, ◌||◌, ◌∙◌, ◌≡◌, ◌⊎◌}
 use Rattle.std.proofs.lemmas.Bool.{cond_both, ltb-false}
 
 -- ---- phases that tests name

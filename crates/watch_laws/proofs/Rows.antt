@@ -1,76 +1,20 @@
 -- What is seen of a monitor after each event is true, or lags.
-use Rattle.election_rules.specs.declared.scores.Scores.{Scores}
+use Rattle.law_names.proofs.Table.{AllByRecursion, Asked, Body, Command, CommandRefused, Cookie, Course, Entry, Input, MOST_WAITING, Me, Message, Op, Origin, Phase, Place as ChunkPlace, Promise, Readings, Reply, Request, Scores, Sent, Session, State, SyncStage, Timer, Told, Waiting, all_accepted, all_answered, answer_to, ask, asked_of, at_leader, at_peon, at_rest, awaits_cookie, before_start, begin_made, bootstrap, cancel, chunk, commit_any, copy, count_of, counts, disarm, elect, election_ends, elector_is, end_of, epoch_of, epoch_or_first, first_place, full_sync, grant, has, has_queue, hear, hear_accept, hear_ack, hear_begin, hear_chunk, hear_client, hear_collect, hear_commit, hear_cookie, hear_forward, hear_get_chunk, hear_get_cookie_full, hear_get_cookie_recent, hear_last, hear_last_chunk, hear_lease, hear_lease_ack, hear_no_cookie, hear_ping, hear_ping_reply, hear_probe, hear_probe_reply, hear_propose, hear_route, hear_victory, hear_whole, is_after, is_allowed, is_alone, is_cookie, is_even, is_heard, is_leading, is_majority, is_member, is_ours, is_peon, is_standing, is_too_long, is_whole, lag, last_answer, leader_is, learn, lease_of, may_propose, measure, merge, message_to, news, news_from, no_cookie, note, note_pending, note_table, of_leader, of_member, of_provider, others, own_table, pending, ping, played, promise, promise_of, propose, propose_due, propose_first, propose_next, quorum_of, react, read, readable, recent_sync, record_changes, refusal, renew, replay_any, replay_step, reply_to, running, same_cookie, same_flag, same_phase, say, service_last, service_of, shown, since, start, step_in, step_of, table_or, take, timer_comes, too_long, value, votes, with_rank, ◌▸◌}
 use Rattle.mon_bytes.specs.declared.command.Command.TheVariants as command
-use Rattle.mon_bytes.specs.declared.command.Command.{Command}
-use Rattle.mon_bytes.specs.declared.command.CommandRefused.{CommandRefused}
-use Rattle.mon_bytes.specs.declared.entry.Entry.{Entry}
-use Rattle.mon_lease.specs.Lease.{readable}
-use Rattle.mon_msg.specs.Protocol.Answers.{last_answer}
-use Rattle.mon_msg.specs.Protocol.Changes.{Promise}
-use Rattle.mon_msg.specs.Protocol.Chunks.{copy, hear_chunk, hear_last_chunk, is_ours, record_changes, take}
-use Rattle.mon_msg.specs.Protocol.Commands.{ask, at_leader, at_peon, hear_forward, hear_route, is_too_long, may_propose, propose_due, too_long}
-use Rattle.mon_msg.specs.Protocol.Copying.{awaits_cookie, first_place, hear_cookie, hear_no_cookie, of_provider, same_flag}
-use Rattle.mon_msg.specs.Protocol.Course.{Course, disarm, elector_is, leader_is, say, ◌▸◌}
-use Rattle.mon_msg.specs.Protocol.Elections.{election_ends, hear_ack, hear_propose, hear_victory, is_allowed, is_whole, merge, table_or}
-use Rattle.mon_msg.specs.Protocol.Entering.{bootstrap, elect, is_even, own_table}
-use Rattle.mon_msg.specs.Protocol.Found.{counts}
-use Rattle.mon_msg.specs.Protocol.Hearing.{hear, hear_client, is_heard}
-use Rattle.mon_msg.specs.Protocol.Leader.{all_accepted, all_answered, commit_any, hear_accept, hear_last, hear_lease_ack, hear_whole, note, note_pending, of_member, renew}
-use Rattle.mon_msg.specs.Protocol.Leading.{has_queue, is_alone}
-use Rattle.mon_msg.specs.Protocol.Learning.{learn, news, news_from}
-use Rattle.mon_msg.specs.Protocol.Peon.{cancel, hear_begin, hear_collect, hear_commit, hear_lease, of_leader, promise}
-use Rattle.mon_msg.specs.Protocol.Phases.{is_leading, is_member, is_peon, same_phase, votes}
-use Rattle.mon_msg.specs.Protocol.Pings.{hear_ping, hear_ping_reply, measure, note_table, ping}
-use Rattle.mon_msg.specs.Protocol.Places.{is_after, is_cookie, no_cookie, same_cookie}
-use Rattle.mon_msg.specs.Protocol.Played.{played}
-use Rattle.mon_msg.specs.Protocol.Probing.{hear_probe, hear_probe_reply, lag}
-use Rattle.mon_msg.specs.Protocol.Proposing.{asked_of, begin_made, propose, propose_first, propose_next, refusal}
-use Rattle.mon_msg.specs.Protocol.Providing.{chunk, grant, hear_get_chunk, hear_get_cookie_full, hear_get_cookie_recent}
-use Rattle.mon_msg.specs.Protocol.Readings.{Readings, epoch_of, epoch_or_first, promise_of}
-use Rattle.mon_msg.specs.Protocol.Reads.{is_standing, read, shown, since}
-use Rattle.mon_msg.specs.Protocol.Records.{pending}
-use Rattle.mon_msg.specs.Protocol.Replay.{replay_any, replay_step, step_in, step_of}
-use Rattle.mon_msg.specs.Protocol.Sending.{answer_to, message_to, others, reply_to}
-use Rattle.mon_msg.specs.Protocol.Services.{service_last}
-use Rattle.mon_msg.specs.Protocol.State.{State, lease_of, quorum_of}
-use Rattle.mon_msg.specs.Protocol.Synchronizing.{full_sync, recent_sync}
-use Rattle.mon_msg.specs.Protocol.Table.{at_rest, before_start, react, running, start, timer_comes}
-use Rattle.mon_msg.specs.Protocol.Timers.{end_of}
-use Rattle.mon_msg.specs.Protocol.Value.{service_of, value}
-use Rattle.mon_msg.specs.declared.clients.Asked.{Asked}
-use Rattle.mon_msg.specs.declared.clients.Waiting.{Waiting}
+use Rattle.mon_decode.specs.Headers.{heading, kind_in}
 use Rattle.mon_msg.specs.declared.input.Input.TheVariants as input
-use Rattle.mon_msg.specs.declared.input.Input.{Input}
-use Rattle.mon_msg.specs.declared.limits.TheConstants.{MOST_WAITING}
 use Rattle.mon_msg.specs.declared.paxos.LeaderStage.TheVariants as stage
 use Rattle.mon_msg.specs.declared.plan.Origin.TheVariants as origin
-use Rattle.mon_msg.specs.declared.plan.Origin.{Origin}
 use Rattle.mon_msg.specs.declared.plan.Sent.TheVariants as sent
-use Rattle.mon_msg.specs.declared.plan.Sent.{Sent}
 use Rattle.mon_msg.specs.declared.synchronization.SyncStage.TheVariants as sync
-use Rattle.mon_msg.specs.declared.synchronization.SyncStage.{SyncStage}
-use Rattle.mon_msg.specs.declared.view.Me.{Me}
-use Rattle.mon_tx.specs.declared.op.Op.{Op}
-use Rattle.mon_types.specs.Ranks.{count_of, has, is_majority, with_rank}
 use Rattle.mon_types.specs.declared.names.Which.TheVariants as which
-use Rattle.mon_watch.specs.declared.seen.Seen.{Seen}
-use Rattle.mon_decode.specs.Headers.{heading, kind_in}
 use Rattle.mon_watch.specs.Seen.{after_header, shown as shown_in}
+use Rattle.mon_watch.specs.declared.seen.Seen.{Seen}
 use Rattle.mon_wire.specs.declared.body.Body.TheVariants as body
-use Rattle.mon_wire.specs.declared.body.Body.{Body}
-use Rattle.mon_wire.specs.declared.message.Message.{Message}
-use Rattle.mon_wire.specs.declared.parts.Cookie.{Cookie}
-use Rattle.mon_wire.specs.declared.parts.Place.{Place as ChunkPlace}
-use Rattle.mon_wire.specs.declared.parts.Told.{Told}
 use Rattle.mon_wire.specs.declared.phase.Phase.TheVariants as phase
-use Rattle.mon_wire.specs.declared.phase.Phase.{Phase}
 use Rattle.mon_wire.specs.declared.phase.Timer.TheVariants as timer
-use Rattle.mon_wire.specs.declared.phase.Timer.{Timer}
 use Rattle.mon_wire.specs.declared.reply.Reply.TheVariants as reply
-use Rattle.mon_wire.specs.declared.reply.Reply.{Reply}
 use Rattle.mon_wire.specs.declared.request.Request.TheVariants as request
-use Rattle.mon_wire.specs.declared.request.Request.{Request}
-use Rattle.mon_wire.specs.declared.request.Session.{Session}
 use Rattle.quorum_history.proofs.Phases.{active_is, collecting_is, electing_is, peon_is_peon}
 use Rattle.quorum_walk.proofs.FineCourses.{BodyFine, EntryFine, Made, RecordsFine, Val}
 use Rattle.quorum_walk.proofs.FineReading.{all_spare, entries_spare, step_of_fine}
@@ -79,10 +23,8 @@ use Rattle.quorum_walk.proofs.Lists.{all_drop, all_of}
 use Rattle.quorum_walk.proofs.Parity.{odd_before}
 use Rattle.quorum_walk.proofs.Sparing.{Own, copied_own, learned_own, records_own}
 use Rattle.quorum_walk.proofs.Walk.{Then, and_then, and_three, by_test, done, or_three, where_fits}
-use Rattle.std.proofs.Common.{Bool, Err, IfSome, List, None, Ok, Option, Result, Some, [], ap, cond, eqb, false, inl, inr, leb, length, ltb, map, not, refl, subst, suc, sym, true, ℕ, ◌&&◌, ◌+◌, ◌-◌, ◌∙◌, ◌||◌, ◌∷◌, ◌≡◌, ◌⊎◌}
+use Rattle.std.proofs.Common.{Bool, Err, IfSome, List, None, Ok, Option, Result, Some, [], ap, cond, eqb, false, filter, inl, inr, is_some, leb, length, ltb, map, not, refl, slice_index_or, slice_set, subst, suc, sym, true, ℕ, ◌&&◌, ◌+◌, ◌-◌, ◌||◌, ◌∙◌, ◌∷◌, ◌≡◌, ◌⊎◌}
 use Rattle.std.proofs.lemmas.Bool.{and_parts, eqb-true, false≢true, not-false, or_parts}
-use Rattle.std.specs.List.{AllByRecursion, filter}
-use Rattle.std.specs.Prelude.{is_some, slice_index_or, slice_set}
 use Rattle.watch_laws.proofs.Acts as acts
 use Rattle.watch_laws.proofs.Acts.{Kept, learns_sparing, then_map}
 use Rattle.watch_laws.proofs.Phases.{accepted_is, answer_is, chunk_silent, same_parity, votes_electing}

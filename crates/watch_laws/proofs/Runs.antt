@@ -1,21 +1,10 @@
 -- What is seen of a monitor is true, or lags, in every run.
-use Rattle.mon_msg.specs.Protocol.Course.{Course}
-use Rattle.mon_msg.specs.Protocol.Entering.{is_even}
-use Rattle.mon_msg.specs.Protocol.Phases.{is_member, is_peon, same_phase}
-use Rattle.mon_msg.specs.Protocol.Reaction.{Reaction, any_reaction, reaction_of}
-use Rattle.mon_msg.specs.Protocol.Readings.{Readings, epoch_of, readings_of, shared_entries}
-use Rattle.mon_msg.specs.Protocol.State.{State, booting, quorum_of}
-use Rattle.mon_msg.specs.Protocol.Table.{react}
+use Rattle.law_names.proofs.Runs.{AllFit, Arrives, Asked, Crash, Envelope, Event, Meeting, Monitors, Plain, PlainFits, Reacts, Stop, World, after_meeting, first_world, goes_on, happens, kept_only, lost, map_after, meets, moved, plain_of, put_at, ran_from, run_from, unmoved, with_asked}
+use Rattle.law_names.proofs.Table.{AllByRecursion, Course, Input, Me, Message, Phase, Reaction, Readings, State, Store, Which, any_reaction, booting, epoch_of, is_even, is_member, is_peon, quorum_of, react, reaction_of, readings_of, same_phase, shared_entries}
 use Rattle.mon_msg.specs.declared.input.Input.TheVariants as input
-use Rattle.mon_msg.specs.declared.input.Input.{Input}
-use Rattle.mon_msg.specs.declared.view.Me.{Me}
-use Rattle.mon_tx.specs.Map.{Store}
-use Rattle.mon_types.specs.declared.names.Which.{Which}
 use Rattle.mon_watch.specs.Seen.{nothing_seen}
 use Rattle.mon_watch.specs.declared.seen.Seen.{Seen}
-use Rattle.mon_wire.specs.declared.message.Message.{Message}
 use Rattle.mon_wire.specs.declared.phase.Phase.TheVariants as phase
-use Rattle.mon_wire.specs.declared.phase.Phase.{Phase}
 use Rattle.quorum_laws.proofs.Beginning.{at_first}
 use Rattle.quorum_laws.proofs.Elections.{quorum_holds}
 use Rattle.quorum_laws.proofs.Events.{After, event_holds, same, unless_full}
@@ -23,19 +12,10 @@ use Rattle.quorum_laws.proofs.Invariant.{InvOf, InvWith}
 use Rattle.quorum_laws.proofs.Meetings.{Arriving, each_meeting, member_of}
 use Rattle.quorum_laws.proofs.Values.{made, sharing}
 use Rattle.quorum_laws.specs.Elections.{leader_of}
-use Rattle.quorum_model.specs.Clients.{with_asked}
-use Rattle.quorum_model.specs.Events.{AllFit, PlainFits}
-use Rattle.quorum_model.specs.Happens.{Stop, after_meeting, happens, kept_only, lost, map_after, moved, put_at, unmoved}
-use Rattle.quorum_model.specs.Meets.{Meeting, Reacts, meets}
-use Rattle.quorum_model.specs.Monitors.{Monitors}
-use Rattle.quorum_model.specs.Runs.{goes_on, ran_from, run_from}
-use Rattle.quorum_model.specs.World.{Asked, Arrives, Crash, Envelope, Event, Plain, World, first_world, plain_of}
 use Rattle.quorum_walk.proofs.FineCourses.{EntryFine}
 use Rattle.quorum_walk.proofs.Walk.{Then}
-use Rattle.std.proofs.Common.{Bool, Err, List, None, Ok, Option, Result, Some, [], ap, cond, eqb, false, inl, inr, ltb, refl, subst, sym, true, ℕ, ◌∙◌, ◌∷◌, ◌≡◌, ◌⊎◌}
+use Rattle.std.proofs.Common.{Bool, Err, IfOk, List, None, Ok, Option, Result, Some, [], ap, cond, eqb, false, if◌then◌else◌, inl, inr, ltb, refl, subst, sym, true, ℕ, ◌∙◌, ◌∷◌, ◌≡◌, ◌⊎◌}
 use Rattle.std.proofs.lemmas.Bool.{cases_eq, eq-eqb, false≢true, lt-ltb, ne_eqb}
-use Rattle.std.specs.List.{AllByRecursion}
-use Rattle.std.specs.Prelude.{IfOk, if◌then◌else◌}
 use Rattle.watch_laws.proofs.Rows.{reacts}
 use Rattle.watch_laws.proofs.Showing.{At, Shown, all}
 use Rattle.watch_laws.specs.Watching.{IsShown, IsSo, ReadsShort, WatchIsSo, after_all, fits, lags, seen_at, seen_before, seen_from, seen_on}

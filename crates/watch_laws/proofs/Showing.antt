@@ -1,23 +1,13 @@
 -- What is seen of a monitor by what it sends, and what holds of it then.
+use Rattle.law_names.proofs.Table.{AllByRecursion, Body, Course, Me, Message, Phase, Sent, epoch_of, is_alone, is_empty, message_to, others, range_with_len}
 use Rattle.mon_decode.specs.Headers.{heading, kind_in, same_kind}
-use Rattle.mon_msg.specs.Protocol.Course.{Course}
-use Rattle.mon_msg.specs.Protocol.Leading.{is_alone}
-use Rattle.mon_msg.specs.Protocol.Readings.{epoch_of}
-use Rattle.mon_msg.specs.Protocol.Sending.{message_to, others}
-use Rattle.mon_msg.specs.Protocol.Sets.{is_empty}
 use Rattle.mon_msg.specs.declared.plan.Sent.TheVariants as sent
-use Rattle.mon_msg.specs.declared.plan.Sent.{Sent}
-use Rattle.mon_msg.specs.declared.view.Me.{Me}
 use Rattle.mon_watch.specs.Seen.{after_header, after_phase, led_by, shown, taken_from}
 use Rattle.mon_watch.specs.declared.seen.Seen.{Seen}
-use Rattle.mon_wire.specs.declared.body.Body.{Body}
 use Rattle.mon_wire.specs.declared.kind.Kind.TheVariants as kind
-use Rattle.mon_wire.specs.declared.message.Message.{Message}
 use Rattle.mon_wire.specs.declared.phase.Phase.TheVariants as phase
-use Rattle.mon_wire.specs.declared.phase.Phase.{Phase}
-use Rattle.std.proofs.Common.{Bool, List, None, Option, Some, [], ap, arith, cond, eqb, false, inl, inr, ltb, map, not, refl, subst, suc, sym, true, zero, ℕ, ◌++◌, ◌+◌, ◌<◌, ◌∙◌, ◌∷◌, ◌≡◌, ◌≤◌, ◌⊎◌}
+use Rattle.std.proofs.Common.{Bool, List, None, Option, Some, [], ap, arith, cond, eqb, false, filter, inl, inr, ltb, map, not, refl, subst, suc, sym, true, zero, ℕ, ◌++◌, ◌+◌, ◌<◌, ◌∙◌, ◌∷◌, ◌≡◌, ◌≤◌, ◌⊎◌}
 use Rattle.std.proofs.lemmas.Bool.{cases_eq, false≢true, ltb-true, ne_eqb}
-use Rattle.std.specs.List.{AllByRecursion, filter, range_with_len}
 use Rattle.watch_laws.specs.Watching.{ReadsShort, after_all, after_message}
 
 -- this phase, epoch and leader are seen

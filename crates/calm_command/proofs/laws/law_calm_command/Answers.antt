@@ -1,5 +1,5 @@
-use Rattle.calm_command.proofs.RestsCalm.{is_calm}
 use Rattle.calm_command.proofs.OneCommand.{next_rests}
+use Rattle.calm_command.proofs.RestsCalm.{is_calm}
 use Rattle.calm_command.proofs.laws.law_calm_command.Goals as goal
 
 pub returns : goal.returns

@@ -1,8 +1,8 @@
-use Rattle.std.proofs.Common.{suc}
-use Rattle.log_copies.proofs.Growing.{more_values, committed}
+use Rattle.log_copies.proofs.Growing.{committed, more_values}
 use Rattle.log_copies.proofs.Leaving.{still_has}
-use Rattle.log_copies.proofs.Matching.{run_told, versions_are, learned_values}
+use Rattle.log_copies.proofs.Matching.{learned_values, run_told, versions_are}
 use Rattle.log_copies.proofs.laws.law_learned.Goals as goal
+use Rattle.std.proofs.Common.{suc}
 
 pub returns : goal.returns
 returns c = record {

@@ -1,7 +1,6 @@
 use Rattle.network_answers.proofs.Followed.{all_reach, end_holds, rises, so_far}
 use Rattle.network_answers.proofs.laws.law_followers.Goals as goal
-use Rattle.quorum_network.specs.Network.{network}
-use Rattle.quorum_network.specs.Requests.{acknowledgements, requests}
+use Rattle.quorum_network.proofs.Names.{acknowledgements, network, requests}
 
 pub returns : goal.returns
 returns c = record {

@@ -1,6 +1,6 @@
-use Rattle.quorum_model.specs.Runs.{run}
-use Rattle.quorum_laws.proofs.Events.{all_runs}
+use Rattle.law_names.proofs.Runs.{run}
 use Rattle.quorum_laws.proofs.Elections.{active_are_led, epochs_sent, member_between, member_once, quorums}
+use Rattle.quorum_laws.proofs.Events.{all_runs}
 use Rattle.quorum_laws.proofs.laws.law_elections.Goals as goal
 
 pub returns : goal.returns

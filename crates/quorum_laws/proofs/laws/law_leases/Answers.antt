@@ -1,4 +1,4 @@
-use Rattle.quorum_model.specs.Runs.{run}
+use Rattle.law_names.proofs.Runs.{run}
 use Rattle.quorum_laws.proofs.Events.{all_runs}
 use Rattle.quorum_laws.proofs.Leases.{leases_hold}
 use Rattle.quorum_laws.proofs.laws.law_leases.Goals as goal

@@ -1,8 +1,7 @@
-use Rattle.quorum_model.specs.Runs.{run}
-use Rattle.quorum_model.specs.World.{first_world}
+use Rattle.law_names.proofs.Runs.{first_world, run}
 use Rattle.quorum_laws.proofs.Beginning.{at_first}
 use Rattle.quorum_laws.proofs.Events.{all_runs, both_runs}
-use Rattle.quorum_laws.proofs.Numbers.{numbers_hold, numbers_rise, all_remember, answers_cover, values_alone}
+use Rattle.quorum_laws.proofs.Numbers.{all_remember, answers_cover, numbers_hold, numbers_rise, values_alone}
 use Rattle.quorum_laws.proofs.laws.law_promises.Goals as goal
 
 pub returns : goal.returns

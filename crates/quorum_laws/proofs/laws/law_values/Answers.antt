@@ -1,6 +1,6 @@
-use Rattle.quorum_model.specs.Runs.{run}
+use Rattle.law_names.proofs.Runs.{run}
+use Rattle.quorum_laws.proofs.Chosen.{chosen_once, leaders_know, leaves_no_room, one_value, proposes_new}
 use Rattle.quorum_laws.proofs.Events.{all_runs}
-use Rattle.quorum_laws.proofs.Chosen.{one_value, leaves_no_room, chosen_once, leaders_know, proposes_new}
 use Rattle.quorum_laws.proofs.laws.law_values.Goals as goal
 
 pub returns : goal.returns

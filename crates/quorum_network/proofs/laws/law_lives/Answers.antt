@@ -1,10 +1,10 @@
-use Rattle.std.proofs.Common.{None, List, [], ℕ, sym, subst, ap, ◌∙◌}
-use Rattle.std.specs.List.{Contains}
-use Rattle.quorum_network.specs.Network.{map_of}
+use Rattle.law_names.proofs.Table.{Contains}
 use Rattle.quorum_network.proofs.Ends.{cut_sends}
 use Rattle.quorum_network.proofs.Lives.{last_is, lives_alone, process_alone, sends_alone}
+use Rattle.quorum_network.proofs.Names.{map_of}
 use Rattle.quorum_network.proofs.Tied.{ends_says, ends_so, goes_saying, killed, killed_says, within_opens}
 use Rattle.quorum_network.proofs.laws.law_lives.Goals as goal
+use Rattle.std.proofs.Common.{List, None, [], ap, subst, sym, ℕ, ◌∙◌}
 
 pub returns : goal.returns
 returns c = record {

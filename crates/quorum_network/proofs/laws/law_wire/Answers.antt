@@ -1,7 +1,7 @@
-use Rattle.std.proofs.Common.{ℕ, not, List, Option, is_some, ap, inr, refl}
 use Rattle.mon_name.proofs.Frames.{apart, comes_off}
 use Rattle.quorum_network.proofs.Wire.{handed_on, unmarked}
 use Rattle.quorum_network.proofs.laws.law_wire.Goals as goal
+use Rattle.std.proofs.Common.{List, Option, ap, inr, is_some, not, refl, ℕ}
 
 pub returns : goal.returns
 returns c = record {

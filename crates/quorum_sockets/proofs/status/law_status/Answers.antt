@@ -1,18 +1,16 @@
-use Rattle.std.proofs.Common.{◌∙◌, ap, subst, sym}
-use Rattle.mon_link.specs.Histories.{sent}
-use Rattle.mon_msg.specs.Protocol.Readings.{epoch_of, readings_of}
-use Rattle.mon_types.specs.declared.member.Member.{Member}
+use Rattle.law_names.proofs.Table.{Member, epoch_of, readings_of}
 use Rattle.mon_watch.specs.Histories.{WatchState, WatchedDoes, watching}
 use Rattle.mon_watch.specs.Seen.{nothing_seen}
 use Rattle.mon_watch.specs.declared.notes.Notes.{Notes}
 use Rattle.mon_watch.specs.declared.seen.Seen.{Seen}
-use Rattle.quorum_network.specs.Lives.{own}
+use Rattle.quorum_network.proofs.Names.{own, sent}
 use Rattle.quorum_sockets.proofs.Known.{seen_alike, shows_process}
 use Rattle.quorum_sockets.proofs.Watches.{seen_same, watches}
 use Rattle.quorum_sockets.proofs.status.law_status.Goals as goal
 use Rattle.quorum_sockets.specs.Status.{Watches}
 use Rattle.stack_laws.proofs.Going.{watch_stays}
 use Rattle.stack_laws.proofs.Passing.{stays}
+use Rattle.std.proofs.Common.{ap, subst, sym, ◌∙◌}
 use Rattle.watch_laws.proofs.Datagrams.{ShowsSame, all, is_so, same_of}
 use Rattle.watch_laws.specs.Watching.{IsSo}
 
