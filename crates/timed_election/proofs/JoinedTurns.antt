@@ -337,7 +337,7 @@ module _ (ms : Monitors) (q : List Bool) (pace : Pace) (short : 2 * pace.delay <
           of : Outcome ms i lt now sh w s H.came H.course → T
           of (calls_again is no_win P out) = not_due is
           of (wins is candidate most P) = not_due is
-          of (rests P quiet) = turn P.changes (remains P.changes s.elector.candidate s.elector.acked s.elector.deferred s.timers P part.kinds part.only part.ends part.acks part.defers)
+          of (rests P quiet _) = turn P.changes (remains P.changes s.elector.candidate s.elector.acked s.elector.deferred s.timers P part.kinds part.only part.ends part.acks part.defers)
               (λ best. (let Y = stands best in still_stands P.changes best s.elector.acked s.elector.deferred (subst (λ (z : Bool). Stays z s.elector.acked s.elector.deferred s.timers H.course) Y.candidate P) Y.ranks Y.own))
               (quiet_said ms q pace short B C early near c t X u M next e H (epoch_of (readings_of (next.world.store i))) H.course.out Z.first_is Z.last_is low_here quiet)
               (λ best j h. ap (λ (z : List Bool). has z j) P.acked ∙ h) (λ best j h. inl (sym (ap (λ (z : List Bool). has z j) P.acked) ∙ h))

@@ -156,7 +156,7 @@ module _ (ms : Monitors) (q : List Bool) (pace : Pace) (quick : IsQuick pace) (s
   nobody = record { leader = B.best; epoch = B.epoch; pn = 0 }
 
   pub joins : (c : F) (t last : Timed) (more : List (ℕ × Event)) → J c t → (j : ℕ) → has q j ≡ true → IsOut t j → Leads ms q pace t more last → ClocksGoOn q pace last.time → last_by < last.time
-      → JoinBy ms q pace B.best (suc B.epoch) t more last_by
+      → JoinBy ms q pace B.best (suc B.epoch) t last more last_by
   joins c t last [] X j qj out L room late = let o = out_by ms q pace short B C early c t X last.time L.0 j qj out in let k = o.0 in absurd (omega arith)
   joins c t last ((u, e) ∷ more) X j qj out L room late = by (stepped t u L.0 L.1.0 e room_now j qj out c X L.1.1) (λ d Y k qk still. joins d L.1.0 last more Y k qk still L.1.2 room late)
     where
@@ -175,7 +175,7 @@ module _ (ms : Monitors) (q : List Bool) (pace : Pace) (quick : IsQuick pace) (s
       soon : next.time ≤ last_by
       soon = let o = out_by ms q pace short B C early c t X u M j qj out in let k = o.0 in let a = time_is in omega arith
 
-      by : Stepped next → ((d : F) → J d next → (k : ℕ) → has q k ≡ true → IsOut next k → JoinBy ms q pace B.best (suc B.epoch) next more last_by) → JoinBy ms q pace B.best (suc B.epoch) t ((u, e) ∷ more) last_by
+      by : Stepped next → ((d : F) → J d next → (k : ℕ) → has q k ≡ true → IsOut next k → JoinBy ms q pace B.best (suc B.epoch) next last more last_by) → JoinBy ms q pace B.best (suc B.epoch) t last ((u, e) ∷ more) last_by
       by S rest = elim (all_or_one q (λ i. IsIn ms q pace B next i × Takes ms q pace B S.0 next i) (IsOut next) (λ i qi. (let Y : J S.0 next = S.1 in in_or_out S.0 next i (Y.stands i qi)))) [
         | inr k ↦ (let W = rest S.0 S.1 k.0 k.1 k.2 in record {
           before = (u, e) ∷ W.before;
@@ -183,6 +183,7 @@ module _ (ms : Monitors) (q : List Bool) (pace : Pace) (quick : IsQuick pace) (s
           parts = ap (λ (z : List (ℕ × Event)). (u, e) ∷ z) W.parts;
           reached = W.reached;
           run = (M, (next, L.1.1, W.run));
+          rest = W.rest;
           election = W.election;
           epoch_is = W.epoch_is;
           best_is = W.best_is;
@@ -196,6 +197,7 @@ module _ (ms : Monitors) (q : List Bool) (pace : Pace) (quick : IsQuick pace) (s
           parts = refl;
           reached = next;
           run = (M, (next, L.1.1, (here ms q pace next last more L.1.2, refl)));
+          rest = L.1.2;
           election = D.0;
           epoch_is = D.1;
           best_is = D.2;
@@ -216,7 +218,7 @@ near_other n (body.ProbeReply quorum first last) k = absurd k
 near_other n other k = tt
 
 pub joined_by : (ms : Monitors) (q : List Bool) (pace : Pace) (best epoch by : ℕ) (t last : Timed) (more : List (ℕ × Event)) → IsQuick pace → 2 * pace.delay < 2000 → CanElect ms q best → Deserted q pace epoch by t
-    → Leads ms q pace t more last → ClocksGoOn q pace last.time → by + pace.late + 2 * pace.delay < last.time → JoinBy ms q pace best (suc epoch) t more (by + pace.late + 2 * pace.delay)
+    → Leads ms q pace t more last → ClocksGoOn q pace last.time → by + pace.late + 2 * pace.delay < last.time → JoinBy ms q pace best (suc epoch) t last more (by + pace.late + 2 * pace.delay)
 joined_by ms q pace best epoch by t last more quick short C D L room late =
     joins ms q pace quick short B C (let a = D.since in let b = D.before in omega arith) D.near D.even D.fits None t last more X best C.member (D.epoch_is best C.member) L room late
   where

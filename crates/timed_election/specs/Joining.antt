@@ -78,13 +78,15 @@ pub record Deserted (q : List Bool) (pace : Pace) (epoch by : ℕ) (t : Timed) :
 -- ---- its end
 
 -- At some time of the run, and by time u, all members take part in the election of this epoch, which `best` is to win.
-pub record JoinBy (ms : Monitors) (q : List Bool) (pace : Pace) (best epoch : ℕ) (t : Timed) (more : List (ℕ × Event))
-    (u : ℕ) : Type 0 where
+-- The run goes on from there.
+pub record JoinBy (ms : Monitors) (q : List Bool) (pace : Pace) (best epoch : ℕ) (t last : Timed)
+    (more : List (ℕ × Event)) (u : ℕ) : Type 0 where
   pub before : List (ℕ × Event)
   pub after : List (ℕ × Event)
   pub parts : more ≡ before ++ after
   pub reached : Timed
   pub run : Leads ms q pace t before reached
+  pub rest : Leads ms q pace reached after last
   pub election : Election
   pub epoch_is : election.epoch ≡ epoch
   pub best_is : election.best ≡ best

@@ -28,7 +28,7 @@ pub fn law_members_join()
         (more : List (ℕ × Event)) → IsQuick pace → 2 * pace.delay < 2000 → CanElect ms q best
         → Deserted q pace epoch by t → Leads ms q pace t more last → ClocksGoOn q pace last.time
         → by + pace.late + 2 * pace.delay < last.time
-        → JoinBy ms q pace best (suc epoch) t more (by + pace.late + 2 * pace.delay) }
+        → JoinBy ms q pace best (suc epoch) t last more (by + pace.late + 2 * pace.delay) }
 {}
 
 /// An election ends in time if all members of a majority joined it within three delays. The member that outranks the

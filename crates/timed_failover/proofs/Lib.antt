@@ -6,4 +6,5 @@ pub mod Settlers
 pub mod SettlersCome
 pub mod SettlersCount
 pub mod SettlersHear
+pub mod Replaced
 pub mod WholeLog

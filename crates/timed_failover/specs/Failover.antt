@@ -2,9 +2,13 @@
 use Rattle.mon_types.specs.Ranks.{has}
 use Rattle.quorum_model.specs.Meets.{message_at}
 use Rattle.quorum_timed.specs.Calls.{IsCall}
-use Rattle.quorum_timed.specs.Timed.{Pace, Timed}
+use Rattle.quorum_model.specs.Monitors.{Monitors}
+use Rattle.quorum_model.specs.World.{Event}
+use Rattle.quorum_timed.specs.Timed.{Leads, Pace, Timed}
 use Rattle.std.specs.List.{AllByRecursion}
-use Rattle.std.specs.Prelude.{Bool, IsSomeAnd, List, false, true, ℕ, ◌≡◌}
+use Rattle.std.specs.Prelude.{Bool, IsSomeAnd, List, false, true, ℕ, ◌++◌, ◌≡◌, ◌≤◌}
+use Rattle.timed_election.specs.Election.{Election, IsWon}
+use Rattle.timed_election.specs.Keeping.{OnlyVotes}
 
 -- The members of q are those of a quorum but for one monitor that it lost.
 pub record IsWithout (full q : List Bool) (lost : ℕ) : Type 0 where
@@ -21,3 +25,20 @@ NobodyCalls q t = (f i : ℕ) → has q f ≡ true → has q i ≡ true
 -- the same pace from an earlier time on
 abbrev pub from_time : ℕ → Pace → Pace
 from_time earlier pace = record pace { since = earlier }
+
+-- At some time of the run, and by time u, `best` has won the election of this epoch, and leads all members. Of the
+-- election only calls and acknowledgements are under way, and the run goes on from there.
+pub record IsReplacedBy (ms : Monitors) (q : List Bool) (pace : Pace) (best epoch : ℕ) (t last : Timed)
+    (more : List (ℕ × Event)) (u : ℕ) : Type 0 where
+  pub before : List (ℕ × Event)
+  pub after : List (ℕ × Event)
+  pub parts : more ≡ before ++ after
+  pub reached : Timed
+  pub run : Leads ms q pace t before reached
+  pub rest : Leads ms q pace reached after last
+  pub by : reached.time ≤ u
+  pub election : Election
+  pub epoch_is : election.epoch ≡ epoch
+  pub best_is : election.best ≡ best
+  pub won : IsWon ms q pace election reached
+  pub votes : OnlyVotes q election.epoch reached

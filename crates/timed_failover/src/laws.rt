@@ -10,8 +10,9 @@ ghost use Rattle.quorum_stays.specs.Reading.{ClocksGoOn};
 ghost use Rattle.quorum_stays.specs.Steady.{Reign, Round, Steady};
 ghost use Rattle.quorum_timed.specs.Begins.{Begins, IsQuick};
 ghost use Rattle.quorum_timed.specs.Timed.{Leads, Pace, Timed};
+ghost use Rattle.timed_election.specs.Election.{CanElect};
 ghost use Rattle.timed_election.specs.Joining.{Deserted};
-ghost use Rattle.timed_failover.specs.Failover.{IsWithout, NobodyCalls, from_time};
+ghost use Rattle.timed_failover.specs.Failover.{IsReplacedBy, IsWithout, NobodyCalls, from_time};
 ghost use Rattle.timed_failover.specs.Newest.{IsNewest};
 ghost use Rattle.timed_failover.specs.Reached.{IsAsLed, Reached};
 ghost use Rattle.timed_failover.specs.Settling.{IsSettledBy, Opens, Settles, Settling, opening};
@@ -58,4 +59,17 @@ pub fn law_first_leases_lead()
     ensures { (ms : Monitors) (q : List Bool) (pace : Pace) (reign : Reign) (version : ℕ) (value : List Op) (won : ℕ)
         (t : Timed) → 4 * pace.delay ≤ 3000 → Opens ms q pace reign version value won t
         → Steady ms q pace reign (opening version value won t.time) t }
+{}
+
+/// A lost leader is replaced in time. If a quorum that is led loses its leader, one of the others has won an election and
+/// leads all of them by 15 seconds after that, two delays and twice `late`, whatever clients ask. It is the lowest rank
+/// among them that may lead.
+pub fn law_lost_leader_is_replaced()
+    ensures { (ms : Monitors) (full q : List Bool) (pace : Pace) (earlier best : ℕ) (reign : Reign) (r : Round)
+        (t last : Timed) (more : List (ℕ × Event)) → IsQuick pace → pace.delay < 1000 → Reached ms t.world
+        → Steady ms full (from_time earlier pace) reign r t → IsWithout full q reign.leader → CanElect ms q best
+        → Begins ms q pace t → NobodyCalls q t → suc reign.epoch ≤ 2 ^ 62 → Leads ms q pace t more last
+        → ClocksGoOn q pace last.time → pace.since + 15000 + 2 * pace.delay + 2 * pace.late < last.time
+        → IsReplacedBy ms q pace best (suc reign.epoch) t last more
+        (pace.since + 15000 + 2 * pace.delay + 2 * pace.late) }
 {}
