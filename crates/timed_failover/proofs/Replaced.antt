@@ -1,5 +1,4 @@
 -- A lost leader is replaced: the members that it deserted join an election, and one of them wins it.
-use Rattle.mon_types.specs.Ranks.{has}
 use Rattle.quorum_model.specs.Monitors.{Monitors}
 use Rattle.quorum_model.specs.World.{Event}
 use Rattle.quorum_stays.specs.Reading.{ClocksGoOn}
