@@ -83,7 +83,7 @@ def of_patch(path: str) -> Rule:
                 changes.setdefault(module, []).append((old, text))
             elif line and not line.startswith('#'):
                 raise Refused(f"{path}: '{line[:40]}' is none of constant:, file:, old: and new:, in this order")
-    if not changes:
+    if not changes and not constants:
         raise Refused(f'{path} changes nothing')
     return Rule(os.path.basename(path), 'as the file says', 'the definitions as they are', '', changes, constants, opening='any')
 
