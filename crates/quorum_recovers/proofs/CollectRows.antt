@@ -125,7 +125,7 @@ module _ (ms : Monitors) (several : 1 < ms.count) (i : ℕ) (lt : ltb i ms.count
 
   -- ---- all answered
 
-  commits_one : (w : Readings) (lasts : List ℕ) (f t : ℕ) (x : List Op) → slice_index_or lasts f 0 ≡ t → suc t ≡ w.last → record_at w.record_of w.last ≡ Some x → length (text x) ≤ most_value
+  pub commits_one : (w : Readings) (lasts : List ℕ) (f t : ℕ) (x : List Op) → slice_index_or lasts f 0 ≡ t → suc t ≡ w.last → record_at w.record_of w.last ≡ Some x → length (text x) ≤ most_value
       → commits_to me w lasts f ≡ message_to me (epoch_of w) (body.Commit (suc t) (x ∷ [])) f ∷ []
   commits_one w lasts f t x e last is short =
       ap (λ (told : ℕ). cond (ltb told w.last) (commits_with me (epoch_of w) told (missed n w.record_of w.last told) f) []) e

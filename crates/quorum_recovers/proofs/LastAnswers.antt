@@ -33,7 +33,7 @@ fits_told n promise first last from None k = refl
 fits_told n promise first last from (Some t) k = rw (le-leb (12 + (33 + 2 + (1 + 8 + (4 + length (text t.value))))) 1048576 (omega arith)) refl
 
 -- one value fits a message too
-fits_one : (n promise first last from : ℕ) (x : List Op) → length (text x) ≤ most_value → fits n (body.Last promise first last false from (x ∷ []) None) ≡ true
+pub fits_one : (n promise first last from : ℕ) (x : List Op) → length (text x) ≤ most_value → fits n (body.Last promise first last false from (x ∷ []) None) ≡ true
 fits_one n promise first last from x k = λ j. le-leb (message_length n (body.Last promise first last false from (x ∷ []) None)) most_message (omega (arith, sum_by-cons value_length x [])) j && true
 
 pub fits_commit : (n v : ℕ) (x : List Op) → length (text x) ≤ most_value → fits n (body.Commit v (x ∷ [])) ≡ true

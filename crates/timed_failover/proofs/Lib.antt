@@ -1,3 +1,12 @@
+pub mod CollectActs
+pub mod CollectAsides
+pub mod CollectBegins
+pub mod CollectKeeps
+pub mod CollectLeaders
+pub mod CollectMembers
+pub mod CollectQuiets
+pub mod CollectRows
+pub mod CollectTaken
 pub mod Deserting
 pub mod Led
 pub mod Owned

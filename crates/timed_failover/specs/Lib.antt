@@ -1,3 +1,4 @@
+pub mod Collecting
 pub mod Failover
 pub mod Newest
 pub mod Reached
