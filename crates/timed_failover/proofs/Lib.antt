@@ -1,6 +1,7 @@
 pub mod CollectActs
 pub mod CollectAsides
 pub mod CollectBegins
+pub mod CollectElects
 pub mod CollectKeeps
 pub mod CollectLeaders
 pub mod CollectMembers
