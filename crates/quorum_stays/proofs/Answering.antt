@@ -1,30 +1,13 @@
 -- Each member answers each read at once while leases are valid.
-use Rattle.mon_bytes.specs.declared.entry.Entry.{Entry}
-use Rattle.mon_lease.specs.Lease.{readable, stands}
-use Rattle.mon_msg.specs.Protocol.Course.{Course}
-use Rattle.mon_msg.specs.Protocol.Hearing.{hear_client}
-use Rattle.mon_msg.specs.Protocol.Phases.{is_member, same_phase}
-use Rattle.mon_msg.specs.Protocol.Readings.{Readings, readings_of, shared_entries}
-use Rattle.mon_msg.specs.Protocol.Reads.{read, shown, since}
-use Rattle.mon_msg.specs.Protocol.Sending.{reply_to}
-use Rattle.mon_msg.specs.Protocol.State.{State, lease_of}
-use Rattle.mon_msg.specs.Protocol.Table.{at_rest, react}
+use Rattle.law_names.proofs.Runs.{Arrives, Client, Monitors, World, happens, moved}
+use Rattle.law_names.proofs.Table.{Course, Entry, Me, Readings, Reply, Request, Session, State, Which, at_rest, has, hear_client, is_member, lease_of, react, read, readable, readings_of, reply_to, same_phase, shared_entries, shown, since, stands}
 use Rattle.mon_msg.specs.declared.input.Input.TheVariants as input
-use Rattle.mon_msg.specs.declared.view.Me.{Me}
-use Rattle.mon_types.specs.Ranks.{has}
-use Rattle.mon_types.specs.declared.names.Which.{Which}
 use Rattle.mon_wire.specs.declared.phase.Phase.TheVariants as phase
-use Rattle.mon_wire.specs.declared.reply.Reply.{Reply}
 use Rattle.mon_wire.specs.declared.request.Request.TheVariants as request
-use Rattle.mon_wire.specs.declared.request.Request.{Request}
-use Rattle.mon_wire.specs.declared.request.Session.{Session}
 use Rattle.quorum_model.proofs.Members.{member_of}
-use Rattle.quorum_model.specs.Happens.{happens, moved}
-use Rattle.quorum_model.specs.Monitors.{Monitors}
-use Rattle.quorum_model.specs.World.{Arrives, Client, World}
 use Rattle.quorum_stays.proofs.Bounds.{inside}
-use Rattle.quorum_stays.proofs.Onward.{one_state, unpack}
 use Rattle.quorum_stays.proofs.Coming.{member}
+use Rattle.quorum_stays.proofs.Onward.{one_state, unpack}
 use Rattle.quorum_stays.proofs.Stepping.{becomes}
 use Rattle.quorum_stays.specs.Reading.{IsAnswered, LeasesStand, Reads, ShowsStore}
 use Rattle.quorum_stays.specs.Steady.{Reign, Round, Steady}

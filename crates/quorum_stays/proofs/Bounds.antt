@@ -1,18 +1,15 @@
 -- How far time may have gone in a quorum that is led.
-use Rattle.mon_msg.specs.Protocol.Readings.{readings_of}
-use Rattle.mon_msg.specs.Protocol.State.{State}
-use Rattle.mon_types.specs.Ranks.{has}
+use Rattle.law_names.proofs.Runs.{Monitors}
+use Rattle.law_names.proofs.Table.{State, has, readings_of}
 use Rattle.mon_wire.specs.declared.phase.Timer.TheVariants as timer
-use Rattle.quorum_model.specs.Monitors.{Monitors}
 use Rattle.quorum_stays.proofs.Carrying.{first_by}
 use Rattle.quorum_stays.proofs.Onward.{one_state, unpack}
 use Rattle.quorum_stays.proofs.States.{one_missing}
 use Rattle.quorum_stays.specs.Steady.{Begun, Carries, Follower, Item, Leads, LeadsSince, Noted, Proposes, Reign, Round, Steady, leased, said, to_leader, to_peon}
 use Rattle.quorum_timed.specs.Begins.{IsQuick}
 use Rattle.quorum_timed.specs.Timed.{MayBe, Pace, Timed}
-use Rattle.std.proofs.Common.{Bool, List, None, Option, Some, arith, drop, ltb, refl, subst, suc, sym, take, true, zero, ℕ, ◌*◌, ◌+◌, ◌<◌, ◌∙◌, ◌∷◌, ◌≡◌, ◌≤◌}
+use Rattle.std.proofs.Common.{Bool, List, None, Option, Some, arith, drop, length, ltb, refl, subst, suc, sym, take, true, zero, ℕ, ◌*◌, ◌+◌, ◌<◌, ◌∙◌, ◌∷◌, ◌≡◌, ◌≤◌}
 use Rattle.std.proofs.lemmas.Bool.{false≢true, lt-ltb}
-use Rattle.std.specs.Prelude.{length}
 
 module _ (ms : Monitors) (q : List Bool) (pace : Pace) (reign : Reign) (r : Round) (t : Timed) (S : Steady ms q pace reign r t) where
   pub inside : (i : ℕ) → has q i ≡ true → ltb i ms.count ≡ true

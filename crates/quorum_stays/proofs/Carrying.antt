@@ -1,15 +1,11 @@
 -- What is under way between two members after an event sent more.
-use Rattle.mon_wire.specs.declared.body.Body.{Body}
-use Rattle.quorum_model.specs.Meets.{message_at}
-use Rattle.quorum_model.specs.Monitors.{Monitors}
-use Rattle.quorum_model.specs.World.{Envelope}
+use Rattle.law_names.proofs.Runs.{Envelope, Monitors, message_at}
+use Rattle.law_names.proofs.Table.{AllByRecursion, Body, enumerate_from}
 use Rattle.quorum_stays.proofs.UnderWay.{get_more, numbers}
 use Rattle.quorum_stays.specs.Steady.{Carries, IsAside, IsBefore, IsItem, IsOfClients, Item, Reign, in_reign, item}
 use Rattle.quorum_timed.specs.Timed.{Owed, owed_by}
-use Rattle.std.proofs.Common.{Bool, List, Some, [], ap, arith, eqb, false, inl, inr, map, refl, subst, suc, sym, true, zero, ℕ, ◌&&◌, ◌++◌, ◌+◌, ◌∙◌, ◌∷◌, ◌≡◌, ◌≤◌, ◌⊎◌}
+use Rattle.std.proofs.Common.{Bool, List, Some, [], ap, arith, cond, eqb, false, filter, inl, inr, map, refl, slice_get, subst, suc, sym, true, zero, ℕ, ◌&&◌, ◌++◌, ◌+◌, ◌∙◌, ◌∷◌, ◌≡◌, ◌≤◌, ◌⊎◌}
 use Rattle.std.proofs.lemmas.Bool.{and_parts, cases_eq, eq-eqb, eqb-true}
-use Rattle.std.specs.List.{AllByRecursion, enumerate_from}
-use Rattle.std.specs.Prelude.{cond, filter, slice_get}
 
 pub more_messages : (messages es : List Envelope) (k : ℕ) (m : Envelope) → message_at messages k ≡ Some m → message_at (messages ++ es) k ≡ Some m
 more_messages messages es zero m there = absurd cc

@@ -1,55 +1,32 @@
 -- What comes to a member of a quorum that is led.
-use Rattle.mon_msg.specs.Protocol.Course.{Course}
-use Rattle.mon_msg.specs.Protocol.Leading.{is_alone}
-use Rattle.mon_msg.specs.Protocol.Phases.{is_member, same_phase}
-use Rattle.mon_msg.specs.Protocol.Readings.{readings_of, shared_entries, epoch_of}
-use Rattle.mon_msg.specs.Protocol.State.{State, quorum_of}
-use Rattle.mon_msg.specs.Protocol.Table.{react}
-use Rattle.mon_msg.specs.Protocol.Timers.{end_of, index_of}
+use Rattle.law_names.proofs.Runs.{Arrival, Arrives, Client, Deliver, Envelope, Event, Monitors, Plain, Ring, World, arrival, message_at, messages_of, replies_of, state_at}
+use Rattle.law_names.proofs.Table.{AllByRecursion, Change, Clients, Course, Input, Origin, Phase, Reply, Request, Session, State, Store, Timer, end_of, epoch_of, has, index_of, is_alone, is_member, quorum_of, react, readings_of, same_phase, shared_entries}
 use Rattle.mon_msg.specs.declared.input.Input.TheVariants as input
-use Rattle.mon_msg.specs.declared.input.Input.{Input}
-use Rattle.mon_types.specs.Ranks.{has}
-use Rattle.mon_msg.specs.Protocol.Changes.{Change}
 use Rattle.mon_wire.specs.declared.phase.Phase.TheVariants as phase
-use Rattle.mon_wire.specs.declared.phase.Phase.{Phase}
 use Rattle.mon_wire.specs.declared.phase.Timer.TheVariants as timer
-use Rattle.mon_wire.specs.declared.phase.Timer.{Timer}
-use Rattle.mon_wire.specs.declared.request.Request.{Request}
-use Rattle.mon_wire.specs.declared.request.Session.{Session}
 use Rattle.quorum_model.proofs.Members.{member_of}
-use Rattle.mon_msg.specs.declared.plan.Origin.{Origin}
-use Rattle.mon_tx.specs.Map.{Store}
-use Rattle.quorum_model.specs.Clients.{messages_of, replies_of}
-use Rattle.quorum_model.specs.Meets.{arrival, message_at, state_at}
-use Rattle.quorum_model.specs.Monitors.{Monitors}
-use Rattle.quorum_model.specs.World.{Arrives, Client, Deliver, Envelope, Event, Plain, Ring, World}
 use Rattle.quorum_stays.proofs.Bounds.{by_renewal, inside, leading, waits}
 use Rattle.quorum_stays.proofs.Onward.{here_left, list_left, one_state, other_left, unpack}
-use Rattle.quorum_stays.proofs.Timers.{same_kind_or}
-use Rattle.quorum_stays.proofs.Outcomes.{AsksAs, BringsNone, BringsRoute, NobodyAsks, Begins, Fate, Outcome, client_row, messages_for_clients, propose_row, aside_row}
+use Rattle.quorum_stays.proofs.Outcomes.{AsksAs, Begins, BringsNone, BringsRoute, Fate, NobodyAsks, Outcome, aside_row, client_row, messages_for_clients, propose_row}
 use Rattle.quorum_stays.proofs.Peering.{PeonIn, replaced_other, replaced_peon}
 use Rattle.quorum_stays.proofs.Quiets.{stays_quiet}
 use Rattle.quorum_stays.proofs.Sending.{not_alone}
 use Rattle.quorum_stays.proofs.Serving.{Goes, Marking, Served, Turn, aside, messages_carry}
 use Rattle.quorum_stays.proofs.Sharing.{HandsOnNoneOf, Share, Shares, elsewhere}
-use Rattle.mon_wire.specs.declared.reply.Reply.{Reply}
-use Rattle.quorum_model.specs.Meets.{Arrival}
 use Rattle.quorum_stays.proofs.Stepping.{Did, brought, did, reacted, reacts, replied}
 use Rattle.quorum_stays.proofs.Taking.{taken_by, taken_from, taken_here}
+use Rattle.quorum_stays.proofs.Timers.{same_kind_or}
 use Rattle.quorum_stays.proofs.Turns.{Ties, client_ties, hands_on_none, hands_on_own, marked, message_ties, shared, timer_ties, turned}
 use Rattle.quorum_stays.specs.Reading.{ClocksGoOn}
 use Rattle.quorum_stays.specs.Serving.{CarriesAnswer, IsForward, Writes}
-use Rattle.std.specs.List.{AllByRecursion}
+use Rattle.quorum_stays.specs.Steady.{AreApart, Begun, Carries, FollowsSince, IsAside, IsItem, Item, Leads, Reign, Round, Steady, leased, said, to_leader, to_peon}
 use Rattle.quorum_timed.proofs.Armed.{Timers}
-use Rattle.mon_msg.specs.declared.clients.Clients.{Clients}
-use Rattle.quorum_stays.specs.Steady.{AreApart, Begun, Carries, FollowsSince, IsItem, Item, Leads, Reign, Round, Steady, leased, said, to_leader, to_peon, IsAside}
 use Rattle.quorum_timed.specs.Begins.{IsQuick}
 use Rattle.quorum_timed.specs.Calls.{Calls}
 use Rattle.quorum_timed.specs.Timed.{Again, Arriving, Asking, Comes, Firing, MayBe, Owed, Pace, Timed, Went, at_time, without_first}
 use Rattle.quorum_walk.proofs.Walk.{Then}
-use Rattle.std.proofs.Common.{Bool, List, None, Ok, Option, Some, [], ap, arith, drop, false, inl, inr, ltb, refl, subst, sym, take, true, ℕ, ◌+◌, ◌++◌, ◌<◌, ◌∙◌, ◌∷◌, ◌≡◌, ◌≤◌, ◌⊎◌}
+use Rattle.std.proofs.Common.{Bool, IsSomeAnd, List, None, Ok, Option, Some, [], ap, arith, drop, false, inl, inr, ltb, option_map, refl, subst, sym, take, true, ℕ, ◌++◌, ◌+◌, ◌<◌, ◌∙◌, ◌∷◌, ◌≡◌, ◌≤◌, ◌⊎◌}
 use Rattle.std.proofs.lemmas.Bool.{cases_eq, false≢true}
-use Rattle.std.specs.Prelude.{IsSomeAnd, option_map}
 
 -- a candidate is electing
 not_electing : (p : Phase) → same_phase p phase.Electing ≡ false → p ≡ phase.Electing → ⊥

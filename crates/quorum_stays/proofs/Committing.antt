@@ -1,28 +1,12 @@
 -- A quorum stays led when its leader commits a value that all members accepted.
-use Rattle.mon_msg.specs.Protocol.Changes.{Last, Learn}
-use Rattle.mon_msg.specs.Protocol.Course.{Course}
-use Rattle.mon_msg.specs.Protocol.Played.{played}
-use Rattle.mon_msg.specs.Protocol.Readings.{Readings, epoch_of, promise_of, readings_of, shared_entries}
-use Rattle.mon_msg.specs.Protocol.Sending.{answer_to, answers_to, members, message_to}
-use Rattle.mon_msg.specs.Protocol.Sets.{are_within, is_empty}
-use Rattle.mon_msg.specs.Protocol.State.{State}
-use Rattle.mon_msg.specs.Protocol.Timers.{disarmed, only_ping}
+use Rattle.law_names.proofs.Runs.{Arrives, Deliver, Envelope, Monitors, arrival, envelope_of, messages_of, replies_of}
+use Rattle.law_names.proofs.Table.{AllByRecursion, Course, Last, Learn, Me, Message, Origin, Readings, Reply, Sent, State, Store, answer_to, answers_to, are_within, disarmed, epoch_of, has, is_empty, members, message_to, only_ping, played, promise_of, readings_of, shared_entries, with_rank}
 use Rattle.mon_msg.specs.declared.input.Input.TheVariants as input
-use Rattle.mon_msg.specs.declared.plan.Origin.{Origin}
-use Rattle.mon_msg.specs.declared.plan.Sent.{Sent}
-use Rattle.mon_msg.specs.declared.view.Me.{Me}
-use Rattle.mon_tx.specs.Map.{Store}
-use Rattle.mon_types.specs.Ranks.{has, with_rank}
 use Rattle.mon_wire.specs.declared.body.Body.TheVariants as body
-use Rattle.mon_wire.specs.declared.message.Message.{Message}
 use Rattle.mon_wire.specs.declared.phase.Phase.TheVariants as phase
 use Rattle.mon_wire.specs.declared.phase.Timer.TheVariants as timer
 use Rattle.mon_wire.specs.declared.reply.Reply.TheVariants as reply
-use Rattle.mon_wire.specs.declared.reply.Reply.{Reply}
 use Rattle.quorum_model.proofs.Members.{member_of}
-use Rattle.quorum_model.specs.Clients.{envelope_of, messages_of, replies_of}
-use Rattle.quorum_model.specs.Monitors.{Monitors}
-use Rattle.quorum_model.specs.World.{Arrives, Deliver, Envelope}
 use Rattle.quorum_stays.proofs.Bounds.{few, leading, until}
 use Rattle.quorum_stays.proofs.Carrying.{Gives, gives_append, gives_none}
 use Rattle.quorum_stays.proofs.Giving.{each_carries, each_hands_on_none, gives_apart, gives_each, gives_no_leader, to_all}
@@ -34,7 +18,6 @@ use Rattle.quorum_stays.proofs.Rows.{commits, last_accept_row}
 use Rattle.quorum_stays.proofs.Sending.{each}
 use Rattle.quorum_stays.proofs.Serving.{Answers, Committed, Goes, answered, messages_carry, messages_hand_on_none}
 use Rattle.quorum_stays.proofs.Sharing.{elsewhere, none_of}
-use Rattle.quorum_model.specs.Meets.{arrival}
 use Rattle.quorum_stays.proofs.States.{bare_committing, extends}
 use Rattle.quorum_stays.proofs.Stepping.{Did, did, replied}
 use Rattle.quorum_stays.proofs.Stores.{learned_epoch}
@@ -43,16 +26,14 @@ use Rattle.quorum_stays.proofs.Timers.{all_extended, armed_if_any, extended_time
 use Rattle.quorum_stays.proofs.Turning.{other_state, other_store, same_carried}
 use Rattle.quorum_stays.specs.Reading.{ClocksGoOn}
 use Rattle.quorum_stays.specs.Serving.{CarriesAnswer, IsAnswer, IsForward, is_done}
-use Rattle.quorum_stays.specs.Steady.{AreApart, Begun, Carries, FollowsSince, HasLease, IsItem, IsOfClients, Item, Keeps, LeadsSince, Noted, Proposes, Reign, Round, Steady, item, in_reign, leased, said, to_leader, to_peon}
+use Rattle.quorum_stays.specs.Steady.{AreApart, Begun, Carries, FollowsSince, HasLease, IsItem, IsOfClients, Item, Keeps, LeadsSince, Noted, Proposes, Reign, Round, Steady, in_reign, item, leased, said, to_leader, to_peon}
 use Rattle.quorum_timed.specs.Begins.{IsQuick}
 use Rattle.quorum_timed.specs.Timed.{MayBe, Owed, Pace, Timed, Went, at_time, without_first}
 use Rattle.quorum_walk.proofs.Lists.{all_append}
 use Rattle.quorum_walk.proofs.Ranks.{has_with_is, within_at}
-use Rattle.std.proofs.Common.{Bool, List, None, Option, Some, [], ap, arith, drop, false, inl, inr, length, ltb, map, not, refl, subst, suc, sym, take, true, zero, ℕ, ◌*◌, ◌+◌, ◌++◌, ◌^◌, ◌∙◌, ◌∷◌, ◌≡◌, ◌≤◌, ◌⊎◌}
+use Rattle.std.proofs.Common.{Bool, IsSomeAnd, List, None, Option, Some, [], ap, arith, drop, false, inl, inr, length, ltb, map, not, refl, subst, suc, sym, take, true, zero, ℕ, ◌*◌, ◌++◌, ◌+◌, ◌^◌, ◌∙◌, ◌∷◌, ◌≡◌, ◌≤◌, ◌⊎◌}
 use Rattle.std.proofs.lemmas.Bool.{cases_eq}
 use Rattle.std.proofs.lemmas.List.Elements.{filter_map-append}
-use Rattle.std.specs.List.{AllByRecursion}
-use Rattle.std.specs.Prelude.{IsSomeAnd}
 
 pub maybe_answer : (me : Me) (e : ℕ) (o : Option Origin) (r : Reply) → AllByRecursion ForAClient (answers_to me e o r)
 maybe_answer me e None r = tt

@@ -1,22 +1,11 @@
 -- What members sent one another about clients' commands stays known.
-use Rattle.mon_msg.specs.Protocol.Phases.{is_leading}
-use Rattle.mon_msg.specs.Protocol.State.{State}
-use Rattle.mon_msg.specs.Protocol.Hearing.{is_heard}
-use Rattle.mon_msg.specs.Protocol.Readings.{readings_of}
+use Rattle.law_names.proofs.Runs.{Arrival, Arrives, Deliver, Envelope, Event, Monitors, message_at}
+use Rattle.law_names.proofs.Table.{AllByRecursion, Body, Command, Me, Request, Session, State, has, is_heard, is_leading, readings_of}
 use Rattle.mon_msg.specs.declared.input.Input.TheVariants as input
 use Rattle.mon_msg.specs.declared.plan.Origin.TheVariants as origin
-use Rattle.mon_msg.specs.declared.view.Me.{Me}
-use Rattle.mon_types.specs.Ranks.{has}
 use Rattle.mon_wire.specs.declared.body.Body.TheVariants as body
-use Rattle.mon_wire.specs.declared.body.Body.{Body}
 use Rattle.mon_wire.specs.declared.request.Request.TheVariants as request
-use Rattle.mon_wire.specs.declared.request.Request.{Request}
-use Rattle.mon_wire.specs.declared.request.Session.{Session}
-use Rattle.mon_bytes.specs.declared.command.Command.{Command}
 use Rattle.quorum_model.proofs.Members.{member_of}
-use Rattle.quorum_model.specs.Meets.{Arrival, message_at}
-use Rattle.quorum_model.specs.Monitors.{Monitors}
-use Rattle.quorum_model.specs.World.{Arrives, Deliver, Envelope, Event}
 use Rattle.quorum_stays.proofs.Coming.{no_call}
 use Rattle.quorum_stays.proofs.Onward.{pack, unpack}
 use Rattle.quorum_stays.proofs.Riding.{all_new, all_on, all_still}
@@ -29,11 +18,8 @@ use Rattle.quorum_stays.specs.Serving.{CarriesAnswer, Counts, IsBelow, IsForward
 use Rattle.quorum_stays.specs.Steady.{Reign, Round, Steady, in_reign}
 use Rattle.quorum_timed.specs.Timed.{Again, Arriving, Asking, Comes, Firing, Owed, Pace, Timed, at_time}
 use Rattle.quorum_walk.proofs.Lists.{all_get}
-use Rattle.std.proofs.Common.{Bool, IfSome, List, None, Option, Some, [], ap, arith, eqb, false, inl, inr, refl, slice_index_or, subst, suc, sym, true, zero, ℕ, ◌+◌, ◌<◌, ◌∙◌, ◌∷◌, ◌≡◌, ◌≤◌, ◌⊎◌}
+use Rattle.std.proofs.Common.{Bool, IfSome, IsSomeAnd, List, None, Option, Some, [], ap, arith, cond, eqb, false, inl, inr, option_map, refl, slice_get, slice_index_or, subst, suc, sym, true, zero, ℕ, ◌+◌, ◌<◌, ◌∙◌, ◌∷◌, ◌≡◌, ◌≤◌, ◌⊎◌}
 use Rattle.std.proofs.lemmas.Bool.{eqb-true}
-use Rattle.std.specs.List.{AllByRecursion}
-use Rattle.std.specs.Option.{option_map}
-use Rattle.std.specs.Prelude.{IsSomeAnd, cond, slice_get}
 
 -- ---- bodies
 

@@ -1,43 +1,19 @@
 -- The acts of a leader that lost a monitor of its quorum: it awaits that monitor's answer, or it doesn't serve with it any more.
+use Rattle.law_names.proofs.Table.{Course, Epoch, Found, Leader, LeaderStage, Me, Op, Origin, Phase, State, Timer, Waiting, adopt, armed, be_active, begin, begin_alone, begin_found, begin_with, bootstrap, change, collect, collect_with, commit, disarmed, elect, end_of, epoch_of, extend, has, has_queue, in_next_epoch, in_odd_epoch, index_of, is_alone, is_armed, is_empty, is_even, is_one_of, learn, length_of, members, next_number, only, only_ping, or_zero, promise_of, reign, same_phase, settle, win, with_rank}
 use Rattle.mon_lease.specs.Lease.{extended}
 use Rattle.mon_lease.specs.declared.lease.TheConstants.{LENGTH}
-use Rattle.mon_msg.specs.Protocol.Changes.{Epoch}
-use Rattle.mon_msg.specs.Protocol.Collecting.{begin_found, collect, collect_with, reign, settle}
-use Rattle.mon_msg.specs.Protocol.Course.{Course, change}
-use Rattle.mon_msg.specs.Protocol.Entering.{adopt, bootstrap, elect, in_next_epoch, in_odd_epoch, is_even, win}
-use Rattle.mon_msg.specs.Protocol.Leader.{is_one_of}
-use Rattle.mon_msg.specs.Protocol.Leading.{be_active, begin, begin_alone, begin_with, commit, extend, has_queue, is_alone}
-use Rattle.mon_msg.specs.Protocol.Learning.{learn}
-use Rattle.mon_msg.specs.Protocol.Phases.{same_phase}
-use Rattle.mon_msg.specs.Protocol.Readings.{epoch_of, or_zero, promise_of}
-use Rattle.mon_msg.specs.Protocol.Sending.{members}
-use Rattle.mon_msg.specs.Protocol.Sets.{is_empty, only}
-use Rattle.mon_msg.specs.Protocol.State.{State}
-use Rattle.mon_msg.specs.Protocol.Timers.{armed, disarmed, end_of, index_of, is_armed, length_of, only_ping}
-use Rattle.mon_msg.specs.declared.clients.Waiting.{Waiting}
-use Rattle.mon_msg.specs.declared.paxos.Found.{Found}
-use Rattle.mon_msg.specs.declared.paxos.Leader.{Leader}
 use Rattle.mon_msg.specs.declared.paxos.LeaderStage.TheVariants as stage
-use Rattle.mon_msg.specs.declared.paxos.LeaderStage.{LeaderStage}
-use Rattle.mon_msg.specs.declared.plan.Origin.{Origin}
-use Rattle.mon_msg.specs.declared.view.Me.{Me}
-use Rattle.mon_tx.specs.declared.op.Op.{Op}
-use Rattle.mon_types.specs.Proposal.{next_number}
-use Rattle.mon_types.specs.Ranks.{has, with_rank}
 use Rattle.mon_types.specs.declared.names.Which.TheVariants as which
 use Rattle.mon_wire.specs.declared.phase.Phase.TheVariants as phase
-use Rattle.mon_wire.specs.declared.phase.Phase.{Phase}
 use Rattle.mon_wire.specs.declared.phase.Timer.TheVariants as timer
-use Rattle.mon_wire.specs.declared.phase.Timer.{Timer}
 use Rattle.quorum_stays.proofs.Timers.{armed_size, disarmed_size, extended_timers, maybe_armed, still_ends, still_on}
 use Rattle.quorum_stays.specs.SteppingDown.{serving}
 use Rattle.quorum_timed.proofs.Acts.{learn_stays}
 use Rattle.quorum_timed.proofs.Armed.{Timers, at_place}
 use Rattle.quorum_walk.proofs.Ranks.{alone_within, has_only_is, has_with_is, within_at}
 use Rattle.quorum_walk.proofs.Walk.{Then, and_then, by_test, done, where_fits}
-use Rattle.std.proofs.Common.{Bool, List, None, Ok, Option, Some, [], ap, arith, cond, eqb, false, inl, inr, length, ltb, max, min, not, refl, subst, suc, sym, true, ℕ, ◌+◌, ◌<◌, ◌∙◌, ◌∷◌, ◌≡◌, ◌≤◌, ◌⊎◌, ◌^◌}
+use Rattle.std.proofs.Common.{Bool, List, None, Ok, Option, Some, [], ap, arith, cond, eqb, false, inl, inr, is_some, length, ltb, max, min, not, refl, subst, suc, sym, true, ℕ, ◌+◌, ◌<◌, ◌^◌, ◌∙◌, ◌∷◌, ◌≡◌, ◌≤◌, ◌⊎◌}
 use Rattle.std.proofs.lemmas.Bool.{cond_both, eqb-false, false≢true, not-true}
-use Rattle.std.specs.Prelude.{is_some}
 
 -- ---- what it awaits, and until when
 

@@ -1,56 +1,11 @@
 -- The rows of a leader that lost a monitor of its quorum: it still awaits that monitor's answer, or doesn't serve with it any more.
-use Rattle.election_rules.specs.declared.scores.Scores.{Scores}
+use Rattle.law_names.proofs.Table.{Command, CommandRefused, Cookie, Course, Entry, Epoch, Leader, MOST_WAITING, Me, Op, Origin, Phase, Place, Readings, Reply, Request, Scores, Session, Told, Waiting as Waiting_, adopt, all_accepted, are_within, ask, asked_of, at_leader, at_peon, awaits_cookie, begin_made, bootstrap, change, clients_are, commit_any, disarm, disarmed, elect, election_ends, elector_is, end_of, epoch_of, extend, grant, has, has_queue, hear_accept, hear_ack, hear_begin, hear_chunk, hear_client, hear_collect, hear_commit, hear_cookie, hear_forward, hear_get_chunk, hear_get_cookie_full, hear_get_cookie_recent, hear_last, hear_last_chunk, hear_lease, hear_lease_ack, hear_no_cookie, hear_ping, hear_ping_reply, hear_probe, hear_probe_reply, hear_propose, hear_route, hear_victory, index_of, is_allowed, is_cookie, is_even, is_leading, is_majority, is_member, is_one_of, is_ours, is_peon, is_too_long, is_whole, leader_is, lease_of, may_defer, may_propose, merge, news, no_cookie, of_leader, of_member, of_provider, pending, ping, promise_of, propose, propose_due, propose_first, propose_next, quorum_of, read, readable, renew, replay_step, same_cookie, same_flag, same_phase, same_place, service_last, service_of, shown, since, stands_before, table_or, takes_chunks, value, votes, weigh, with_rank}
 use Rattle.mon_bytes.specs.declared.command.Command.TheVariants as command
-use Rattle.mon_bytes.specs.declared.command.Command.{Command}
-use Rattle.mon_bytes.specs.declared.command.CommandRefused.{CommandRefused}
-use Rattle.mon_bytes.specs.declared.entry.Entry.{Entry}
-use Rattle.mon_lease.specs.Lease.{readable}
-use Rattle.mon_msg.specs.Protocol.Changes.{Epoch}
-use Rattle.mon_msg.specs.Protocol.Chunks.{hear_chunk, hear_last_chunk, is_ours, takes_chunks}
-use Rattle.mon_msg.specs.Protocol.Commands.{ask, at_leader, at_peon, hear_forward, hear_route, is_too_long, may_propose, propose_due}
-use Rattle.mon_msg.specs.Protocol.Copying.{awaits_cookie, hear_cookie, hear_no_cookie, of_provider, same_flag}
-use Rattle.mon_msg.specs.Protocol.Course.{Course, change, clients_are, disarm, elector_is, leader_is}
-use Rattle.mon_msg.specs.Protocol.Elections.{election_ends, hear_ack, hear_propose, hear_victory, is_allowed, is_whole, may_defer, merge, stands_before, table_or, weigh}
-use Rattle.mon_msg.specs.Protocol.Entering.{adopt, bootstrap, elect, is_even}
-use Rattle.mon_msg.specs.Protocol.Hearing.{hear_client}
-use Rattle.mon_msg.specs.Protocol.Leader.{all_accepted, commit_any, hear_accept, hear_last, hear_lease_ack, is_one_of, of_member, renew}
-use Rattle.mon_msg.specs.Protocol.Leading.{extend, has_queue}
-use Rattle.mon_msg.specs.Protocol.Learning.{news}
-use Rattle.mon_msg.specs.Protocol.Peon.{hear_begin, hear_collect, hear_commit, hear_lease, of_leader}
-use Rattle.mon_msg.specs.Protocol.Phases.{is_leading, is_member, is_peon, same_phase, votes}
-use Rattle.mon_msg.specs.Protocol.Pings.{hear_ping, hear_ping_reply, ping}
-use Rattle.mon_msg.specs.Protocol.Places.{is_cookie, no_cookie, same_cookie, same_place}
-use Rattle.mon_msg.specs.Protocol.Probing.{hear_probe, hear_probe_reply}
-use Rattle.mon_msg.specs.Protocol.Proposing.{asked_of, begin_made, propose, propose_first, propose_next}
-use Rattle.mon_msg.specs.Protocol.Providing.{grant, hear_get_chunk, hear_get_cookie_full, hear_get_cookie_recent}
-use Rattle.mon_msg.specs.Protocol.Readings.{Readings, epoch_of, promise_of}
-use Rattle.mon_msg.specs.Protocol.Reads.{read, shown, since}
-use Rattle.mon_msg.specs.Protocol.Records.{pending}
-use Rattle.mon_msg.specs.Protocol.Replay.{replay_step}
-use Rattle.mon_msg.specs.Protocol.Services.{service_last}
-use Rattle.mon_msg.specs.Protocol.Sets.{are_within}
-use Rattle.mon_msg.specs.Protocol.State.{lease_of, quorum_of}
-use Rattle.mon_msg.specs.Protocol.Timers.{disarmed, end_of, index_of}
-use Rattle.mon_msg.specs.Protocol.Value.{service_of, value}
-use Rattle.mon_msg.specs.declared.clients.Waiting.{Waiting as Waiting_}
-use Rattle.mon_msg.specs.declared.limits.TheConstants.{MOST_WAITING}
-use Rattle.mon_msg.specs.declared.paxos.Leader.{Leader}
 use Rattle.mon_msg.specs.declared.plan.Origin.TheVariants as origin
-use Rattle.mon_msg.specs.declared.plan.Origin.{Origin}
-use Rattle.mon_msg.specs.declared.view.Me.{Me}
-use Rattle.mon_tx.specs.declared.op.Op.{Op}
-use Rattle.mon_types.specs.Ranks.{has, is_majority, with_rank}
 use Rattle.mon_types.specs.declared.names.Which.TheVariants as which
-use Rattle.mon_wire.specs.declared.parts.Cookie.{Cookie}
-use Rattle.mon_wire.specs.declared.parts.Place.{Place}
-use Rattle.mon_wire.specs.declared.parts.Told.{Told}
 use Rattle.mon_wire.specs.declared.phase.Phase.TheVariants as phase
-use Rattle.mon_wire.specs.declared.phase.Phase.{Phase}
 use Rattle.mon_wire.specs.declared.phase.Timer.TheVariants as timer
-use Rattle.mon_wire.specs.declared.reply.Reply.{Reply}
 use Rattle.mon_wire.specs.declared.request.Request.TheVariants as request
-use Rattle.mon_wire.specs.declared.request.Request.{Request}
-use Rattle.mon_wire.specs.declared.request.Session.{Session}
 use Rattle.quorum_stays.proofs.DownActs.{Awaits, MayBegin, Serves, Stays, Terms, V, W, accepting, acknowledging, active_is, adopt_stays, arm_if_serves, arm_serves, begin_serves, bootstrap_stays, commit_serves, disarm_serves, elect_stays, extend_serves, keep, of_serving, other, proposing, renewing, win_stays, with_lacks}
 use Rattle.quorum_stays.proofs.Timers.{disarmed_size, maybe_armed, no_end, off, still_on}
 use Rattle.quorum_stays.specs.Reading.{Reads}
@@ -58,9 +13,8 @@ use Rattle.quorum_timed.proofs.Acts.{learn_stays}
 use Rattle.quorum_timed.proofs.Armed.{Timers}
 use Rattle.quorum_walk.proofs.Ranks.{within_at}
 use Rattle.quorum_walk.proofs.Walk.{Then, and_three, by_test, done, where_fits}
-use Rattle.std.proofs.Common.{Bool, Err, List, None, Ok, Option, Result, Some, [], ap, arith, cond, eqb, false, inl, inr, leb, length, ltb, not, refl, suc, sym, true, ℕ, ◌&&◌, ◌+◌, ◌<◌, ◌∙◌, ◌∷◌, ◌≡◌, ◌≤◌, ◌⊎◌, ◌||◌}
+use Rattle.std.proofs.Common.{Bool, Err, List, None, Ok, Option, Result, Some, [], ap, arith, cond, eqb, false, inl, inr, is_some, leb, length, ltb, not, refl, slice_index_or, slice_set, suc, sym, true, ℕ, ◌&&◌, ◌+◌, ◌<◌, ◌||◌, ◌∙◌, ◌∷◌, ◌≡◌, ◌≤◌, ◌⊎◌}
 use Rattle.std.proofs.lemmas.Bool.{and_parts, cond_both, eqb-false, false≢true, not-false, not-true}
-use Rattle.std.specs.Prelude.{is_some, slice_index_or, slice_set}
 
 -- these acknowledged the lease
 abbrev acked : List Bool → Leader → Leader

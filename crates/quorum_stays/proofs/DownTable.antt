@@ -1,28 +1,16 @@
 -- Each event of a leader that lost a monitor of its quorum leaves it awaiting that monitor's answer, or not serving with it.
-use Rattle.mon_bytes.specs.declared.entry.Entry.{Entry}
-use Rattle.mon_msg.specs.Protocol.Course.{Course, disarm}
-use Rattle.mon_msg.specs.Protocol.Hearing.{hear, is_heard}
-use Rattle.mon_msg.specs.Protocol.Phases.{same_phase}
-use Rattle.mon_msg.specs.Protocol.Readings.{Readings}
-use Rattle.mon_msg.specs.Protocol.State.{State}
-use Rattle.mon_msg.specs.Protocol.Table.{at_rest, react, running, timer_comes}
-use Rattle.mon_msg.specs.Protocol.Timers.{end_of}
+use Rattle.law_names.proofs.Table.{Body, Course, Entry, Input, Me, Readings, State, Timer, at_rest, disarm, end_of, hear, is_heard, react, running, same_phase, timer_comes}
 use Rattle.mon_msg.specs.declared.input.Input.TheVariants as input
-use Rattle.mon_msg.specs.declared.input.Input.{Input}
-use Rattle.mon_msg.specs.declared.view.Me.{Me}
 use Rattle.mon_wire.specs.declared.body.Body.TheVariants as body
-use Rattle.mon_wire.specs.declared.body.Body.{Body}
 use Rattle.mon_wire.specs.declared.phase.Phase.TheVariants as phase
 use Rattle.mon_wire.specs.declared.phase.Timer.TheVariants as timer
-use Rattle.mon_wire.specs.declared.phase.Timer.{Timer}
 use Rattle.quorum_stays.proofs.DownActs.{MayBegin, Terms, V, W, bootstrap_stays, disarm_serves, keep, of_serving, other}
 use Rattle.quorum_stays.proofs.DownRows.{election_ends_stays, get_chunk_stays, get_cookie_full_stays, get_cookie_recent_stays, hear_accept_stays, hear_ack_stays, hear_begin_stays, hear_chunk_stays, hear_client_stays, hear_collect_stays, hear_commit_stays, hear_cookie_stays, hear_forward_stays, hear_last_chunk_stays, hear_last_stays, hear_lease_ack_stays, hear_lease_stays, hear_no_cookie_stays, hear_ping_reply_stays, hear_ping_stays, hear_probe_reply_stays, hear_probe_stays, hear_propose_stays, hear_route_stays, hear_victory_stays, ping_stays, propose_due_stays, renew_stays, replay_step_stays}
 use Rattle.quorum_stays.specs.Reading.{Reads}
 use Rattle.quorum_stays.specs.Serving.{IsForward}
 use Rattle.quorum_walk.proofs.Walk.{Then, by_test, done}
-use Rattle.std.proofs.Common.{List, false, ltb, refl, sym, true, ℕ, ◌<◌, ◌∙◌, ◌≡◌, ◌⊎◌}
+use Rattle.std.proofs.Common.{List, false, is_some, ltb, refl, sym, true, ℕ, ◌<◌, ◌∙◌, ◌≡◌, ◌⊎◌}
 use Rattle.std.proofs.lemmas.Bool.{false≢true}
-use Rattle.std.specs.Prelude.{is_some}
 
 -- The input isn't of the lost monitor, and it brings a command only if a value may be begun.
 abbrev pub Fits : Terms → Input → Type 0

@@ -1,31 +1,13 @@
 -- A quorum stays led when its leader sends something to each peon: a new lease, a value that it begins, or a version.
+use Rattle.law_names.proofs.Runs.{Arrival, Arrives, Envelope, Event, Monitors, Plain, Ring, arrival, messages_of}
+use Rattle.law_names.proofs.Table.{AllByRecursion, Body, Clients, Course, Me, Op, Origin, Readings, State, Vote, Waiting, armed, at_rest, begin_with, disarmed, end_of, epoch_of, has, is_empty, members, message_to, only, only_ping, play, promise_of, readings_of, shared_entries}
 use Rattle.mon_lease.specs.Lease as lease
-use Rattle.mon_msg.specs.Protocol.Changes.{Vote}
-use Rattle.mon_msg.specs.Protocol.Course.{Course}
-use Rattle.mon_msg.specs.Protocol.Leading.{begin_with}
-use Rattle.mon_msg.specs.Protocol.Played.{play}
-use Rattle.mon_msg.specs.Protocol.Readings.{Readings, epoch_of, promise_of, readings_of, shared_entries}
-use Rattle.mon_msg.specs.Protocol.Sending.{members, message_to}
-use Rattle.mon_msg.specs.Protocol.Sets.{is_empty, only}
-use Rattle.mon_msg.specs.Protocol.State.{State}
-use Rattle.mon_msg.specs.Protocol.Table.{at_rest}
-use Rattle.mon_msg.specs.Protocol.Timers.{armed, disarmed, end_of, only_ping}
-use Rattle.mon_msg.specs.declared.clients.Clients.{Clients}
 use Rattle.mon_msg.specs.declared.input.Input.TheVariants as input
 use Rattle.mon_msg.specs.declared.paxos.LeaderStage.TheVariants as stage
-use Rattle.mon_msg.specs.declared.clients.Waiting.{Waiting}
-use Rattle.mon_msg.specs.declared.plan.Origin.{Origin}
-use Rattle.mon_msg.specs.declared.view.Me.{Me}
-use Rattle.mon_tx.specs.declared.op.Op.{Op}
-use Rattle.mon_types.specs.Ranks.{has}
 use Rattle.mon_wire.specs.declared.body.Body.TheVariants as body
-use Rattle.mon_wire.specs.declared.body.Body.{Body}
 use Rattle.mon_wire.specs.declared.phase.Phase.TheVariants as phase
 use Rattle.mon_wire.specs.declared.phase.Timer.TheVariants as timer
 use Rattle.quorum_model.proofs.Members.{member_of}
-use Rattle.quorum_model.specs.Clients.{messages_of}
-use Rattle.quorum_model.specs.Monitors.{Monitors}
-use Rattle.quorum_model.specs.World.{Arrives, Envelope, Event, Plain, Ring}
 use Rattle.quorum_stays.proofs.Bounds.{by_ack, by_lease, by_renewal, few, inside}
 use Rattle.quorum_stays.proofs.Carrying.{Gives, gives_other}
 use Rattle.quorum_stays.proofs.Onward.{lands, pack, unpack}
@@ -34,7 +16,6 @@ use Rattle.quorum_stays.proofs.Rows.{renew_row}
 use Rattle.quorum_stays.proofs.Sending.{each, each_from, to_member, to_none}
 use Rattle.quorum_stays.proofs.Serving.{Began, Goes, Marking, Renewed, Turn}
 use Rattle.quorum_stays.proofs.Sharing.{Shares, elsewhere, none_of}
-use Rattle.quorum_model.specs.Meets.{Arrival, arrival}
 use Rattle.quorum_stays.proofs.States.{bare_renewing, begun, extends}
 use Rattle.quorum_stays.proofs.Stepping.{Did, did}
 use Rattle.quorum_stays.proofs.Taking.{taken_by, taken_nowhere}
@@ -47,10 +28,8 @@ use Rattle.quorum_timed.proofs.Armed.{Timers}
 use Rattle.quorum_timed.specs.Begins.{IsQuick}
 use Rattle.quorum_timed.specs.Timed.{MayBe, Pace, Timed, Went, at_time}
 use Rattle.quorum_walk.proofs.Ranks.{has_only_is}
-use Rattle.std.proofs.Common.{Bool, List, None, Option, Some, [], ap, arith, drop, false, inl, inr, ltb, map, not, refl, subst, suc, sym, take, true, zero, ℕ, ◌*◌, ◌+◌, ◌++◌, ◌<◌, ◌^◌, ◌∙◌, ◌∷◌, ◌≡◌, ◌≤◌, ◌⊎◌, length}
+use Rattle.std.proofs.Common.{Bool, IsSomeAnd, List, None, Option, Some, [], ap, arith, drop, false, inl, inr, is_some, length, ltb, map, not, refl, subst, suc, sym, take, true, zero, ℕ, ◌*◌, ◌++◌, ◌+◌, ◌<◌, ◌^◌, ◌∙◌, ◌∷◌, ◌≡◌, ◌≤◌, ◌⊎◌}
 use Rattle.std.proofs.lemmas.Bool.{cases_eq}
-use Rattle.std.specs.List.{AllByRecursion}
-use Rattle.std.specs.Prelude.{IsSomeAnd, is_some}
 
 -- ---- a value in progress more or less
 

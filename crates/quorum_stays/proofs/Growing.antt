@@ -1,18 +1,11 @@
 -- What clients were answered stays answered.
-use Rattle.mon_msg.specs.Protocol.Reaction.{Reaction}
-use Rattle.mon_kv.specs.Readers.{most_size, size_of}
-use Rattle.mon_tx.specs.Map.{apply}
-use Rattle.mon_wire.specs.declared.request.Session.{Session}
-use Rattle.quorum_model.specs.Happens.{Full, Stop, after_meeting, happens, in_world, moved, unmoved}
-use Rattle.quorum_model.specs.Meets.{Down, Meeting, NoMessage, Reacts, meets}
-use Rattle.quorum_model.specs.Monitors.{Monitors}
-use Rattle.quorum_model.specs.World.{Arrives, Event, Plain, Replied, World}
+use Rattle.law_names.proofs.Runs.{Arrives, Down, Event, Full, Meeting, Monitors, NoMessage, Plain, Reacts, Replied, Stop, World, after_meeting, happens, in_world, meets, most_size, moved, size_of, unmoved}
+use Rattle.law_names.proofs.Table.{Reaction, Session, apply}
 use Rattle.quorum_stays.specs.Serving.{IsServed}
 use Rattle.quorum_timed.specs.Timed.{Again, Arriving, Asking, Comes, Firing, Leads, Pace, Timed, at_time}
-use Rattle.std.proofs.Common.{Bool, Err, List, Ok, Result, [], ap, refl, subst, sym, ℕ, ◌++◌, ◌∙◌, ◌∷◌, ◌≡◌}
+use Rattle.std.proofs.Common.{Bool, Err, List, Ok, Result, [], ap, nat_lt, refl, subst, sym, ℕ, ◌++◌, ◌∙◌, ◌∷◌, ◌≡◌}
 use Rattle.std.proofs.lemmas.Bool.{cond_both}
 use Rattle.std.proofs.lemmas.List.{append-nil, append_assoc}
-use Rattle.std.specs.Prelude.{nat_lt}
 
 -- more was replied
 abbrev pub Grew : World → World → Type 0

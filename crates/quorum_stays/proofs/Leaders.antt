@@ -1,18 +1,11 @@
 -- A quorum stays led when an answer of a peon comes to its leader, unless it is the last one to a value.
-use Rattle.mon_msg.specs.Protocol.Readings.{Readings, epoch_of, promise_of, readings_of, shared_entries}
-use Rattle.mon_msg.specs.Protocol.Sets.{are_within}
-use Rattle.mon_msg.specs.Protocol.State.{State}
-use Rattle.mon_msg.specs.Protocol.Timers.{disarmed, end_of}
+use Rattle.law_names.proofs.Runs.{Arrives, Deliver, Monitors, message_at}
+use Rattle.law_names.proofs.Table.{Body, Readings, State, are_within, disarmed, end_of, epoch_of, has, promise_of, readings_of, shared_entries, with_rank}
 use Rattle.mon_msg.specs.declared.input.Input.TheVariants as input
-use Rattle.mon_types.specs.Ranks.{has, with_rank}
 use Rattle.mon_wire.specs.declared.body.Body.TheVariants as body
-use Rattle.mon_wire.specs.declared.body.Body.{Body}
 use Rattle.mon_wire.specs.declared.phase.Phase.TheVariants as phase
 use Rattle.mon_wire.specs.declared.phase.Timer.TheVariants as timer
 use Rattle.quorum_model.proofs.Members.{member_of}
-use Rattle.quorum_model.specs.Meets.{message_at}
-use Rattle.quorum_model.specs.Monitors.{Monitors}
-use Rattle.quorum_model.specs.World.{Arrives, Deliver}
 use Rattle.quorum_stays.proofs.Bounds.{inside, leading}
 use Rattle.quorum_stays.proofs.Onward.{here_left, other_left, pack}
 use Rattle.quorum_stays.proofs.Peering.{PeonIn, one_peon}
@@ -25,11 +18,10 @@ use Rattle.quorum_stays.proofs.Taking.{no_forward}
 use Rattle.quorum_stays.proofs.Timers.{still_on}
 use Rattle.quorum_stays.proofs.Turning.{on_state, other_state, other_store, same_carried}
 use Rattle.quorum_stays.specs.Serving.{IsForward}
-use Rattle.quorum_stays.specs.Steady.{Begun, Carries, FollowsSince, HasLease, IsItem, Item, Keeps, Leads, LeadsSince, Noted, Proposes, Reign, Round, Steady, item, in_reign, leased, said, to_leader, to_peon}
+use Rattle.quorum_stays.specs.Steady.{Begun, Carries, FollowsSince, HasLease, IsItem, Item, Keeps, Leads, LeadsSince, Noted, Proposes, Reign, Round, Steady, in_reign, item, leased, said, to_leader, to_peon}
 use Rattle.quorum_timed.specs.Timed.{Owed, Pace, Timed, Went, at_time, without_first}
 use Rattle.quorum_walk.proofs.Ranks.{has_with, has_with_is}
-use Rattle.std.proofs.Common.{Bool, List, None, Option, Some, [], ap, arith, cond, drop, false, inl, inr, length, ltb, refl, subst, suc, sym, take, true, zero, ℕ, ◌*◌, ◌+◌, ◌<◌, ◌∙◌, ◌∷◌, ◌≡◌, ◌≤◌, ◌⊎◌}
-use Rattle.std.specs.Prelude.{IsSomeAnd, option_map}
+use Rattle.std.proofs.Common.{Bool, IsSomeAnd, List, None, Option, Some, [], ap, arith, cond, drop, false, inl, inr, length, ltb, option_map, refl, subst, suc, sym, take, true, zero, ℕ, ◌*◌, ◌+◌, ◌<◌, ◌∙◌, ◌∷◌, ◌≡◌, ◌≤◌, ◌⊎◌}
 
 -- ---- which answer comes
 

@@ -1,10 +1,7 @@
 -- The lease of each member of a quorum that is led is valid while no value is in progress.
-use Rattle.mon_lease.specs.Lease.{stands}
+use Rattle.law_names.proofs.Runs.{Monitors}
+use Rattle.law_names.proofs.Table.{State, has, lease_of, readings_of, stands}
 use Rattle.mon_lease.specs.declared.lease.TheConstants.{LENGTH}
-use Rattle.mon_msg.specs.Protocol.Readings.{readings_of}
-use Rattle.mon_msg.specs.Protocol.State.{State, lease_of}
-use Rattle.mon_types.specs.Ranks.{has}
-use Rattle.quorum_model.specs.Monitors.{Monitors}
 use Rattle.quorum_stays.proofs.Bounds.{by_lease, by_renewal, leading}
 use Rattle.quorum_stays.proofs.Onward.{pack, unpack}
 use Rattle.quorum_stays.proofs.Peering.{PeonIn}
@@ -12,9 +9,8 @@ use Rattle.quorum_stays.specs.Reading.{LeasesStand}
 use Rattle.quorum_stays.specs.Steady.{Begun, FollowsSince, HasLease, Keeps, Leads, LeadsSince, LeasedSince, Reign, Round, Steady, leased, to_peon}
 use Rattle.quorum_timed.specs.Begins.{IsQuick}
 use Rattle.quorum_timed.specs.Timed.{MayBe, Pace, Timed}
-use Rattle.std.proofs.Common.{Bool, List, None, Option, Some, arith, inl, inr, length, refl, subst, suc, sym, true, zero, ℕ, ◌+◌, ◌<◌, ◌≡◌, ◌≤◌}
+use Rattle.std.proofs.Common.{Bool, IsSomeAnd, List, None, Option, Some, arith, inl, inr, length, refl, subst, suc, sym, true, zero, ℕ, ◌+◌, ◌<◌, ◌≡◌, ◌≤◌}
 use Rattle.std.proofs.lemmas.Bool.{cases_eq, lt-ltb}
-use Rattle.std.specs.Prelude.{IsSomeAnd}
 
 module _ (ms : Monitors) (q : List Bool) (pace : Pace) (reign : Reign) (r : Round) (t : Timed) (K : IsQuick pace) (S : Steady ms q pace reign r t) (M : MayBe ms q pace t t.time)
     (none : r.next ≡ None) (past : r.committed + pace.delay < t.time) where

@@ -1,20 +1,10 @@
 -- No member follows a monitor outside of the set for long.
-use Rattle.mon_bytes.specs.declared.entry.Entry.{Entry}
-use Rattle.mon_msg.specs.Protocol.Course.{Course}
-use Rattle.mon_msg.specs.Protocol.Readings.{Readings, readings_of, shared_entries}
-use Rattle.mon_msg.specs.Protocol.State.{State}
-use Rattle.mon_msg.specs.Protocol.Table.{react}
-use Rattle.mon_msg.specs.Protocol.Timers.{end_of, is_armed}
+use Rattle.law_names.proofs.Runs.{Event, Monitors, World}
+use Rattle.law_names.proofs.Table.{AllByRecursion, Course, Entry, Input, Me, Phase, Readings, State, end_of, has, is_armed, react, readings_of, shared_entries}
 use Rattle.mon_msg.specs.declared.input.Input.TheVariants as input
-use Rattle.mon_msg.specs.declared.input.Input.{Input}
-use Rattle.mon_msg.specs.declared.view.Me.{Me}
-use Rattle.mon_types.specs.Ranks.{has}
 use Rattle.mon_wire.specs.declared.phase.Phase.TheVariants as phase
-use Rattle.mon_wire.specs.declared.phase.Phase.{Phase}
 use Rattle.mon_wire.specs.declared.phase.Timer.TheVariants as timer
 use Rattle.quorum_model.proofs.Members.{me_is, member_of}
-use Rattle.quorum_model.specs.Monitors.{Monitors}
-use Rattle.quorum_model.specs.World.{Event, World}
 use Rattle.quorum_stays.proofs.LeavingActs.{Lapses}
 use Rattle.quorum_stays.proofs.LeavingTable.{FromMember, reacts_leaving}
 use Rattle.quorum_stays.proofs.Moving.{AllGo, AtMember, Brought, lt, moves}
@@ -26,11 +16,9 @@ use Rattle.quorum_timed.specs.Begins.{ArePart, Begins, IsBetween}
 use Rattle.quorum_timed.specs.Timed.{Leads, MayBe, Owed, Pace, Timed, at_time}
 use Rattle.quorum_timed.specs.Waiting.{Waits, leads_alone, timer_of}
 use Rattle.quorum_walk.proofs.Walk.{Then}
-use Rattle.std.proofs.Common.{Bool, List, None, Ok, Option, Some, [], arith, false, inl, inr, refl, subst, sym, true, ℕ, ◌+◌, ◌<◌, ◌∷◌, ◌≡◌, ◌≤◌, ◌||◌}
+use Rattle.std.proofs.Common.{Bool, IsSomeAnd, List, None, Ok, Option, Some, [], arith, false, inl, inr, is_some, refl, subst, sym, true, ℕ, ◌+◌, ◌<◌, ◌||◌, ◌∷◌, ◌≡◌, ◌≤◌}
 use Rattle.std.proofs.Math.Bool.{Bool-set}
 use Rattle.std.proofs.lemmas.Bool.{cases_eq, false≢true, lt-ltb}
-use Rattle.std.specs.List.{AllByRecursion}
-use Rattle.std.specs.Prelude.{IsSomeAnd, is_some}
 
 -- a member that waits, and whose lease timer ends by b if it follows a monitor outside of q
 pub record Fine (q : List Bool) (me : Me) (at b : ℕ) (s : State) : Type 0 where

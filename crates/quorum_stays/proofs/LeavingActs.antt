@@ -1,27 +1,9 @@
 -- The acts leave a monitor that doesn't follow, or follows with no later end of its lease timer.
-use Rattle.mon_msg.specs.Protocol.Collecting.{begin_found, collect, collect_with, reign, settle}
-use Rattle.mon_msg.specs.Protocol.Course.{Course, change}
-use Rattle.mon_msg.specs.Protocol.Changes.{Epoch}
-use Rattle.mon_msg.specs.Protocol.Entering.{adopt, bootstrap, elect, in_next_epoch, in_odd_epoch, is_even, win}
-use Rattle.mon_msg.specs.Protocol.Leading.{be_active, begin, begin_alone, begin_with, commit, extend, is_alone}
-use Rattle.mon_msg.specs.Protocol.Learning.{learn}
-use Rattle.mon_msg.specs.Protocol.Phases.{phase_of, same_phase}
-use Rattle.mon_msg.specs.Protocol.Readings.{epoch_of, or_zero, promise_of}
-use Rattle.mon_msg.specs.Protocol.Synchronizing.{full_sync, recent_sync}
-use Rattle.mon_msg.specs.Protocol.Timers.{armed, disarmed, end_of, index_of}
-use Rattle.mon_msg.specs.declared.paxos.Found.{Found}
+use Rattle.law_names.proofs.Table.{Course, Epoch, Found, LeaderStage, Me, Op, Origin, Phase, Timer, adopt, armed, be_active, begin, begin_alone, begin_found, begin_with, bootstrap, change, collect, collect_with, commit, disarmed, elect, end_of, epoch_of, extend, full_sync, has, in_next_epoch, in_odd_epoch, index_of, is_alone, is_even, learn, next_number, or_zero, phase_of, promise_of, recent_sync, reign, same_phase, settle, win}
 use Rattle.mon_msg.specs.declared.paxos.LeaderStage.TheVariants as stage
-use Rattle.mon_msg.specs.declared.paxos.LeaderStage.{LeaderStage}
-use Rattle.mon_msg.specs.declared.plan.Origin.{Origin}
-use Rattle.mon_msg.specs.declared.view.Me.{Me}
-use Rattle.mon_tx.specs.declared.op.Op.{Op}
-use Rattle.mon_types.specs.Proposal.{next_number}
-use Rattle.mon_types.specs.Ranks.{has}
 use Rattle.mon_types.specs.declared.names.Which.TheVariants as which
 use Rattle.mon_wire.specs.declared.phase.Phase.TheVariants as phase
-use Rattle.mon_wire.specs.declared.phase.Phase.{Phase}
 use Rattle.mon_wire.specs.declared.phase.Timer.TheVariants as timer
-use Rattle.mon_wire.specs.declared.phase.Timer.{Timer}
 use Rattle.quorum_stays.proofs.Timers.{still_ends, still_on}
 use Rattle.quorum_timed.proofs.Acts.{learn_stays}
 use Rattle.quorum_timed.proofs.Armed.{Timers}

@@ -1,74 +1,19 @@
 -- The rows leave a monitor that follows no leader outside of q, or one whose lease timer ends no later.
-use Rattle.election_rules.specs.declared.scores.Scores.{Scores}
-use Rattle.mon_bytes.specs.declared.command.Command.{Command}
+use Rattle.law_names.proofs.Table.{Command, CommandRefused, Cookie, Course, Entry, Epoch, Last, MOST_WAITING, Me, Op, Origin, Phase, Place, Readings, Reply, Request, Scores, Session, SyncStage, Told, Unmark, Waiting as Waiting_, adopt, all_accepted, all_answered, are_within, ask, asked_of, at_leader, at_peon, awaits_cookie, begin_made, change, change_all, clients_are, commit_any, copy, count_of, counts, disarm, disarmed, election_ends, elector_is, epoch_of, extend, grant, has, has_queue, hear_accept, hear_ack, hear_begin, hear_chunk, hear_client, hear_collect, hear_commit, hear_cookie, hear_forward, hear_get_chunk, hear_get_cookie_full, hear_get_cookie_recent, hear_last, hear_last_chunk, hear_lease, hear_lease_ack, hear_no_cookie, hear_ping, hear_ping_reply, hear_probe, hear_probe_reply, hear_propose, hear_route, hear_victory, is_allowed, is_cookie, is_done, is_even, is_leading, is_majority, is_member, is_ours, is_peon, is_too_long, is_whole, lag, leader_is, learn, learn_changes, lease_of, may_defer, may_propose, merge, news, news_from, no_cookie, note, note_pending, of_leader, of_member, of_provider, pending, ping, prober_is, promise_of, propose, propose_due, propose_first, propose_next, quorum_of, read, readable, renew, replay_any, replay_or_end, replay_step, same_cookie, same_flag, same_phase, same_place, service_last, service_of, shown, since, stands_before, step_in, step_of, table_or, take, takes_chunks, value, votes, weigh, with_rank, ◌▸◌}
 use Rattle.mon_bytes.specs.declared.command.Command.TheVariants as command
-use Rattle.mon_bytes.specs.declared.command.CommandRefused.{CommandRefused}
-use Rattle.mon_bytes.specs.declared.entry.Entry.{Entry}
-use Rattle.mon_lease.specs.Lease.{readable}
-use Rattle.mon_msg.specs.Protocol.Changes.{Epoch, Last, Unmark}
-use Rattle.mon_msg.specs.Protocol.Chunks.{copy, hear_chunk, hear_last_chunk, is_ours, replay_or_end, take}
-use Rattle.mon_msg.specs.Protocol.Commands.{ask, at_leader, at_peon, hear_forward, hear_route, is_too_long, may_propose, propose_due}
-use Rattle.mon_msg.specs.Protocol.Copying.{awaits_cookie, hear_cookie, hear_no_cookie, of_provider, same_flag}
-use Rattle.mon_msg.specs.Protocol.Course.{Course, change, change_all, clients_are, elector_is, leader_is, ◌▸◌}
-use Rattle.mon_msg.specs.Protocol.Elections.{election_ends, hear_ack, hear_propose, hear_victory, is_allowed, is_whole, may_defer, merge, stands_before, table_or, weigh}
-use Rattle.mon_msg.specs.Protocol.Entering.{adopt, is_even}
-use Rattle.mon_msg.specs.Protocol.Found.{counts}
-use Rattle.mon_msg.specs.Protocol.Hearing.{hear_client}
-use Rattle.mon_msg.specs.Protocol.Leader.{all_accepted, all_answered, commit_any, hear_accept, hear_last, hear_lease_ack, note, note_pending, of_member, renew}
-use Rattle.mon_msg.specs.Protocol.Leading.{extend, has_queue}
-use Rattle.mon_msg.specs.Protocol.Learning.{learn, learn_changes, news, news_from}
-use Rattle.mon_msg.specs.Protocol.Peon.{hear_begin, hear_collect, hear_commit, hear_lease, of_leader}
-use Rattle.mon_msg.specs.Protocol.Phases.{is_leading, is_member, is_peon, same_phase, votes}
-use Rattle.mon_msg.specs.Protocol.Pings.{hear_ping, hear_ping_reply, ping}
-use Rattle.mon_msg.specs.Protocol.Places.{is_cookie, is_done, no_cookie, same_cookie}
-use Rattle.mon_msg.specs.Protocol.Proposing.{asked_of, begin_made, propose, propose_first, propose_next}
-use Rattle.mon_msg.specs.Protocol.Providing.{grant, hear_get_chunk, hear_get_cookie_full, hear_get_cookie_recent}
-use Rattle.mon_msg.specs.Protocol.Readings.{Readings, epoch_of, promise_of}
-use Rattle.mon_msg.specs.Protocol.Reads.{read, shown, since}
-use Rattle.mon_msg.specs.Protocol.Records.{pending}
-use Rattle.mon_msg.specs.Protocol.Replay.{replay_any, replay_step, step_in, step_of}
-use Rattle.mon_msg.specs.Protocol.Services.{service_last}
-use Rattle.mon_msg.specs.Protocol.State.{lease_of, quorum_of}
-use Rattle.mon_msg.specs.Protocol.Value.{service_of, value}
-use Rattle.mon_msg.specs.declared.clients.Waiting.{Waiting as Waiting_}
-use Rattle.mon_msg.specs.declared.limits.TheConstants.{MOST_WAITING}
 use Rattle.mon_msg.specs.declared.paxos.LeaderStage.TheVariants as stage
-use Rattle.mon_msg.specs.declared.plan.Origin.{Origin}
 use Rattle.mon_msg.specs.declared.plan.Origin.TheVariants as origin
-use Rattle.mon_msg.specs.declared.synchronization.SyncStage.{SyncStage}
 use Rattle.mon_msg.specs.declared.synchronization.SyncStage.TheVariants as sync
-use Rattle.mon_msg.specs.declared.view.Me.{Me}
-use Rattle.mon_tx.specs.declared.op.Op.{Op}
-use Rattle.mon_types.specs.Ranks.{has, is_majority, with_rank}
 use Rattle.mon_types.specs.declared.names.Which.TheVariants as which
-use Rattle.mon_wire.specs.declared.parts.Cookie.{Cookie}
-use Rattle.mon_wire.specs.declared.parts.Place.{Place}
-use Rattle.mon_wire.specs.declared.parts.Told.{Told}
 use Rattle.mon_wire.specs.declared.phase.Phase.TheVariants as phase
-use Rattle.mon_wire.specs.declared.reply.Reply.{Reply}
-use Rattle.mon_wire.specs.declared.request.Request.{Request}
-use Rattle.mon_wire.specs.declared.request.Request.TheVariants as request
-use Rattle.mon_wire.specs.declared.request.Session.{Session}
-use Rattle.quorum_walk.proofs.Walk.{Then, and_then, by_test, done, where_fits}
-use Rattle.std.proofs.Common.{Bool, Err, List, None, Ok, Option, Result, Some, [], eqb, false, leb, length, ltb, not, suc, true, ℕ, ◌&&◌, ◌+◌, ◌-◌, ◌||◌, ◌∷◌}
-use Rattle.std.proofs.lemmas.Bool.{cond_both, eqb-true, false≢true}
-use Rattle.std.specs.Prelude.{is_some, slice_index_or, slice_set}
-use Rattle.mon_msg.specs.Protocol.Chunks.{takes_chunks}
-use Rattle.mon_msg.specs.Protocol.Course.{disarm, prober_is}
-use Rattle.mon_msg.specs.Protocol.Places.{same_place}
-use Rattle.mon_msg.specs.Protocol.Probing.{hear_probe, hear_probe_reply, lag}
-use Rattle.mon_msg.specs.Protocol.Sets.{are_within}
-use Rattle.mon_msg.specs.Protocol.Timers.{disarmed}
-use Rattle.mon_types.specs.Ranks.{count_of}
-use Rattle.mon_wire.specs.declared.phase.Phase.{Phase}
 use Rattle.mon_wire.specs.declared.phase.Timer.TheVariants as timer
+use Rattle.mon_wire.specs.declared.request.Request.TheVariants as request
 use Rattle.quorum_stays.proofs.LeavingActs.{Ends, Lapses, adopt_ends, arm_ends, arm_if_ends, away, begin_ends, bootstrap_ends, collect_ends, commit_ends, disarm_ends, elect_ends, full_sync_ends, inside, recent_sync_ends, settle_ends, win_ends}
 use Rattle.quorum_timed.proofs.Acts.{learn_stays}
 use Rattle.quorum_timed.proofs.Armed.{synchronizing_is}
-use Rattle.quorum_walk.proofs.Walk.{and_three, or_three}
-use Rattle.std.proofs.Common.{refl, subst, ◌≡◌}
-use Rattle.std.proofs.lemmas.Bool.{and_parts}
-use Rattle.std.proofs.lemmas.Bool.{not-false}
+use Rattle.quorum_walk.proofs.Walk.{Then, and_then, and_three, by_test, done, or_three, where_fits}
+use Rattle.std.proofs.Common.{Bool, Err, List, None, Ok, Option, Result, Some, [], eqb, false, is_some, leb, length, ltb, not, refl, slice_index_or, slice_set, subst, suc, true, ℕ, ◌&&◌, ◌+◌, ◌-◌, ◌||◌, ◌∷◌, ◌≡◌}
+use Rattle.std.proofs.lemmas.Bool.{and_parts, cond_both, eqb-true, false≢true, not-false}
 
 -- an active leader doesn't follow
 active_is : (p : Phase) → same_phase p phase.Active ≡ true → same_phase p phase.Peon ≡ false

@@ -1,27 +1,14 @@
 -- Each event leaves its monitor following no leader outside of q, or with a lease timer that ends no later.
-use Rattle.mon_bytes.specs.declared.entry.Entry.{Entry}
-use Rattle.mon_msg.specs.Protocol.Course.{Course, disarm}
-use Rattle.mon_msg.specs.Protocol.Hearing.{hear, is_heard}
-use Rattle.mon_msg.specs.Protocol.Phases.{same_phase}
-use Rattle.mon_msg.specs.Protocol.Readings.{Readings}
-use Rattle.mon_msg.specs.Protocol.State.{State}
-use Rattle.mon_msg.specs.Protocol.Table.{at_rest, before_start, react, running, start, timer_comes}
-use Rattle.mon_msg.specs.Protocol.Timers.{end_of}
+use Rattle.law_names.proofs.Table.{Body, Course, Entry, Input, Me, Readings, State, Timer, at_rest, before_start, disarm, end_of, has, hear, is_heard, react, running, same_phase, start, timer_comes}
 use Rattle.mon_msg.specs.declared.input.Input.TheVariants as input
-use Rattle.mon_msg.specs.declared.input.Input.{Input}
-use Rattle.mon_msg.specs.declared.view.Me.{Me}
 use Rattle.mon_types.specs.declared.names.Which.TheVariants as which
 use Rattle.mon_wire.specs.declared.body.Body.TheVariants as body
-use Rattle.mon_wire.specs.declared.body.Body.{Body}
 use Rattle.mon_wire.specs.declared.phase.Phase.TheVariants as phase
 use Rattle.mon_wire.specs.declared.phase.Timer.TheVariants as timer
-use Rattle.mon_wire.specs.declared.phase.Timer.{Timer}
 use Rattle.quorum_stays.proofs.LeavingActs.{Ends, bootstrap_ends, disarm_ends}
-use Rattle.quorum_stays.proofs.LeavingRows.{election_ends_ends, get_chunk_ends, get_cookie_full_ends, get_cookie_recent_ends, hear_accept_ends, hear_ack_ends, hear_begin_ends, hear_chunk_ends, hear_client_ends, hear_collect_ends, hear_commit_ends, hear_cookie_ends, hear_forward_ends, hear_last_chunk_ends, hear_last_ends, hear_lease_ack_ends, hear_lease_ends, hear_no_cookie_ends, hear_ping_reply_ends, hear_ping_ends, hear_probe_reply_ends, hear_probe_ends, hear_propose_ends, hear_route_ends, hear_victory_ends, ping_ends, propose_due_ends, renew_ends, replay_step_ends}
+use Rattle.quorum_stays.proofs.LeavingRows.{election_ends_ends, get_chunk_ends, get_cookie_full_ends, get_cookie_recent_ends, hear_accept_ends, hear_ack_ends, hear_begin_ends, hear_chunk_ends, hear_client_ends, hear_collect_ends, hear_commit_ends, hear_cookie_ends, hear_forward_ends, hear_last_chunk_ends, hear_last_ends, hear_lease_ack_ends, hear_lease_ends, hear_no_cookie_ends, hear_ping_ends, hear_ping_reply_ends, hear_probe_ends, hear_probe_reply_ends, hear_propose_ends, hear_route_ends, hear_victory_ends, ping_ends, propose_due_ends, renew_ends, replay_step_ends}
 use Rattle.quorum_walk.proofs.Walk.{Then, by_test, done, where_fits}
-use Rattle.mon_types.specs.Ranks.{has}
-use Rattle.std.proofs.Common.{Bool, List, refl, ltb, suc, true, ℕ, ◌≡◌}
-use Rattle.std.specs.Prelude.{is_some}
+use Rattle.std.proofs.Common.{Bool, List, is_some, ltb, refl, suc, true, ℕ, ◌≡◌}
 
 -- a message comes from a member
 abbrev pub FromMember : List Bool → Input → Type 0

@@ -1,29 +1,16 @@
 -- Each event of a timed run is at one member. What comes to it is of a member, and so is what is under way afterwards.
+use Rattle.law_names.proofs.Runs.{Arrives, Client, Deliver, Envelope, Event, Monitors, Plain, Ring, World, arrival, happens, message_at, messages_of, moved, state_at}
+use Rattle.law_names.proofs.Table.{AllByRecursion, Course, Input, Message, State, has, react, reaction_of, readings_of, shared_entries}
 use Rattle.log_model.proofs.Lists.{all_append, all_map}
-use Rattle.mon_msg.specs.Protocol.Course.{Course}
-use Rattle.mon_msg.specs.Protocol.Reaction.{reaction_of}
-use Rattle.mon_msg.specs.Protocol.Readings.{readings_of, shared_entries}
-use Rattle.mon_msg.specs.Protocol.State.{State}
-use Rattle.mon_msg.specs.Protocol.Table.{react}
 use Rattle.mon_msg.specs.declared.input.Input.TheVariants as input
-use Rattle.mon_msg.specs.declared.input.Input.{Input}
-use Rattle.mon_types.specs.Ranks.{has}
-use Rattle.mon_wire.specs.declared.message.Message.{Message}
 use Rattle.quorum_model.proofs.Members.{member_of}
-use Rattle.quorum_model.specs.Clients.{messages_of}
-use Rattle.quorum_model.specs.Happens.{happens, moved}
-use Rattle.quorum_model.specs.Meets.{arrival, message_at, state_at}
-use Rattle.quorum_model.specs.Monitors.{Monitors}
-use Rattle.quorum_model.specs.World.{Arrives, Client, Deliver, Envelope, Event, Plain, Ring, World}
 use Rattle.quorum_stays.proofs.Onward.{all_left, unpack}
 use Rattle.quorum_stays.proofs.Stepping.{becomes, reacts}
 use Rattle.quorum_stays.proofs.UnderWay.{all_numbers, all_owed, get_more, new_are, new_there, numbers}
 use Rattle.quorum_timed.specs.Begins.{IsBetween}
 use Rattle.quorum_timed.specs.Timed.{Again, Arriving, Asking, Comes, Firing, Owed, Pace, Timed, Went, new_between, owed_by, without_first}
-use Rattle.std.proofs.Common.{Bool, List, None, Ok, Option, Some, ap, arith, length, ltb, refl, subst, suc, sym, true, ℕ, ◌++◌, ◌+◌, ◌<◌, ◌∙◌, ◌≡◌, zero}
+use Rattle.std.proofs.Common.{Bool, IsSomeAnd, List, None, Ok, Option, Some, ap, arith, length, ltb, option_map, refl, slice_get, subst, suc, sym, true, zero, ℕ, ◌++◌, ◌+◌, ◌<◌, ◌∙◌, ◌≡◌}
 use Rattle.std.proofs.lemmas.Bool.{eq-eqb, lt-ltb, ne_eqb}
-use Rattle.std.specs.List.{AllByRecursion}
-use Rattle.std.specs.Prelude.{IsSomeAnd, option_map, slice_get}
 
 module _ (ms : Monitors) (q : List Bool) (pace : Pace) (within : (i : ℕ) → has q i ≡ true → i < ms.count) where
   pub lt : (i : ℕ) → has q i ≡ true → ltb i ms.count ≡ true

@@ -1,20 +1,14 @@
 -- What is under way after an event among members.
-use Rattle.mon_msg.specs.Protocol.Changes.{Change}
-use Rattle.mon_msg.specs.Protocol.State.{State}
-use Rattle.mon_wire.specs.declared.body.Body.{Body}
-use Rattle.quorum_model.specs.Meets.{message_at}
-use Rattle.quorum_model.specs.Monitors.{Monitors}
-use Rattle.quorum_model.specs.World.{Envelope, Event}
+use Rattle.law_names.proofs.Runs.{Envelope, Event, Monitors, message_at}
+use Rattle.law_names.proofs.Table.{AllByRecursion, Body, Change, State}
 use Rattle.quorum_stays.proofs.Carrying.{Gives, before_due, carries_append, carries_on, due_at, new_carries}
 use Rattle.quorum_stays.proofs.Stepping.{Did}
 use Rattle.quorum_stays.proofs.UnderWay.{new_are, new_there, numbers}
 use Rattle.quorum_stays.specs.Steady.{Carries, Item, Reign}
 use Rattle.quorum_timed.specs.Timed.{Owed, Pace, Timed, Went, new_between, owed_by, without_first}
-use Rattle.std.proofs.Common.{Bool, List, None, Option, Some, [], ap, arith, eqb, length, refl, subst, suc, sym, ℕ, ◌&&◌, ◌++◌, ◌+◌, ◌∙◌, ◌≡◌, ◌≤◌}
+use Rattle.std.proofs.Common.{Bool, IsSomeAnd, List, None, Option, Some, [], ap, arith, eqb, length, refl, slice_get, subst, suc, sym, ℕ, ◌&&◌, ◌++◌, ◌+◌, ◌∙◌, ◌≡◌, ◌≤◌}
 use Rattle.std.proofs.lemmas.Bool.{and_parts, cond_both, eq-eqb, eqb-true}
 use Rattle.std.proofs.lemmas.List.{append-nil}
-use Rattle.std.specs.List.{AllByRecursion}
-use Rattle.std.specs.Prelude.{IsSomeAnd, slice_get}
 
 -- ---- states
 

@@ -1,51 +1,17 @@
 -- What a monitor in a quorum does about clients' commands. It remembers and answers them, or it begins a value.
+use Rattle.law_names.proofs.Runs.{Envelope, messages_of}
+use Rattle.law_names.proofs.Table.{AllByRecursion, Asked, Body, Clients, Command, CommandRefused, Course, Entry, MOST_WAITING, Me, Message, Op, Origin, Phase, Readings, Reply, Request, Sent, Session, State, Waiting, answer_to, ask, asked_of, at_leader, at_peon, at_rest, begin, begin_made, begin_with, disarmed, end_of, epoch_of, has, has_queue, hear, hear_ack, hear_client, hear_forward, hear_propose, hear_route, is_alone, is_armed, is_empty, is_even, is_heard, is_leading, is_member, is_peon, is_standing, is_too_long, lease_of, may_propose, message_to, of_leader, propose, propose_due, propose_first, propose_next, quorum_of, react, read, readable, refusal, same_phase, service_last, service_of, shown, since, too_long, value, votes}
 use Rattle.mon_bytes.specs.declared.command.Command.TheVariants as command
-use Rattle.mon_bytes.specs.declared.command.Command.{Command}
-use Rattle.mon_bytes.specs.declared.command.CommandRefused.{CommandRefused}
-use Rattle.mon_bytes.specs.declared.entry.Entry.{Entry}
-use Rattle.mon_lease.specs.Lease.{readable}
-use Rattle.mon_msg.specs.Protocol.Commands.{ask, at_leader, at_peon, hear_forward, hear_route, is_too_long, may_propose, propose_due, too_long}
-use Rattle.mon_msg.specs.Protocol.Course.{Course}
-use Rattle.mon_msg.specs.Protocol.Hearing.{hear, hear_client, is_heard}
-use Rattle.mon_msg.specs.Protocol.Leading.{begin, begin_with, has_queue, is_alone}
-use Rattle.mon_msg.specs.Protocol.Peon.{of_leader}
-use Rattle.mon_msg.specs.Protocol.Phases.{is_leading, is_member, is_peon, same_phase, votes}
-use Rattle.mon_msg.specs.Protocol.Proposing.{asked_of, begin_made, propose, propose_first, propose_next, refusal}
-use Rattle.mon_msg.specs.Protocol.Readings.{Readings, epoch_of}
-use Rattle.mon_msg.specs.Protocol.Reads.{is_standing, read, shown, since}
-use Rattle.mon_msg.specs.Protocol.Sending.{answer_to, message_to}
-use Rattle.mon_msg.specs.Protocol.Services.{service_last}
-use Rattle.mon_msg.specs.Protocol.Sets.{is_empty}
-use Rattle.mon_msg.specs.Protocol.State.{State, lease_of, quorum_of}
-use Rattle.mon_msg.specs.Protocol.Table.{at_rest, react}
-use Rattle.mon_msg.specs.Protocol.Timers.{disarmed, end_of, is_armed}
-use Rattle.mon_msg.specs.Protocol.Value.{service_of, value}
-use Rattle.mon_msg.specs.declared.clients.Asked.{Asked}
-use Rattle.mon_msg.specs.declared.clients.Clients.{Clients}
-use Rattle.mon_msg.specs.declared.clients.Waiting.{Waiting}
 use Rattle.mon_msg.specs.declared.input.Input.TheVariants as input
-use Rattle.mon_msg.specs.declared.limits.TheConstants.{MOST_WAITING}
 use Rattle.mon_msg.specs.declared.paxos.LeaderStage.TheVariants as stage
 use Rattle.mon_msg.specs.declared.plan.Origin.TheVariants as origin
-use Rattle.mon_msg.specs.declared.plan.Origin.{Origin}
 use Rattle.mon_msg.specs.declared.plan.Sent.TheVariants as sent
-use Rattle.mon_msg.specs.declared.plan.Sent.{Sent}
-use Rattle.mon_msg.specs.declared.view.Me.{Me}
-use Rattle.mon_tx.specs.declared.op.Op.{Op}
 use Rattle.mon_types.specs.declared.names.Which.TheVariants as which
 use Rattle.mon_wire.specs.declared.body.Body.TheVariants as body
-use Rattle.mon_wire.specs.declared.body.Body.{Body}
-use Rattle.mon_wire.specs.declared.message.Message.{Message}
 use Rattle.mon_wire.specs.declared.phase.Phase.TheVariants as phase
-use Rattle.mon_wire.specs.declared.phase.Phase.{Phase}
 use Rattle.mon_wire.specs.declared.phase.Timer.TheVariants as timer
 use Rattle.mon_wire.specs.declared.reply.Reply.TheVariants as reply
-use Rattle.mon_wire.specs.declared.reply.Reply.{Reply}
 use Rattle.mon_wire.specs.declared.request.Request.TheVariants as request
-use Rattle.mon_wire.specs.declared.request.Request.{Request}
-use Rattle.mon_wire.specs.declared.request.Session.{Session}
-use Rattle.quorum_model.specs.Clients.{messages_of}
-use Rattle.quorum_model.specs.World.{Envelope}
 use Rattle.quorum_stays.proofs.Taking.{taken_body, taken_from, taken_request, takes_seq}
 use Rattle.quorum_stays.proofs.Timers.{Tidy, maybe_armed, maybe_propose, unchanged, without_propose}
 use Rattle.quorum_stays.specs.Reading.{Reads}
@@ -53,13 +19,8 @@ use Rattle.quorum_stays.specs.Serving.{CarriesAnswer, IsAnswer, IsForward, is_bu
 use Rattle.quorum_stays.specs.Steady.{IsOfClients, IsOfCommand, IsOfEarlier, IsOfElections}
 use Rattle.quorum_timed.proofs.Armed.{Timers}
 use Rattle.quorum_walk.proofs.Walk.{Then, by_test, done, where_fits}
-use Rattle.std.proofs.Common.{Bool, Err, List, None, Ok, Option, Result, Some, [], ap, false, inl, inr, length, map, not, refl, slice_set, subst, suc, sym, true, ℕ, ◌&&◌, ◌++◌, ◌<◌, ◌^◌, ◌∙◌, ◌∷◌, ◌≡◌, ◌≤◌, ◌⊎◌, arith, ◌||◌}
-use Rattle.std.proofs.lemmas.Bool.{and_parts, false≢true, leb-false, not-false, not-true, or_right, lt-ltb}
-use Rattle.std.specs.List.{AllByRecursion}
-use Rattle.std.specs.Prelude.{cond, filter, nat_le, ◌==◌, nat_lt}
-use Rattle.mon_msg.specs.Protocol.Elections.{hear_ack, hear_propose}
-use Rattle.mon_msg.specs.Protocol.Entering.{is_even}
-use Rattle.mon_types.specs.Ranks.{has}
+use Rattle.std.proofs.Common.{Bool, Err, List, None, Ok, Option, Result, Some, [], ap, arith, cond, false, filter, inl, inr, length, map, nat_le, nat_lt, not, refl, slice_set, subst, suc, sym, true, ℕ, ◌&&◌, ◌++◌, ◌<◌, ◌==◌, ◌^◌, ◌||◌, ◌∙◌, ◌∷◌, ◌≡◌, ◌≤◌, ◌⊎◌}
+use Rattle.std.proofs.lemmas.Bool.{and_parts, false≢true, leb-false, lt-ltb, not-false, not-true, or_right}
 
 -- what is sent about a client's command, or to a client
 abbrev pub ForAClient : Sent → Type 0

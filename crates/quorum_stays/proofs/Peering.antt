@@ -1,18 +1,13 @@
 -- A quorum stays led if what was under way to one peon or from it changes, and nothing else does.
-use Rattle.mon_msg.specs.Protocol.Changes.{Change}
-use Rattle.mon_msg.specs.Protocol.Readings.{epoch_of, readings_of}
-use Rattle.mon_msg.specs.Protocol.State.{State}
-use Rattle.mon_types.specs.Ranks.{has}
-use Rattle.quorum_model.specs.Monitors.{Monitors}
-use Rattle.quorum_model.specs.World.{Envelope, Event}
+use Rattle.law_names.proofs.Runs.{Envelope, Event, Monitors}
+use Rattle.law_names.proofs.Table.{Change, State, epoch_of, has, readings_of}
 use Rattle.quorum_stays.proofs.Carrying.{Gives}
 use Rattle.quorum_stays.proofs.Stepping.{Did}
 use Rattle.quorum_stays.proofs.Turning.{same_carried, untouched}
 use Rattle.quorum_stays.specs.Steady.{AreApart, Carries, Follower, Leads, Noted, Reign, Round, Steady, said, to_leader, to_peon}
 use Rattle.quorum_timed.specs.Timed.{Owed, Pace, Timed, Went, at_time}
-use Rattle.std.proofs.Common.{Bool, List, Some, [], arith, drop, inl, inr, subst, sym, take, true, ℕ, ◌+◌, ◌∙◌, ◌≡◌, ◌≤◌, ◌⊎◌}
+use Rattle.std.proofs.Common.{Bool, IsSomeAnd, List, Some, [], arith, drop, inl, inr, subst, sym, take, true, ℕ, ◌+◌, ◌∙◌, ◌≡◌, ◌≤◌, ◌⊎◌}
 use Rattle.std.proofs.lemmas.Bool.{cases_eq}
-use Rattle.std.specs.Prelude.{IsSomeAnd}
 
 -- a peon in a world
 abbrev pub PeonIn : Monitors → List Bool → Pace → Reign → Round → Timed → ℕ → (ℕ → ℕ → List Owed) → Type 0

@@ -1,24 +1,15 @@
 -- A quorum stays led when a peon takes a message of its round.
+use Rattle.law_names.proofs.Runs.{Arrives, Deliver, Envelope, Monitors, message_at}
+use Rattle.law_names.proofs.Table.{AllByRecursion, Body, Change, Clients, Last, Learn, Readings, State, Vote, armed, epoch_of, has, played, promise_of, readings_of, shared_entries}
 use Rattle.mon_lease.specs.Lease as lease
-use Rattle.mon_msg.specs.Protocol.Changes.{Change, Last, Learn, Vote}
-use Rattle.mon_msg.specs.Protocol.Played.{played}
-use Rattle.mon_msg.specs.Protocol.Readings.{Readings, epoch_of, promise_of, readings_of, shared_entries}
-use Rattle.mon_msg.specs.Protocol.State.{State}
-use Rattle.mon_msg.specs.Protocol.Timers.{armed}
 use Rattle.mon_msg.specs.declared.input.Input.TheVariants as input
-use Rattle.mon_types.specs.Ranks.{has}
 use Rattle.mon_wire.specs.declared.body.Body.TheVariants as body
-use Rattle.mon_wire.specs.declared.body.Body.{Body}
 use Rattle.mon_wire.specs.declared.phase.Timer.TheVariants as timer
-use Rattle.quorum_model.specs.Meets.{message_at}
-use Rattle.quorum_model.specs.Monitors.{Monitors}
-use Rattle.quorum_model.specs.World.{Arrives, Deliver, Envelope}
 use Rattle.quorum_stays.proofs.Bounds.{by_lease, first_of, inside, leading}
 use Rattle.quorum_stays.proofs.Carrying.{Gives}
 use Rattle.quorum_stays.proofs.Onward.{here_left, lands, one_state, other_left, pack, unpack}
 use Rattle.quorum_stays.proofs.Peering.{PeonIn, one_peon}
 use Rattle.quorum_stays.proofs.Rows.{begin_row, commit_row, lease_row}
-use Rattle.mon_msg.specs.declared.clients.Clients.{Clients}
 use Rattle.quorum_stays.proofs.Serving.{Goes, aside}
 use Rattle.quorum_stays.proofs.Sharing.{IsRoute, Shares, Untouched, no_route_there, none_of}
 use Rattle.quorum_stays.proofs.States.{begun_follows, leased_follows}
@@ -30,9 +21,7 @@ use Rattle.quorum_stays.specs.Serving.{CarriesAnswer, IsForward}
 use Rattle.quorum_stays.specs.Steady.{Begun, Carries, FollowsSince, HasLease, IsItem, Item, Keeps, Leads, Noted, Reign, Round, Steady, in_reign, leased, said, to_leader, to_peon}
 use Rattle.quorum_timed.specs.Begins.{IsQuick}
 use Rattle.quorum_timed.specs.Timed.{MayBe, Owed, Pace, Timed, Went, at_time, without_first}
-use Rattle.std.proofs.Common.{Bool, List, None, Some, [], ap, arith, drop, inl, inr, refl, subst, suc, sym, take, true, zero, ℕ, ◌*◌, ◌+◌, ◌^◌, ◌∙◌, ◌∷◌, ◌≡◌, ◌≤◌}
-use Rattle.std.specs.List.{AllByRecursion}
-use Rattle.std.specs.Prelude.{IsSomeAnd, option_map}
+use Rattle.std.proofs.Common.{Bool, IsSomeAnd, List, None, Some, [], ap, arith, drop, inl, inr, option_map, refl, subst, suc, sym, take, true, zero, ℕ, ◌*◌, ◌+◌, ◌^◌, ◌∙◌, ◌∷◌, ◌≡◌, ◌≤◌}
 
 pub head_is : {A : Type 0} (x y : A) (xs ys : List A) → x ∷ xs ≡ y ∷ ys → x ≡ y
 head_is x y xs ys e = cc

@@ -1,20 +1,16 @@
 -- A quorum stays led while clients' commands are remembered and answered.
+use Rattle.law_names.proofs.Runs.{Envelope, Event, Monitors}
+use Rattle.law_names.proofs.Table.{AllByRecursion, Clients, Readings, State, epoch_of, promise_of, readings_of}
 use Rattle.mon_wire.specs.declared.phase.Phase.TheVariants as phase
-use Rattle.mon_msg.specs.Protocol.Readings.{Readings, epoch_of, promise_of, readings_of}
-use Rattle.mon_msg.specs.Protocol.State.{State}
-use Rattle.mon_msg.specs.declared.clients.Clients.{Clients}
-use Rattle.quorum_model.specs.Monitors.{Monitors}
-use Rattle.quorum_model.specs.World.{Envelope, Event}
 use Rattle.quorum_stays.proofs.Carrying.{gives_none}
-use Rattle.quorum_stays.proofs.States.{quiet_follows, quiet_lease, quiet_leads, quiet_proposes}
+use Rattle.quorum_stays.proofs.States.{quiet_follows, quiet_leads, quiet_lease, quiet_proposes}
 use Rattle.quorum_stays.proofs.Stepping.{Did}
 use Rattle.quorum_stays.proofs.Timers.{Tidy}
-use Rattle.quorum_stays.proofs.Turning.{on_state, same_carried, every_store}
+use Rattle.quorum_stays.proofs.Turning.{every_store, on_state, same_carried}
 use Rattle.quorum_stays.specs.Steady.{Begun, FollowsSince, HasLease, IsOfClients, Keeps, Leads, Noted, Reign, Round, Steady, leased}
 use Rattle.quorum_timed.proofs.Armed.{Timers}
 use Rattle.quorum_timed.specs.Timed.{Pace, Timed, Went, at_time}
-use Rattle.std.proofs.Common.{Bool, List, None, Option, Some, [], arith, ℕ, ◌+◌, ◌≡◌, ◌≤◌, refl}
-use Rattle.std.specs.List.{AllByRecursion}
+use Rattle.std.proofs.Common.{Bool, List, None, Option, Some, [], arith, refl, ℕ, ◌+◌, ◌≡◌, ◌≤◌}
 
 quiet_leading : (n : ℕ) (q : List Bool) (pace : Pace) (reign : Reign) (r : Round) (o : Option Begun) (s : State) (clients : Clients) (ts : Timers) → Tidy s.timers ts → Leads n q pace reign r o s → Leads n q pace reign r o (record s { clients = clients; timers = ts })
 quiet_leading n q pace reign r None s clients ts T F = quiet_leads reign q (r.latest + pace.clock reign.leader) s F clients ts T

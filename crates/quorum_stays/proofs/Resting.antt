@@ -1,18 +1,9 @@
 -- If nobody writes, nothing is begun.
-use Rattle.mon_msg.specs.Protocol.Readings.{readings_of}
-use Rattle.mon_msg.specs.Protocol.State.{State}
-use Rattle.mon_msg.specs.declared.clients.Waiting.{Waiting}
+use Rattle.law_names.proofs.Runs.{Arrives, Deliver, Envelope, Event, Monitors, arrival, message_at}
+use Rattle.law_names.proofs.Table.{AllByRecursion, Me, Origin, Request, Session, State, Waiting, has, readings_of}
 use Rattle.mon_msg.specs.declared.input.Input.TheVariants as input
-use Rattle.mon_msg.specs.declared.plan.Origin.{Origin}
-use Rattle.mon_msg.specs.declared.view.Me.{Me}
-use Rattle.mon_types.specs.Ranks.{has}
 use Rattle.mon_wire.specs.declared.request.Request.TheVariants as request
-use Rattle.mon_wire.specs.declared.request.Request.{Request}
-use Rattle.mon_wire.specs.declared.request.Session.{Session}
 use Rattle.quorum_model.proofs.Members.{member_of}
-use Rattle.quorum_model.specs.Meets.{arrival, message_at}
-use Rattle.quorum_model.specs.Monitors.{Monitors}
-use Rattle.quorum_model.specs.World.{Arrives, Deliver, Envelope, Event}
 use Rattle.quorum_stays.proofs.Coming.{Onward, no_call}
 use Rattle.quorum_stays.proofs.Onward.{all_left, other_left, pack}
 use Rattle.quorum_stays.proofs.Serves.{clocks_go_on}
@@ -28,11 +19,8 @@ use Rattle.quorum_stays.specs.Steady.{Carries, Item, Reign, Round, Steady}
 use Rattle.quorum_timed.specs.Begins.{IsQuick}
 use Rattle.quorum_timed.specs.Timed.{Again, Arriving, Asking, Comes, Firing, Leads, MayBe, Owed, Pace, Timed, Went, at_time, new_between, owed_by, without_first}
 use Rattle.quorum_walk.proofs.Lists.{all_append, all_get}
-use Rattle.std.proofs.Common.{Bool, IfSome, List, None, Option, Some, [], ap, arith, inl, inr, length, refl, subst, suc, sym, true, zero, ℕ, ◌+◌, ◌++◌, ◌∙◌, ◌∷◌, ◌≡◌, ◌⊎◌}
+use Rattle.std.proofs.Common.{Bool, IfSome, IsSomeAnd, List, None, Option, Some, [], ap, arith, inl, inr, length, option_map, refl, slice_get, subst, suc, sym, true, zero, ℕ, ◌++◌, ◌+◌, ◌∙◌, ◌∷◌, ◌≡◌, ◌⊎◌}
 use Rattle.std.proofs.lemmas.Bool.{cases_eq}
-use Rattle.std.specs.List.{AllByRecursion}
-use Rattle.std.specs.Option.{option_map}
-use Rattle.std.specs.Prelude.{IsSomeAnd, slice_get}
 
 -- ---- what is under way
 

@@ -1,17 +1,14 @@
 -- A message under way, until it arrives.
-use Rattle.quorum_model.specs.Meets.{message_at}
-use Rattle.quorum_model.specs.Monitors.{Monitors}
-use Rattle.quorum_model.specs.World.{Arrives, Deliver, Envelope, Event}
+use Rattle.law_names.proofs.Runs.{Arrives, Deliver, Envelope, Event, Monitors, message_at}
+use Rattle.law_names.proofs.Table.{AllByRecursion, enumerate_from}
 use Rattle.quorum_stays.proofs.Carrying.{more_messages}
 use Rattle.quorum_stays.proofs.Onward.{here_left, other_left}
 use Rattle.quorum_stays.proofs.UnderWay.{all_numbers, all_owed, new_are, new_there, numbers}
 use Rattle.quorum_timed.specs.Timed.{Again, Arriving, Asking, Comes, Firing, Owed, Pace, Timed, Went, at_time, new_between, owed_by, without_first}
 use Rattle.quorum_walk.proofs.Lists.{all_append}
-use Rattle.std.proofs.Common.{Bool, List, None, Option, Some, [], ap, arith, eqb, inl, inr, length, map, refl, subst, suc, sym, ℕ, ◌&&◌, ◌+◌, ◌++◌, ◌∙◌, ◌∷◌, ◌≡◌, ◌≤◌, ◌⊎◌}
+use Rattle.std.proofs.Common.{Bool, IsSomeAnd, List, None, Option, Some, [], ap, arith, eqb, filter, inl, inr, length, map, refl, slice_get, subst, suc, sym, ℕ, ◌&&◌, ◌++◌, ◌+◌, ◌∙◌, ◌∷◌, ◌≡◌, ◌≤◌, ◌⊎◌}
 use Rattle.std.proofs.lemmas.Bool.{cases_eq, cond_both, eq-eqb}
 use Rattle.std.proofs.lemmas.List.{append_assoc, map-append}
-use Rattle.std.specs.List.{AllByRecursion, enumerate_from}
-use Rattle.std.specs.Prelude.{IsSomeAnd, filter, slice_get}
 
 -- o is among these, and P holds of those before it
 pub record Rides (P : Owed → Type 0) (os : List Owed) (o : Owed) : Type 0 where

@@ -1,35 +1,19 @@
 -- What a leader and a peon do in a round, as equations.
-use Rattle.mon_bytes.specs.declared.entry.Entry.{Entry}
+use Rattle.law_names.proofs.Runs.{Monitors}
+use Rattle.law_names.proofs.Table.{Course, Entry, Last, Learn, Me, Op, Phase, Readings, State, Vote, answers_to, are_within, arm, armed, at_rest, be_active, cancel, change, change_all, disarmed, end_of, epoch_of, extend, has, is_empty, leader_is, members, message_to, only, only_ping, pending, peon_is, played, promise_of, react, send, with_rank, ◌▸◌}
 use Rattle.mon_lease.specs.Lease as lease
-use Rattle.mon_msg.specs.Protocol.Changes.{Last, Learn, Vote}
-use Rattle.mon_msg.specs.Protocol.Course.{Course, arm, change, change_all, disarm_if, leader_is, peon_is, ◌▸◌}
-use Rattle.mon_msg.specs.Protocol.Leading.{be_active, extend}
-use Rattle.mon_msg.specs.Protocol.Peon.{cancel}
-use Rattle.mon_msg.specs.Protocol.Played.{played}
-use Rattle.mon_msg.specs.Protocol.Readings.{Readings, epoch_of, promise_of}
-use Rattle.mon_msg.specs.Protocol.Records.{pending}
-use Rattle.mon_msg.specs.Protocol.Sending.{answers_to, members, message_to, send}
-use Rattle.mon_msg.specs.Protocol.Sets.{are_within, is_empty, only}
-use Rattle.mon_msg.specs.Protocol.State.{State}
-use Rattle.mon_msg.specs.Protocol.Table.{at_rest, react}
-use Rattle.mon_msg.specs.Protocol.Timers.{armed, disarmed, end_of, only_ping}
+use Rattle.mon_msg.specs.Protocol.Course.{disarm_if}
 use Rattle.mon_msg.specs.declared.input.Input.TheVariants as input
 use Rattle.mon_msg.specs.declared.paxos.LeaderStage.TheVariants as stage
-use Rattle.mon_msg.specs.declared.view.Me.{Me}
-use Rattle.mon_tx.specs.declared.op.Op.{Op}
-use Rattle.mon_types.specs.Ranks.{has, with_rank}
 use Rattle.mon_wire.specs.declared.body.Body.TheVariants as body
 use Rattle.mon_wire.specs.declared.phase.Phase.TheVariants as phase
 use Rattle.mon_wire.specs.declared.phase.Timer.TheVariants as timer
 use Rattle.mon_wire.specs.declared.reply.Reply.TheVariants as reply
 use Rattle.quorum_model.proofs.Members.{member_of}
-use Rattle.quorum_model.specs.Monitors.{Monitors}
 use Rattle.quorum_stays.proofs.Timers.{extended_timers, maybe_armed}
+use Rattle.std.proofs.Common.{Bool, List, None, Ok, Some, [], ap, false, inl, inr, is_some, ltb, map, not, refl, subst, suc, sym, true, ℕ, ◌++◌, ◌^◌, ◌∙◌, ◌∷◌, ◌≡◌, ◌≤◌, ◌⊎◌}
 use Rattle.table_rows.proofs.Hearing.{IsLeader, IsMember}
 use Rattle.table_rows.proofs.Serving as rows
-use Rattle.std.proofs.Common.{Bool, List, None, Ok, Some, [], false, inr, ltb, map, not, refl, suc, true, ℕ, ◌++◌, ◌^◌, ◌∙◌, ◌∷◌, ◌≡◌, ◌≤◌, ap, inl, subst, sym, ◌⊎◌}
-use Rattle.std.specs.Prelude.{is_some}
-use Rattle.mon_wire.specs.declared.phase.Phase.{Phase}
 
 module _ (ms : Monitors) (i : ℕ) (lt : ltb i ms.count ≡ true) (sh : List Entry) (now : ℕ) (w : Readings) (s : State) where
   abbrev me : Me

@@ -1,18 +1,10 @@
 -- What a leader sends to each member of its quorum.
-use Rattle.mon_msg.specs.Protocol.Sending.{members, message_to}
-use Rattle.mon_msg.specs.Protocol.Sets.{is_empty}
-use Rattle.mon_msg.specs.declared.view.Me.{Me}
-use Rattle.mon_types.specs.Ranks.{has}
-use Rattle.mon_wire.specs.declared.body.Body.{Body}
-use Rattle.quorum_model.specs.Clients.{messages_of}
-use Rattle.quorum_model.specs.Monitors.{Monitors}
-use Rattle.quorum_model.specs.World.{Envelope}
+use Rattle.law_names.proofs.Runs.{Envelope, Monitors, messages_of}
+use Rattle.law_names.proofs.Table.{AllByRecursion, Body, Me, has, is_empty, members, message_to, range_with_len}
 use Rattle.quorum_stays.proofs.Carrying.{Gives}
 use Rattle.quorum_stays.specs.Steady.{Reign}
-use Rattle.std.proofs.Common.{Bool, List, [], arith, eqb, false, filter, inl, inr, map, not, refl, subst, suc, sym, true, zero, ℕ, ◌&&◌, ◌+◌, ◌<◌, ◌∙◌, ◌∷◌, ◌≡◌, ◌≤◌, ◌⊎◌}
+use Rattle.std.proofs.Common.{Bool, List, [], arith, cond, eqb, false, filter, inl, inr, map, not, refl, subst, suc, sym, true, zero, ℕ, ◌&&◌, ◌+◌, ◌<◌, ◌∙◌, ◌∷◌, ◌≡◌, ◌≤◌, ◌⊎◌}
 use Rattle.std.proofs.lemmas.Bool.{and_parts, cases_eq, cond_both, eq-eqb, false≢true, ne_eqb, not-true}
-use Rattle.std.specs.List.{AllByRecursion, range_with_len}
-use Rattle.std.specs.Prelude.{cond}
 
 abbrev pub each : Me → (e : ℕ) → Body → List ℕ → List Envelope
 each me e b ks = messages_of (map (message_to me e b) ks)

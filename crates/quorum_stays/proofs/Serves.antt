@@ -1,20 +1,11 @@
 -- Each command that the leader is asked is answered in time.
-use Rattle.mon_msg.specs.Protocol.Phases.{is_leading}
-use Rattle.mon_msg.specs.Protocol.Readings.{Readings, readings_of}
-use Rattle.mon_msg.specs.Protocol.State.{State}
-use Rattle.mon_msg.specs.Protocol.Timers.{end_of}
-use Rattle.mon_msg.specs.declared.clients.Waiting.{Waiting}
+use Rattle.law_names.proofs.Runs.{Arrives, Client, Event, Monitors}
+use Rattle.law_names.proofs.Table.{Me, Origin, Readings, Request, Session, State, Waiting, end_of, is_leading, readings_of}
 use Rattle.mon_msg.specs.declared.input.Input.TheVariants as input
 use Rattle.mon_msg.specs.declared.plan.Origin.TheVariants as origin
-use Rattle.mon_msg.specs.declared.plan.Origin.{Origin}
-use Rattle.mon_msg.specs.declared.view.Me.{Me}
 use Rattle.mon_wire.specs.declared.phase.Timer.TheVariants as timer
 use Rattle.mon_wire.specs.declared.request.Request.TheVariants as request
-use Rattle.mon_wire.specs.declared.request.Request.{Request}
-use Rattle.mon_wire.specs.declared.request.Session.{Session}
 use Rattle.quorum_model.proofs.Members.{member_of}
-use Rattle.quorum_model.specs.Monitors.{Monitors}
-use Rattle.quorum_model.specs.World.{Arrives, Client, Event}
 use Rattle.quorum_stays.proofs.Growing.{comes_grew, leads_grew, served_earlier, served_later}
 use Rattle.quorum_stays.proofs.Onward.{one_state, pack, unpack}
 use Rattle.quorum_stays.proofs.Serving.{Answered, Answers, Armed, Began, Committed, Kept, Queued, Refused, Renewed, Rests, Served, Turn}
@@ -26,9 +17,8 @@ use Rattle.quorum_stays.specs.Serving.{Attends, IsServed, answer_time}
 use Rattle.quorum_stays.specs.Steady.{Begun, Leads, Reign, Round, Steady}
 use Rattle.quorum_timed.specs.Begins.{IsQuick}
 use Rattle.quorum_timed.specs.Timed.{Leads as LeadsTo, MayBe, Pace, Timed, at_time}
-use Rattle.std.proofs.Common.{Bool, List, None, Option, Some, [], ap, arith, inl, inr, length, refl, subst, suc, sym, true, zero, ℕ, ◌*◌, ◌+◌, ◌++◌, ◌<◌, ◌∙◌, ◌∷◌, ◌≡◌, ◌≤◌, ◌⊎◌}
+use Rattle.std.proofs.Common.{Bool, IfSome, IsSomeAnd, List, None, Option, Some, [], ap, arith, inl, inr, length, refl, subst, suc, sym, true, zero, ℕ, ◌*◌, ◌++◌, ◌+◌, ◌<◌, ◌∙◌, ◌∷◌, ◌≡◌, ◌≤◌, ◌⊎◌}
 use Rattle.std.proofs.lemmas.Bool.{cases_eq}
-use Rattle.std.specs.Prelude.{IfSome, IsSomeAnd}
 
 -- ---- how long 64 places take
 

@@ -1,37 +1,22 @@
 -- What an event makes of the commands that wait at the leader.
-use Rattle.mon_msg.specs.Protocol.Changes.{Change}
-use Rattle.mon_msg.specs.Protocol.Readings.{readings_of}
-use Rattle.mon_msg.specs.Protocol.Sending.{answer_to}
-use Rattle.mon_msg.specs.Protocol.State.{State}
-use Rattle.mon_msg.specs.Protocol.Timers.{end_of}
-use Rattle.mon_msg.specs.declared.clients.Waiting.{Waiting}
+use Rattle.law_names.proofs.Runs.{Arrival, Arrives, Envelope, Event, Monitors, Plain, Replied, World, arrival, messages_of, replies_of}
+use Rattle.law_names.proofs.Table.{AllByRecursion, Change, Clients, Origin, Reply, Sent, State, Store, Waiting, answer_to, end_of, readings_of}
 use Rattle.mon_msg.specs.declared.plan.Origin.TheVariants as origin
-use Rattle.mon_msg.specs.declared.plan.Origin.{Origin}
 use Rattle.mon_msg.specs.declared.plan.Sent.TheVariants as sent
-use Rattle.mon_msg.specs.declared.plan.Sent.{Sent}
-use Rattle.mon_tx.specs.Map.{Store}
 use Rattle.mon_wire.specs.declared.body.Body.TheVariants as body
 use Rattle.mon_wire.specs.declared.phase.Timer.TheVariants as timer
-use Rattle.mon_wire.specs.declared.reply.Reply.{Reply}
 use Rattle.quorum_model.proofs.Members.{member_of}
-use Rattle.quorum_model.specs.Clients.{messages_of, replies_of}
-use Rattle.quorum_model.specs.Meets.{Arrival, arrival}
-use Rattle.quorum_model.specs.Monitors.{Monitors}
-use Rattle.quorum_model.specs.World.{Arrives, Envelope, Event, Plain, Replied, World}
 use Rattle.quorum_stays.proofs.Outcomes.{HandsOnNone, RoutesAnswer}
-use Rattle.mon_msg.specs.declared.clients.Clients.{Clients}
 use Rattle.quorum_stays.proofs.Sharing.{HandsOnNoneOf, Shares, elsewhere}
 use Rattle.quorum_stays.proofs.Stepping.{Did}
 use Rattle.quorum_stays.proofs.Taking.{taken_by, taken_elsewhere, taken_from, taken_nowhere}
 use Rattle.quorum_stays.specs.Serving.{CarriesAnswer, IsAnswer, IsForward, IsServed, Writes}
 use Rattle.quorum_stays.specs.Steady.{Begun, Reign, Round, Steady, in_reign}
 use Rattle.quorum_timed.specs.Timed.{Pace, Timed}
-use Rattle.std.proofs.Common.{Bool, List, None, Option, Some, [], ap, inl, inr, length, ltb, refl, subst, sym, true, ℕ, ◌+◌, ◌++◌, ◌<◌, ◌∙◌, ◌∷◌, ◌≡◌, ◌≤◌, ◌⊎◌}
+use Rattle.std.proofs.Common.{Bool, List, None, Option, Some, [], ap, inl, inr, length, ltb, refl, slice_index_or, subst, sym, true, ℕ, ◌++◌, ◌+◌, ◌<◌, ◌∙◌, ◌∷◌, ◌≡◌, ◌≤◌, ◌⊎◌}
+use Rattle.std.proofs.lemmas.Bool.{cases_eq}
 use Rattle.std.proofs.lemmas.List.Elements.{filter_map-append}
 use Rattle.std.proofs.lemmas.List.{append_assoc}
-use Rattle.std.proofs.lemmas.Bool.{cases_eq}
-use Rattle.std.specs.List.{AllByRecursion}
-use Rattle.std.specs.Prelude.{slice_index_or}
 
 -- ---- answers
 

@@ -1,29 +1,15 @@
 -- What an event makes of the sessions that wait at a peon.
-use Rattle.mon_msg.specs.Protocol.Changes.{Change}
-use Rattle.mon_msg.specs.Protocol.State.{State}
-use Rattle.mon_msg.specs.declared.clients.Asked.{Asked}
+use Rattle.law_names.proofs.Runs.{Arrival, Arrives, Client, Deliver, Envelope, Event, Monitors, Plain, Replied, Ring, Start, World, arrival, message_at, replies_of}
+use Rattle.law_names.proofs.Table.{AllByRecursion, Asked, Body, Change, Command, Reply, Sent, Session, State, Store}
 use Rattle.mon_msg.specs.declared.plan.Sent.TheVariants as sent
-use Rattle.mon_msg.specs.declared.plan.Sent.{Sent}
-use Rattle.mon_tx.specs.Map.{Store}
-use Rattle.mon_bytes.specs.declared.command.Command.{Command}
 use Rattle.mon_wire.specs.declared.body.Body.TheVariants as body
-use Rattle.mon_wire.specs.declared.body.Body.{Body}
-use Rattle.mon_wire.specs.declared.reply.Reply.{Reply}
-use Rattle.mon_wire.specs.declared.request.Session.{Session}
-use Rattle.quorum_model.specs.Clients.{replies_of}
-use Rattle.quorum_model.specs.Meets.{Arrival, arrival, message_at}
-use Rattle.quorum_model.specs.Monitors.{Monitors}
-use Rattle.quorum_model.specs.World.{Arrives, Client, Deliver, Envelope, Event, Plain, Replied, Ring, Start, World}
 use Rattle.quorum_stays.proofs.Stepping.{Did, brought}
 use Rattle.quorum_stays.specs.Reading.{Reads}
 use Rattle.quorum_stays.specs.Serving.{IsAnswer, IsForward, IsServed}
 use Rattle.quorum_stays.specs.Steady.{Reign, in_reign}
 use Rattle.quorum_walk.proofs.Lists.{Among}
-use Rattle.std.proofs.Common.{List, Option, Some, [], ap, filter, inl, inr, map, not, refl, subst, suc, sym, ℕ, ◌++◌, ◌∙◌, ◌∷◌, ◌≡◌}
+use Rattle.std.proofs.Common.{List, Option, Some, [], ap, filter, inl, inr, map, not, option_map, refl, subst, suc, sym, ℕ, ◌++◌, ◌==◌, ◌∙◌, ◌∷◌, ◌≡◌}
 use Rattle.std.proofs.lemmas.List.{append_assoc}
-use Rattle.std.specs.List.{AllByRecursion}
-use Rattle.std.specs.Option.{option_map}
-use Rattle.std.specs.Prelude.{◌==◌}
 
 -- the event is a command that this session asks of monitor f
 abbrev pub AsksOf : Event → (f : ℕ) → Session → Type 0

@@ -1,16 +1,8 @@
 -- What a leader and its peons remember after each event of a round.
+use Rattle.law_names.proofs.Table.{Clients, LeaderStage, Op, Origin, Phase, State, Timer, are_within, armed, disarmed, end_of, has, index_of, list_all, no_ranks, only, only_ping, range_with_len, with_rank}
 use Rattle.mon_lease.specs.Lease as lease
-use Rattle.mon_msg.specs.Protocol.Sets.{are_within, only}
-use Rattle.mon_msg.specs.Protocol.State.{State}
-use Rattle.mon_msg.specs.Protocol.Timers.{armed, disarmed, end_of, index_of, only_ping}
-use Rattle.mon_msg.specs.declared.clients.Clients.{Clients}
-use Rattle.mon_msg.specs.declared.paxos.LeaderStage.{LeaderStage}
-use Rattle.mon_msg.specs.declared.plan.Origin.{Origin}
-use Rattle.mon_tx.specs.declared.op.Op.{Op}
-use Rattle.mon_types.specs.Ranks.{has, no_ranks, with_rank}
 use Rattle.mon_wire.specs.declared.phase.Phase.TheVariants as phase
 use Rattle.mon_wire.specs.declared.phase.Timer.TheVariants as timer
-use Rattle.mon_wire.specs.declared.phase.Timer.{Timer}
 use Rattle.quorum_stays.proofs.Timers.{Extended, Tidy, armed_size, disarmed_size, ends, no_end, off, one_end, only_ping_is, same_kind_or, still_ends, still_on}
 use Rattle.quorum_stays.specs.Steady.{FollowsSince, HasLease, LeadsSince, ProposesSince, Reign, Round}
 use Rattle.quorum_timed.proofs.Armed.{Timers}
@@ -18,8 +10,6 @@ use Rattle.quorum_walk.proofs.Ranks.{has_only, has_only_is, has_with, within_at}
 use Rattle.std.proofs.Common.{Bool, List, None, Some, [], ap, arith, cond, false, inl, inr, length, not, refl, subst, suc, sym, true, zero, ℕ, ◌&&◌, ◌+◌, ◌<◌, ◌^◌, ◌||◌, ◌∙◌, ◌∷◌, ◌≡◌, ◌≤◌}
 use Rattle.std.proofs.lemmas.Bool.{false≢true}
 use Rattle.std.proofs.lemmas.List.{length-set}
-use Rattle.std.specs.List.{list_all, range_with_len}
-use Rattle.mon_wire.specs.declared.phase.Phase.{Phase}
 
 -- kinds are told apart by their numbers
 unlike : (a b : Timer) → (index_of a ≡ index_of b → ⊥) → a ≡ b → ⊥

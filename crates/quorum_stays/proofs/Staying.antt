@@ -1,27 +1,15 @@
 -- A quorum that is led stays led, whatever clients ask.
-use Rattle.mon_bytes.specs.declared.entry.Entry.{Entry}
-use Rattle.mon_msg.specs.Protocol.Phases.{same_phase}
-use Rattle.mon_msg.specs.Protocol.Readings.{Readings, readings_of, shared_entries}
-use Rattle.mon_msg.specs.Protocol.State.{State}
-use Rattle.mon_msg.specs.Protocol.Timers.{end_of}
-use Rattle.mon_msg.specs.declared.clients.Clients.{Clients}
-use Rattle.mon_msg.specs.declared.clients.Waiting.{Waiting}
-use Rattle.mon_msg.specs.declared.plan.Origin.{Origin}
-use Rattle.mon_msg.specs.declared.view.Me.{Me}
-use Rattle.mon_types.specs.Ranks.{has, with_rank}
-use Rattle.mon_msg.specs.Protocol.Sets.{are_within}
+use Rattle.law_names.proofs.Runs.{Arrives, Deliver, Event, Monitors, Ring}
+use Rattle.law_names.proofs.Table.{Clients, Entry, Me, Origin, Readings, State, Timer, Waiting, are_within, end_of, has, readings_of, same_phase, shared_entries, with_rank}
 use Rattle.mon_wire.specs.declared.body.Body.TheVariants as body
 use Rattle.mon_wire.specs.declared.phase.Phase.TheVariants as phase
-use Rattle.mon_wire.specs.declared.phase.Timer.{Timer}
 use Rattle.quorum_model.proofs.Members.{member_of}
-use Rattle.quorum_model.specs.Monitors.{Monitors}
-use Rattle.quorum_model.specs.World.{Arrives, Deliver, Event, Ring}
 use Rattle.quorum_stays.proofs.Bounds.{by_progress, by_renewal, leading}
+use Rattle.quorum_stays.proofs.Carrying.{carries_later}
 use Rattle.quorum_stays.proofs.Coming.{Handles, Onward, Stays, handled, onward, still}
 use Rattle.quorum_stays.proofs.Committing.{commits_all}
 use Rattle.quorum_stays.proofs.Giving.{renews, value_begins}
 use Rattle.quorum_stays.proofs.Leaders.{accept_comes, ack_comes, late_ack_comes, sent_few, two_answers}
-use Rattle.quorum_stays.proofs.Carrying.{carries_later}
 use Rattle.quorum_stays.proofs.Onward.{one_state}
 use Rattle.quorum_stays.proofs.Outcomes.{AtOnce, Next, Start}
 use Rattle.quorum_stays.proofs.Peering.{PeonIn}
@@ -32,9 +20,8 @@ use Rattle.quorum_stays.specs.Reading.{ClocksGoOn}
 use Rattle.quorum_stays.specs.Steady.{Begun, Carries, IsItem, Item, LeadsSince, Proposes, Reign, Round, Steady, item, said, to_leader, to_peon}
 use Rattle.quorum_timed.specs.Begins.{IsQuick}
 use Rattle.quorum_timed.specs.Timed.{Again, Arriving, Asking, Comes, Firing, Leads as LeadsTo, MayBe, Owed, Pace, Timed, Went, at_time, without_first}
-use Rattle.std.proofs.Common.{Bool, List, None, Option, Some, [], ap, arith, drop, false, inl, inr, refl, subst, suc, sym, take, true, zero, ℕ, ◌*◌, ◌+◌, ◌<◌, ◌∙◌, ◌∷◌, ◌≡◌, ◌≤◌, ◌⊎◌}
+use Rattle.std.proofs.Common.{Bool, IsSomeAnd, List, None, Option, Some, [], ap, arith, drop, false, inl, inr, refl, subst, suc, sym, take, true, zero, ℕ, ◌*◌, ◌+◌, ◌<◌, ◌∙◌, ◌∷◌, ◌≡◌, ◌≤◌, ◌⊎◌}
 use Rattle.std.proofs.lemmas.Bool.{false≢true}
-use Rattle.std.specs.Prelude.{IsSomeAnd}
 
 -- whose command is begun
 started : (me : Me) (sh : List Entry) (now : ℕ) (w : Readings) (s : State) (taken : Option Origin) (from : Origin) (clients : Clients) → Start me sh now w s taken from clients

@@ -1,29 +1,11 @@
 -- What an event makes of the world: of the monitor that reacts, of its store, and of what is sent.
-use Rattle.mon_kv.specs.Readers.{most_size, size_of}
-use Rattle.mon_msg.specs.Joined.{joined}
+use Rattle.law_names.proofs.Runs.{Arrival, Arrives, Envelope, Full, Meeting, Monitors, Plain, Reacts, Stop, World, after_meeting, arrival, happens, in_world, map_after, meeting, meeting_at, meets, messages_of, most_size, moved, replies_of, size_of, state_at}
+use Rattle.law_names.proofs.Table.{AllByRecursion, Change, Course, Fits, Input, Me, Reaction, State, Store, Which, any_reaction, apply, encoded, joined, played, react, reaction_of, readings_of, shared_entries}
 use Rattle.mon_msg.proofs.Changed.{readings-joined}
-use Rattle.mon_msg.specs.Protocol.Changes.{Change, encoded}
-use Rattle.mon_msg.specs.Protocol.Course.{Course}
-use Rattle.mon_msg.specs.Protocol.Played.{Fits, played}
-use Rattle.mon_msg.specs.Protocol.Reaction.{Reaction, any_reaction, reaction_of}
-use Rattle.mon_msg.specs.Protocol.Readings.{readings_of, shared_entries}
-use Rattle.mon_msg.specs.Protocol.State.{State}
-use Rattle.mon_msg.specs.Protocol.Table.{react}
 use Rattle.mon_msg.specs.declared.input.Input.TheVariants as input
-use Rattle.mon_msg.specs.declared.input.Input.{Input}
-use Rattle.mon_msg.specs.declared.view.Me.{Me}
-use Rattle.mon_tx.specs.Map.{Store, apply}
-use Rattle.mon_types.specs.declared.names.Which.{Which}
 use Rattle.quorum_model.proofs.Members.{me_is, member_of}
-use Rattle.quorum_model.specs.Clients.{messages_of, replies_of}
-use Rattle.quorum_model.specs.Happens.{Full, Stop, after_meeting, happens, in_world, map_after, moved}
-use Rattle.quorum_model.specs.Meets.{Arrival, Meeting, Reacts, arrival, meeting, meeting_at, meets, state_at}
-use Rattle.quorum_model.specs.Monitors.{Monitors}
-use Rattle.quorum_model.specs.World.{Arrives, Envelope, Plain, World}
-use Rattle.std.proofs.Common.{Err, List, Ok, Option, Result, Some, ap, ltb, refl, subst, suc, sym, true, ℕ, ◌++◌, ◌∙◌, ◌≡◌}
+use Rattle.std.proofs.Common.{Err, List, Ok, Option, Result, Some, ap, ltb, nat_lt, refl, subst, suc, sym, true, ℕ, ◌++◌, ◌∙◌, ◌≡◌}
 use Rattle.std.proofs.lemmas.Bool.{cond_both, eq-eqb, ne_eqb}
-use Rattle.std.specs.List.{AllByRecursion}
-use Rattle.std.specs.Prelude.{nat_lt}
 
 -- a message that comes to its receiver
 abbrev pub brought : (at : ℕ) → Envelope → Arrival

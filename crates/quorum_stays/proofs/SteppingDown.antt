@@ -1,32 +1,15 @@
 -- A leader that lost a monitor of its quorum steps down.
-use Rattle.mon_lease.specs.Lease.{stands}
-use Rattle.mon_msg.specs.Protocol.Course.{Course}
-use Rattle.mon_msg.specs.Protocol.Leader.{is_one_of}
-use Rattle.mon_msg.specs.Protocol.Leading.{is_alone}
-use Rattle.mon_msg.specs.Protocol.Phases.{is_leading, is_peon}
-use Rattle.mon_msg.specs.Protocol.Readings.{or_zero, readings_of, shared_entries}
-use Rattle.mon_msg.specs.Protocol.State.{State, lease_of}
-use Rattle.mon_msg.specs.Protocol.Timers.{end_of, is_armed}
+use Rattle.law_names.proofs.Runs.{Arrives, Client, Deliver, Envelope, Event, Monitors, World, message_at}
+use Rattle.law_names.proofs.Table.{Course, Input, Me, Message, Phase, Request, Session, State, Timer, end_of, has, is_alone, is_armed, is_leading, is_one_of, is_peon, lease_of, or_zero, readings_of, shared_entries, stands}
 use Rattle.mon_msg.specs.declared.input.Input.TheVariants as input
-use Rattle.mon_msg.specs.declared.input.Input.{Input}
-use Rattle.mon_msg.specs.declared.view.Me.{Me}
-use Rattle.mon_types.specs.Ranks.{has}
-use Rattle.mon_wire.specs.declared.message.Message.{Message}
 use Rattle.mon_wire.specs.declared.phase.Phase.TheVariants as phase
-use Rattle.mon_wire.specs.declared.phase.Phase.{Phase}
 use Rattle.mon_wire.specs.declared.phase.Timer.TheVariants as timer
-use Rattle.mon_wire.specs.declared.phase.Timer.{Timer}
-use Rattle.mon_wire.specs.declared.request.Request.{Request}
-use Rattle.mon_wire.specs.declared.request.Session.{Session}
 use Rattle.quorum_model.proofs.Members.{me_is, member_of}
-use Rattle.quorum_model.specs.Meets.{message_at}
-use Rattle.quorum_model.specs.Monitors.{Monitors}
-use Rattle.quorum_model.specs.World.{Arrives, Client, Deliver, Envelope, Event, World}
+use Rattle.quorum_stays.proofs.DownActs.{Awaits, LeaseBy, MayBegin, Serves, Stays, Terms, accepting, acknowledging, alone_lacks, of_serving, proposing, renewing}
+use Rattle.quorum_stays.proofs.DownTable.{Fits, reacts_stepping}
 use Rattle.quorum_stays.proofs.Leaving.{parts}
 use Rattle.quorum_stays.proofs.Moving.{AllGo, AtMember, Brought, IsSent, lt, moves}
 use Rattle.quorum_stays.proofs.Onward.{one_state, pack, unpack}
-use Rattle.quorum_stays.proofs.DownActs.{Awaits, LeaseBy, MayBegin, Serves, Stays, Terms, accepting, acknowledging, alone_lacks, of_serving, proposing, renewing}
-use Rattle.quorum_stays.proofs.DownTable.{Fits, reacts_stepping}
 use Rattle.quorum_stays.specs.Reading.{Reads}
 use Rattle.quorum_stays.specs.Serving.{IsForward}
 use Rattle.quorum_stays.specs.SteppingDown.{BringsNone, EachIs, ServesWith, StepsDown, serving}
@@ -36,10 +19,9 @@ use Rattle.quorum_timed.specs.Begins.{Begins}
 use Rattle.quorum_timed.specs.Timed.{Leads, MayBe, Pace, Timed, at_time}
 use Rattle.quorum_timed.specs.Waiting.{Waits, leads_alone, timer_of}
 use Rattle.quorum_walk.proofs.Walk.{Then}
-use Rattle.std.proofs.Common.{Bool, List, None, Ok, Option, Some, [], ap, arith, cond, false, inl, inr, refl, subst, sym, true, ℕ, ◌&&◌, ◌*◌, ◌+◌, ◌<◌, ◌||◌, ◌∙◌, ◌∷◌, ◌≡◌, ◌≤◌, ◌⊎◌}
+use Rattle.std.proofs.Common.{Bool, IfSome, IsSomeAnd, List, None, Ok, Option, Some, [], ap, arith, cond, false, inl, inr, is_some, refl, subst, sym, true, ℕ, ◌&&◌, ◌*◌, ◌+◌, ◌<◌, ◌||◌, ◌∙◌, ◌∷◌, ◌≡◌, ◌≤◌, ◌⊎◌}
 use Rattle.std.proofs.Math.Bool.{Bool-set}
 use Rattle.std.proofs.lemmas.Bool.{cases_eq, false≢true, le-ltb, lt-ltb}
-use Rattle.std.specs.Prelude.{IfSome, IsSomeAnd, is_some}
 
 -- ---- timers
 

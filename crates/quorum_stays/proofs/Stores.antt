@@ -1,15 +1,10 @@
 -- What a member's store keeps after a vote, and after it learned a value.
+use Rattle.law_names.proofs.Table.{Last, Learn, Op, Readings, epoch_of, epoch_or_first, or_zero, pending, pending_of, play, played, promise_of}
 use Rattle.log_model.proofs.AnyValue.{value_spares}
-use Rattle.mon_msg.specs.Protocol.Changes.{Last, Learn}
-use Rattle.mon_msg.specs.Protocol.Played.{play, played}
-use Rattle.mon_msg.specs.Protocol.Readings.{Readings, epoch_of, epoch_or_first, or_zero, promise_of}
-use Rattle.mon_msg.specs.Protocol.Records.{pending, pending_of}
-use Rattle.mon_tx.specs.declared.op.Op.{Op}
 use Rattle.quorum_stays.specs.Steady.{IsOfCommand}
 use Rattle.quorum_walk.proofs.Sparing.{Own, learned_own, own_of}
-use Rattle.std.proofs.Common.{List, [], ap, arith, false, refl, suc, ℕ, ◌∷◌, ◌≡◌}
+use Rattle.std.proofs.Common.{List, [], ap, arith, false, is_some, refl, suc, ℕ, ◌∷◌, ◌≡◌}
 use Rattle.std.proofs.lemmas.Bool.{ne_eqb}
-use Rattle.std.specs.Prelude.{is_some}
 
 -- a value that was accepted for no later version isn't pending
 pub settled : (w : Readings) → w.pending_v ≡ w.last → is_some (pending w) ≡ false

@@ -1,29 +1,14 @@
 -- Whether the leader takes a command from what an event brings.
-use Rattle.mon_msg.specs.Protocol.Leader.{of_member}
-use Rattle.mon_msg.specs.Protocol.Hearing.{is_heard}
-use Rattle.mon_msg.specs.Protocol.Phases.{is_leading}
-use Rattle.mon_msg.specs.Protocol.Readings.{Readings, readings_of}
-use Rattle.mon_msg.specs.Protocol.State.{State}
-use Rattle.mon_msg.specs.Protocol.Table.{at_rest}
+use Rattle.law_names.proofs.Runs.{Arrival, Arrives, Event, World, arrival}
+use Rattle.law_names.proofs.Table.{Body, Input, Me, Message, Origin, Phase, Readings, Request, Session, State, at_rest, is_heard, is_leading, of_member, readings_of}
 use Rattle.mon_msg.specs.declared.input.Input.TheVariants as input
-use Rattle.mon_msg.specs.declared.input.Input.{Input}
 use Rattle.mon_msg.specs.declared.plan.Origin.TheVariants as origin
-use Rattle.mon_msg.specs.declared.plan.Origin.{Origin}
-use Rattle.mon_msg.specs.declared.view.Me.{Me}
 use Rattle.mon_wire.specs.declared.body.Body.TheVariants as body
-use Rattle.mon_wire.specs.declared.body.Body.{Body}
-use Rattle.mon_wire.specs.declared.message.Message.{Message}
 use Rattle.mon_wire.specs.declared.phase.Phase.TheVariants as phase
-use Rattle.mon_wire.specs.declared.phase.Phase.{Phase}
 use Rattle.mon_wire.specs.declared.request.Request.TheVariants as request
-use Rattle.mon_wire.specs.declared.request.Request.{Request}
-use Rattle.mon_wire.specs.declared.request.Session.{Session}
-use Rattle.quorum_model.specs.Meets.{Arrival, arrival}
-use Rattle.quorum_model.specs.World.{Arrives, Event, World}
 use Rattle.quorum_stays.specs.Serving.{IsForward}
-use Rattle.std.proofs.Common.{Bool, List, None, Option, Some, [], ap, eqb, ltb, refl, ℕ, ◌&&◌, ◌∙◌, ◌∷◌, ◌≡◌}
+use Rattle.std.proofs.Common.{Bool, List, None, Option, Some, [], ap, cond, eqb, ltb, refl, slice_index_or, ℕ, ◌&&◌, ◌∙◌, ◌∷◌, ◌≡◌}
 use Rattle.std.proofs.lemmas.Bool.{cond_both, eq-eqb, ne_eqb}
-use Rattle.std.specs.Prelude.{cond, slice_index_or}
 
 -- a monitor that leads, in each of its phases
 abbrev pub leading : List Phase

@@ -1,15 +1,13 @@
 -- When timers end after one of them was armed or disarmed.
-use Rattle.mon_msg.specs.Protocol.Sets.{is_empty}
-use Rattle.mon_msg.specs.Protocol.Timers.{armed, armed_once, disarmed, end_of, index_of, is_armed, length_of, only_ping}
+use Rattle.law_names.proofs.Table.{Timer, armed, disarmed, end_of, index_of, is_armed, is_empty, length_of, only_ping}
+use Rattle.mon_msg.specs.Protocol.Timers.{armed_once}
 use Rattle.mon_wire.specs.declared.phase.Timer.TheVariants as timer
-use Rattle.mon_wire.specs.declared.phase.Timer.{Timer}
 use Rattle.quorum_timed.proofs.Armed.{Timers, at_place, elsewhere}
-use Rattle.std.proofs.Common.{Bool, List, None, Option, Some, [], ap, arith, cond, false, inl, inr, length, min, not, refl, subst, sym, true, ℕ, ◌+◌, ◌^◌, ◌∙◌, ◌∷◌, ◌≡◌, ◌≤◌, ◌⊎◌}
+use Rattle.std.proofs.Common.{Bool, List, None, Option, Some, [], ap, arith, cond, false, inl, inr, is_some, length, min, not, refl, slice_index_or, subst, sym, true, ℕ, ◌+◌, ◌^◌, ◌∙◌, ◌∷◌, ◌≡◌, ◌≤◌, ◌⊎◌}
 use Rattle.std.proofs.lemmas.Bool.Decides.{eqb_tells}
 use Rattle.std.proofs.lemmas.Bool.{cond_both}
 use Rattle.std.proofs.lemmas.List.{length-set}
 use Rattle.std.proofs.lemmas.Option.{none-some}
-use Rattle.std.specs.Prelude.{is_some, slice_index_or}
 
 kinds : List Timer
 kinds = timer.Probe ∷ timer.Election ∷ timer.Collect ∷ timer.Accept ∷ timer.Renew ∷ timer.LeaseAck ∷ timer.Lease ∷ timer.Sync ∷ timer.Step ∷ timer.Propose ∷ timer.Ping ∷ []

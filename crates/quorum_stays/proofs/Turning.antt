@@ -1,20 +1,13 @@
 -- What an event at one member leaves as it was.
-use Rattle.mon_msg.specs.Protocol.Changes.{Change}
-use Rattle.mon_msg.specs.Protocol.Readings.{Readings, epoch_of, promise_of, readings_of}
-use Rattle.mon_msg.specs.Protocol.State.{State}
-use Rattle.mon_tx.specs.Map.{Store}
-use Rattle.quorum_model.specs.Monitors.{Monitors}
-use Rattle.quorum_model.specs.World.{Envelope, Event}
+use Rattle.law_names.proofs.Runs.{Envelope, Event, Monitors}
+use Rattle.law_names.proofs.Table.{AllByRecursion, Change, Fits, Readings, State, Store, epoch_of, played, promise_of, readings_of}
 use Rattle.quorum_stays.proofs.Carrying.{Gives}
 use Rattle.quorum_stays.proofs.Onward.{lands_same, one_state, pack, unpack}
 use Rattle.quorum_stays.proofs.Stepping.{Did}
 use Rattle.quorum_stays.specs.Steady.{Carries, Follower, Item, Keeps, Noted, Reign, Round}
 use Rattle.quorum_timed.specs.Timed.{Owed, Pace, Timed, Went, at_time}
-use Rattle.std.proofs.Common.{Bool, List, Option, Some, [], arith, inl, inr, subst, sym, ℕ, ◌+◌, ◌∙◌, ◌≡◌, ◌≤◌, ◌⊎◌, ap}
+use Rattle.std.proofs.Common.{Bool, IsSomeAnd, List, Option, Some, [], ap, arith, inl, inr, subst, sym, ℕ, ◌+◌, ◌∙◌, ◌≡◌, ◌≤◌, ◌⊎◌}
 use Rattle.std.proofs.lemmas.Bool.{cases_eq}
-use Rattle.std.specs.Prelude.{IsSomeAnd}
-use Rattle.mon_msg.specs.Protocol.Played.{Fits, played}
-use Rattle.std.specs.List.{AllByRecursion}
 
 module _ (ms : Monitors) (q : List Bool) (pace : Pace) (reign : Reign) (t next : Timed) (u : ℕ) (later : t.time ≤ u) (e : Event) (left : ℕ → ℕ → List Owed)
     (went : Went ms q pace (at_time ms q pace u t) e left next) (i : ℕ) (s after : State) (cs : List Change) (es : List Envelope)

@@ -1,51 +1,24 @@
 -- What a message about a client's command, a client or the timer of commands that wait makes of the commands that wait.
-use Rattle.mon_bytes.specs.declared.entry.Entry.{Entry}
-use Rattle.mon_lease.specs.Lease.{stands}
-use Rattle.mon_msg.specs.Protocol.Hearing.{is_heard}
-use Rattle.quorum_model.specs.Meets.{message_at}
-use Rattle.mon_wire.specs.declared.phase.Timer.{Timer}
-use Rattle.mon_wire.specs.declared.request.Request.{Request}
-use Rattle.mon_msg.specs.Protocol.Peon.{of_leader}
-use Rattle.mon_msg.specs.Protocol.Phases.{is_peon, same_phase}
-use Rattle.mon_msg.specs.Protocol.Readings.{Readings, epoch_of}
-use Rattle.mon_msg.specs.Protocol.Sending.{answer_to}
-use Rattle.mon_msg.specs.Protocol.Sets.{is_empty}
-use Rattle.mon_msg.specs.Protocol.State.{State}
-use Rattle.mon_msg.specs.Protocol.Timers.{disarmed, end_of}
-use Rattle.mon_msg.specs.declared.clients.Clients.{Clients}
-use Rattle.mon_msg.specs.declared.clients.Waiting.{Waiting}
-use Rattle.mon_msg.specs.Protocol.Table.{at_rest}
-use Rattle.mon_msg.specs.declared.clients.Asked.{Asked}
+use Rattle.law_names.proofs.Runs.{Arrives, Client, Deliver, Envelope, Monitors, Plain, Replied as RepliedTo, Ring, World, message_at, messages_of, replies_of}
+use Rattle.law_names.proofs.Table.{AllByRecursion, Asked, Clients, Entry, Me, Origin, Readings, Reply, Request, Sent, Session, State, Store, Timer, Waiting, answer_to, at_rest, disarmed, end_of, epoch_of, has, is_empty, is_heard, is_peon, of_leader, same_phase, stands}
 use Rattle.mon_msg.specs.declared.plan.Origin.TheVariants as origin
-use Rattle.mon_msg.specs.declared.plan.Origin.{Origin}
 use Rattle.mon_msg.specs.declared.plan.Sent.TheVariants as sent
 use Rattle.mon_wire.specs.declared.body.Body.TheVariants as body
-use Rattle.mon_wire.specs.declared.request.Session.{Session}
-use Rattle.mon_msg.specs.declared.plan.Sent.{Sent}
-use Rattle.mon_msg.specs.declared.view.Me.{Me}
-use Rattle.mon_tx.specs.Map.{Store}
-use Rattle.mon_types.specs.Ranks.{has}
 use Rattle.mon_wire.specs.declared.phase.Phase.TheVariants as phase
 use Rattle.mon_wire.specs.declared.phase.Timer.TheVariants as timer
-use Rattle.mon_wire.specs.declared.reply.Reply.{Reply}
 use Rattle.quorum_model.proofs.Members.{member_of}
-use Rattle.quorum_model.specs.Clients.{messages_of, replies_of}
-use Rattle.quorum_model.specs.Monitors.{Monitors}
-use Rattle.quorum_model.specs.World.{Arrives, Client, Deliver, Envelope, Plain, Ring, Replied as RepliedTo, World}
-use Rattle.quorum_stays.proofs.Outcomes.{AsksAs, BringsNone, BringsRoute, NobodyAsks, Marked, Marks, Replied, Unmarked, replies_hand_on_none, Answered, Aside, Fate, Hand, Kept, Lapsed, Passed, Queued, Refused, Routed, may}
+use Rattle.quorum_stays.proofs.Outcomes.{Answered, Aside, AsksAs, BringsNone, BringsRoute, Fate, Hand, Kept, Lapsed, Marked, Marks, NobodyAsks, Passed, Queued, Refused, Replied, Routed, Unmarked, may, replies_hand_on_none}
+use Rattle.quorum_stays.proofs.Serving.{Answered as AnsweredNow, Answers, Kept as KeptAsItWas, Marking, Queued as QueuedLast, Refused as RefusedFirst, Rests, Turn, answered, messages_hand_on_none}
 use Rattle.quorum_stays.proofs.Sharing.{AsksOf, Delivers, HandsOnNoneOf, Passed as PassedOn, RepliedNow as RepliedAtOnce, Routed as RoutedBack, Share, Untouched, none_of, replied_each, replied_one}
-use Rattle.quorum_stays.proofs.Serving.{Marking, Answered as AnsweredNow, Answers, Kept as KeptAsItWas, Queued as QueuedLast, Refused as RefusedFirst, Rests, Turn, answered, messages_hand_on_none}
 use Rattle.quorum_stays.proofs.Timers.{armed_if_any, disarmed_size}
 use Rattle.quorum_stays.specs.Reading.{ClocksGoOn}
 use Rattle.quorum_stays.specs.Serving.{IsAnswer, IsForward, Writes}
 use Rattle.quorum_stays.specs.Steady.{Begun, Leads, LeadsSince, Reign, Round, in_reign}
 use Rattle.quorum_timed.proofs.Armed.{Timers}
 use Rattle.quorum_timed.specs.Timed.{Pace}
-use Rattle.std.proofs.Common.{Bool, List, None, Option, Some, [], ap, arith, eqb, false, filter, inl, inr, length, ltb, map, not, refl, slice_index_or, slice_set, subst, suc, sym, true, zero, ℕ, ◌&&◌, ◌+◌, ◌++◌, ◌<◌, ◌∙◌, ◌∷◌, ◌≡◌, ◌≤◌, ◌⊎◌}
+use Rattle.std.proofs.Common.{Bool, List, None, Option, Some, [], ap, arith, eqb, false, filter, inl, inr, length, ltb, map, not, refl, slice_index_or, slice_set, subst, suc, sym, true, zero, ℕ, ◌&&◌, ◌++◌, ◌+◌, ◌<◌, ◌==◌, ◌∙◌, ◌∷◌, ◌≡◌, ◌≤◌, ◌⊎◌}
 use Rattle.std.proofs.lemmas.Bool.{cases_eq, eq-eqb, false≢true, lt-ltb, ne_eqb, or_right}
 use Rattle.std.proofs.lemmas.List.{append-nil}
-use Rattle.std.specs.Prelude.{◌==◌}
-use Rattle.std.specs.List.{AllByRecursion}
 
 -- ---- lists of numbers
 

@@ -1,11 +1,10 @@
 -- What an event adds to what is under way.
-use Rattle.quorum_model.specs.World.{Envelope}
+use Rattle.law_names.proofs.Runs.{Envelope}
+use Rattle.law_names.proofs.Table.{AllByRecursion, enumerate_from}
 use Rattle.quorum_timed.specs.Timed.{Owed, new_between, owed_by}
-use Rattle.std.proofs.Common.{Bool, List, Some, [], ap, arith, eqb, false, filter, length, map, refl, subst, suc, true, zero, ℕ, ◌&&◌, ◌++◌, ◌+◌, ◌∙◌, ◌∷◌, ◌≡◌}
+use Rattle.std.proofs.Common.{Bool, List, Some, [], ap, arith, cond, eqb, false, filter, length, map, refl, slice_get, subst, suc, true, zero, ℕ, ◌&&◌, ◌++◌, ◌+◌, ◌∙◌, ◌∷◌, ◌≡◌}
 use Rattle.std.proofs.lemmas.Bool.{and_parts, eqb-true}
 use Rattle.std.proofs.lemmas.List.{drop_at}
-use Rattle.std.specs.List.{AllByRecursion, enumerate_from}
-use Rattle.std.specs.Prelude.{cond, slice_get}
 
 -- ---- lists
 

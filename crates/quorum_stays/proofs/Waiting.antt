@@ -1,18 +1,14 @@
 -- A command that waits at the leader is answered in time.
-use Rattle.mon_msg.specs.Protocol.State.{State}
-use Rattle.mon_msg.specs.Protocol.Timers.{end_of}
-use Rattle.mon_msg.specs.declared.clients.Waiting.{Waiting}
-use Rattle.mon_msg.specs.declared.plan.Origin.{Origin}
+use Rattle.law_names.proofs.Runs.{Envelope, Monitors, World}
+use Rattle.law_names.proofs.Table.{Origin, State, Waiting, end_of}
 use Rattle.mon_wire.specs.declared.phase.Timer.TheVariants as timer
-use Rattle.quorum_model.specs.Monitors.{Monitors}
-use Rattle.quorum_model.specs.World.{Envelope, World}
 use Rattle.quorum_stays.proofs.Bounds.{by_progress}
 use Rattle.quorum_stays.proofs.Peons.{head_is, rest_is}
 use Rattle.quorum_stays.proofs.Serving.{Answered, Answers, Armed, Began, Committed, Kept, Queued, Refused, Renewed, Rests, Turn}
 use Rattle.quorum_stays.specs.Steady.{Begun, Reign, Round, Steady}
 use Rattle.quorum_timed.specs.Begins.{IsQuick}
 use Rattle.quorum_timed.specs.Timed.{MayBe, Pace, Timed}
-use Rattle.std.proofs.Common.{Bool, List, None, Option, Some, [], ap, arith, inl, inr, length, subst, suc, sym, zero, ℕ, ◌*◌, ◌+◌, ◌++◌, ◌∙◌, ◌∷◌, ◌≡◌, ◌≤◌, ◌⊎◌}
+use Rattle.std.proofs.Common.{Bool, List, None, Option, Some, [], ap, arith, inl, inr, length, subst, suc, sym, zero, ℕ, ◌*◌, ◌++◌, ◌+◌, ◌∙◌, ◌∷◌, ◌≡◌, ◌≤◌, ◌⊎◌}
 use Rattle.std.proofs.lemmas.List.{append_assoc}
 use Rattle.std.proofs.lemmas.Option.{none-some}
 

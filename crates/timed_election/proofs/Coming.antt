@@ -1,35 +1,18 @@
 -- What a member is given in a timed run, and what is under way afterwards.
+use Rattle.law_names.proofs.Runs.{Arrives, Client, Deliver, Envelope, Event, Monitors, Plain, Ring, arrival, happens, message_at, messages_of, state_at}
+use Rattle.law_names.proofs.Table.{AllByRecursion, Course, Input, Message, Request, Session, State, Timer, end_of, has, others, react, readings_of, shared_entries}
 use Rattle.log_model.proofs.Lists.{all_append}
-use Rattle.mon_msg.specs.Protocol.Course.{Course}
-use Rattle.mon_msg.specs.Protocol.Readings.{readings_of, shared_entries}
-use Rattle.mon_msg.specs.Protocol.State.{State}
-use Rattle.mon_msg.specs.Protocol.Table.{react}
 use Rattle.mon_msg.specs.declared.input.Input.TheVariants as input
-use Rattle.mon_msg.specs.declared.input.Input.{Input}
-use Rattle.mon_types.specs.Ranks.{has}
-use Rattle.mon_wire.specs.declared.message.Message.{Message}
 use Rattle.quorum_model.proofs.Members.{member_of}
-use Rattle.quorum_model.specs.Clients.{messages_of}
-use Rattle.quorum_model.specs.Meets.{message_at, arrival, state_at}
-use Rattle.quorum_model.specs.Monitors.{Monitors}
-use Rattle.quorum_model.specs.World.{Arrives, Deliver, Envelope, Event, Client, Plain, Ring}
 use Rattle.quorum_stays.proofs.Carrying.{more_messages}
 use Rattle.quorum_stays.proofs.Onward.{here_left, one_state, other_left}
 use Rattle.quorum_stays.proofs.Stepping.{Did, did, reacts}
 use Rattle.quorum_stays.proofs.UnderWay.{all_numbers, all_owed, new_are, new_there, numbers}
-use Rattle.quorum_timed.specs.Calls.{IsCall, IsDelivery, IsCandidate}
-use Rattle.quorum_timed.specs.Timed.{Owed, Pace, Timed, Went, at_time, new_between, owed_by, without_first, Again, Arriving, Asking, Comes, Firing}
-use Rattle.std.proofs.Common.{Bool, List, Ok, Some, ap, arith, inl, inr, length, refl, subst, suc, sym, true, ℕ, ◌++◌, ◌+◌, ◌<◌, ◌∙◌, ◌∷◌, ◌≡◌, ◌≤◌, ◌⊎◌}
-use Rattle.std.proofs.lemmas.Bool.{cases_eq, lt-ltb}
-use Rattle.std.specs.List.{AllByRecursion}
-use Rattle.std.specs.Prelude.{IsSomeAnd, slice_get, option_map}
-use Rattle.mon_msg.specs.Protocol.Timers.{end_of}
-use Rattle.quorum_model.specs.Happens.{happens}
-use Rattle.mon_msg.specs.Protocol.Sending.{others}
-use Rattle.mon_wire.specs.declared.phase.Timer.{Timer}
-use Rattle.mon_wire.specs.declared.request.Request.{Request}
-use Rattle.mon_wire.specs.declared.request.Session.{Session}
 use Rattle.quorum_timed.specs.Begins.{IsBetween}
+use Rattle.quorum_timed.specs.Calls.{IsCall, IsCandidate, IsDelivery}
+use Rattle.quorum_timed.specs.Timed.{Again, Arriving, Asking, Comes, Firing, Owed, Pace, Timed, Went, at_time, new_between, owed_by, without_first}
+use Rattle.std.proofs.Common.{Bool, IsSomeAnd, List, Ok, Some, ap, arith, inl, inr, length, option_map, refl, slice_get, subst, suc, sym, true, ℕ, ◌++◌, ◌+◌, ◌<◌, ◌∙◌, ◌∷◌, ◌≡◌, ◌≤◌, ◌⊎◌}
+use Rattle.std.proofs.lemmas.Bool.{cases_eq, lt-ltb}
 use Rattle.timed_election.proofs.Lists.{closed, opened}
 use Rattle.timed_election.specs.Election.{ArrivesBy}
 

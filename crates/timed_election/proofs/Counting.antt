@@ -1,6 +1,6 @@
 -- How many ranks a set has.
-use Rattle.mon_types.specs.Ranks.{count_of, has}
-use Rattle.quorum_model.specs.Monitors.{Monitors}
+use Rattle.law_names.proofs.Runs.{Monitors}
+use Rattle.law_names.proofs.Table.{count_of, has}
 use Rattle.std.proofs.Common.{Bool, List, [], arith, cond, eqb, false, refl, subst, suc, sym, true, zero, ℕ, ◌+◌, ◌<◌, ◌∙◌, ◌∷◌, ◌≡◌, ◌≤◌}
 use Rattle.std.proofs.lemmas.Bool.{eqb-true, false≢true}
 use Rattle.std.proofs.lemmas.List.Sums.{sum_by-cons}

@@ -1,29 +1,22 @@
 -- An election goes on, event by event, until the best member wins it.
-use Rattle.mon_msg.specs.Protocol.Readings.{readings_of, shared_entries}
-use Rattle.mon_msg.specs.Protocol.State.{State}
-use Rattle.mon_types.specs.Ranks.{has}
-use Rattle.quorum_model.specs.Clients.{messages_of}
-use Rattle.quorum_model.specs.Meets.{message_at}
-use Rattle.quorum_model.specs.Monitors.{Monitors}
-use Rattle.quorum_model.specs.World.{Envelope, Event}
+use Rattle.law_names.proofs.Runs.{Envelope, Event, Monitors, message_at, messages_of}
+use Rattle.law_names.proofs.Table.{AllByRecursion, State, has, readings_of, shared_entries}
+use Rattle.log_model.proofs.Lists.{all_map}
 use Rattle.quorum_stays.proofs.Staying.{goes_on, time_of_next}
 use Rattle.quorum_stays.proofs.SteppingDown.{here}
 use Rattle.quorum_stays.specs.Reading.{ClocksGoOn}
 use Rattle.quorum_stays.specs.Steady.{Reign}
-use Rattle.log_model.proofs.Lists.{all_map}
 use Rattle.quorum_timed.specs.Begins.{IsBetween, IsQuick}
 use Rattle.quorum_timed.specs.Timed.{Comes, Leads, MayBe, Pace, Timed, at_time}
-use Rattle.std.proofs.Common.{Bool, List, [], ap, arith, inl, inr, refl, suc, sym, true, ℕ, ◌++◌, ◌+◌, ◌<◌, ◌∙◌, ◌∷◌, ◌≡◌, ◌≤◌, ◌⊎◌}
+use Rattle.std.proofs.Common.{Bool, IsSomeAnd, List, [], ap, arith, inl, inr, refl, suc, sym, true, ℕ, ◌++◌, ◌+◌, ◌<◌, ◌∙◌, ◌∷◌, ◌≡◌, ◌≤◌, ◌⊎◌}
 use Rattle.std.proofs.lemmas.Bool.{lt-ltb}
 use Rattle.std.proofs.lemmas.List.{append_assoc}
-use Rattle.std.specs.List.{AllByRecursion}
-use Rattle.std.specs.Prelude.{IsSomeAnd}
-use Rattle.timed_election.proofs.Events.{Result, result, turns, won}
 use Rattle.timed_election.proofs.Coming.{Handled, handled}
+use Rattle.timed_election.proofs.Events.{Result, result, turns, won}
 use Rattle.timed_election.proofs.Lists.{closed, opened}
+use Rattle.timed_election.proofs.Outcomes.{VotesOrAnswers}
 use Rattle.timed_election.proofs.Parts.{joined}
 use Rattle.timed_election.proofs.Times.{over_by}
-use Rattle.timed_election.proofs.Outcomes.{VotesOrAnswers}
 use Rattle.timed_election.proofs.Turning.{is_raised, is_won, sent_away, turned}
 use Rattle.timed_election.specs.Election.{CanElect, Election, Elects, IsOfElection, IsRaised, IsWon, IsWonBy, TakesPart}
 

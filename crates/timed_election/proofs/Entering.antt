@@ -1,34 +1,18 @@
 -- How a monitor in an even epoch takes part in the election of the next one: it calls it, or defers to a candidate.
-use Rattle.election_rules.specs.declared.scores.Scores.{Scores}
-use Rattle.mon_msg.specs.Protocol.Changes.{Epoch}
-use Rattle.mon_msg.specs.Protocol.Course.{Course}
-use Rattle.mon_msg.specs.Protocol.Elections.{is_allowed, may_defer, merge, stands_before, table_or, weigh}
-use Rattle.mon_msg.specs.Protocol.Entering.{adopt, elect, is_even, scores_count}
-use Rattle.mon_msg.specs.Protocol.Phases.{same_phase}
-use Rattle.mon_msg.specs.Protocol.Readings.{Readings, epoch_of}
-use Rattle.mon_msg.specs.Protocol.Sending.{message_to, others}
-use Rattle.mon_msg.specs.Protocol.Sets.{only}
-use Rattle.mon_msg.specs.Protocol.State.{State}
-use Rattle.mon_msg.specs.Protocol.Table.{at_rest}
-use Rattle.mon_msg.specs.Protocol.Timers.{armed, end_of, index_of, only_ping, unarmed}
-use Rattle.mon_msg.specs.declared.input.Input.{Input}
-use Rattle.mon_msg.specs.declared.view.Me.{Me}
-use Rattle.mon_types.specs.Ranks.{no_ranks}
+use Rattle.law_names.proofs.Runs.{Monitors}
+use Rattle.law_names.proofs.Table.{Course, Epoch, Input, Me, Readings, Scores, State, Timer, adopt, armed, at_rest, elect, end_of, epoch_of, index_of, is_allowed, is_even, may_defer, merge, message_to, no_ranks, only, only_ping, others, same_phase, scores_count, stands_before, table_or, unarmed, weigh}
 use Rattle.mon_wire.specs.declared.body.Body.TheVariants as body
 use Rattle.mon_wire.specs.declared.phase.Phase.TheVariants as phase
 use Rattle.mon_wire.specs.declared.phase.Timer.TheVariants as timer
-use Rattle.mon_wire.specs.declared.phase.Timer.{Timer}
 use Rattle.quorum_model.proofs.Members.{member_of}
-use Rattle.quorum_model.specs.Monitors.{Monitors}
 use Rattle.quorum_stays.proofs.Timers.{armed_size, ends, only_ping_is, same_kind_or, still_ends}
 use Rattle.quorum_timed.proofs.Armed.{Timers}
 use Rattle.quorum_walk.proofs.Parity.{odd_of_even}
 use Rattle.quorum_walk.proofs.Walk.{Then, by_test, done}
-use Rattle.std.proofs.Common.{Bool, Err, List, None, Ok, Option, Some, [], ap, arith, cond, false, inl, inr, length, ltb, map, not, refl, subst, suc, sym, true, ℕ, ◌&&◌, ◌+◌, ◌^◌, ◌∙◌, ◌∷◌, ◌≡◌, ◌≤◌}
+use Rattle.std.proofs.Common.{Bool, Err, List, None, Ok, Option, Some, [], ap, arith, cond, false, inl, inr, is_some, length, ltb, map, not, refl, subst, suc, sym, true, ℕ, ◌&&◌, ◌+◌, ◌^◌, ◌∙◌, ◌∷◌, ◌≡◌, ◌≤◌}
 use Rattle.std.proofs.lemmas.Bool.{false≢true}
 use Rattle.std.proofs.lemmas.List.{length-set}
 use Rattle.std.proofs.lemmas.Option.{none-some}
-use Rattle.std.specs.Prelude.{is_some}
 use Rattle.table_rows.proofs.Electing.{elects_next, elects_now}
 use Rattle.timed_election.proofs.Outcomes.{Heard}
 

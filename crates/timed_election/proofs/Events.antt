@@ -1,32 +1,13 @@
 -- One event at one member that takes part in an election.
-use Rattle.mon_bytes.specs.declared.entry.Entry.{Entry}
-use Rattle.mon_msg.specs.Protocol.Course.{Course}
-use Rattle.mon_msg.specs.Protocol.Elections.{is_allowed, is_whole, may_defer, stands_before}
-use Rattle.mon_msg.specs.Protocol.Entering.{is_even}
-use Rattle.mon_msg.specs.Protocol.Leading.{is_alone}
-use Rattle.mon_msg.specs.Protocol.Readings.{Readings, epoch_of, readings_of}
-use Rattle.mon_msg.specs.Protocol.Sending.{others}
-use Rattle.mon_msg.specs.Protocol.Sets.{only}
-use Rattle.mon_msg.specs.Protocol.State.{State}
-use Rattle.mon_msg.specs.Protocol.Table.{react}
-use Rattle.mon_msg.specs.Protocol.Timers.{armed, disarmed, end_of}
+use Rattle.law_names.proofs.Runs.{Envelope, Event, Monitors, message_at, messages_of}
+use Rattle.law_names.proofs.Table.{AllByRecursion, Course, Entry, Input, Me, Message, Readings, Sent, State, Timer, armed, count_of, disarmed, end_of, epoch_of, has, is_allowed, is_alone, is_even, is_majority, is_whole, may_defer, no_ranks, only, others, react, readings_of, stands_before, with_rank}
 use Rattle.mon_msg.specs.declared.input.Input.TheVariants as input
-use Rattle.mon_msg.specs.declared.input.Input.{Input}
 use Rattle.mon_msg.specs.declared.plan.Sent.TheVariants as sent
-use Rattle.mon_msg.specs.declared.plan.Sent.{Sent}
-use Rattle.mon_msg.specs.declared.view.Me.{Me}
-use Rattle.mon_types.specs.Ranks.{count_of, has, is_majority, no_ranks, with_rank}
 use Rattle.mon_wire.specs.declared.body.Body.TheVariants as body
-use Rattle.mon_wire.specs.declared.message.Message.{Message}
 use Rattle.mon_wire.specs.declared.phase.Timer.TheVariants as timer
-use Rattle.mon_wire.specs.declared.phase.Timer.{Timer}
 use Rattle.quorum_agreement.proofs.Others.{others as has_others}
 use Rattle.quorum_elects.proofs.Ranks.{count_more}
 use Rattle.quorum_model.proofs.Members.{member_of}
-use Rattle.quorum_model.specs.Clients.{messages_of}
-use Rattle.quorum_model.specs.Meets.{message_at}
-use Rattle.quorum_model.specs.Monitors.{Monitors}
-use Rattle.quorum_model.specs.World.{Envelope, Event}
 use Rattle.quorum_stays.proofs.Onward.{one_state}
 use Rattle.quorum_stays.proofs.Timers.{armed_size, disarmed_size, ends, same_kind_or, still_ends, still_on}
 use Rattle.quorum_timed.proofs.Armed.{Timers}
@@ -35,15 +16,13 @@ use Rattle.quorum_timed.specs.Calls.{IsCall, IsCandidate}
 use Rattle.quorum_timed.specs.Timed.{MayBe, Owed, Pace, Timed}
 use Rattle.quorum_walk.proofs.Ranks.{has_only_is, has_with, has_with_is, nobody}
 use Rattle.quorum_walk.proofs.Walk.{Then}
-use Rattle.std.proofs.Common.{Bool, List, None, Ok, Option, Some, [], ap, arith, eqb, false, inl, inr, length, ltb, map, refl, subst, sym, true, ℕ, ◌&&◌, ◌*◌, ◌||◌, ◌+◌, ◌^◌, ◌∙◌, ◌∷◌, ◌≡◌, ◌≤◌, ◌⊎◌}
+use Rattle.std.proofs.Common.{Bool, IsSomeAnd, List, None, Ok, Option, Some, [], ap, arith, eqb, false, inl, inr, length, ltb, map, refl, subst, sym, true, ℕ, ◌&&◌, ◌*◌, ◌+◌, ◌^◌, ◌||◌, ◌∙◌, ◌∷◌, ◌≡◌, ◌≤◌, ◌⊎◌}
 use Rattle.std.proofs.lemmas.Bool.{and_from, and_parts, cases_eq, eq-eqb, false≢true, lt-ltb, ltb-true, ne_eqb, or_left, or_right}
 use Rattle.std.proofs.lemmas.List.{get_or-set_same, length-set}
-use Rattle.std.specs.List.{AllByRecursion}
-use Rattle.std.specs.Prelude.{IsSomeAnd}
 use Rattle.timed_election.proofs.Coming.{How, again, asks, fires, first}
 use Rattle.timed_election.proofs.Counting.{not_whole, several}
 use Rattle.timed_election.proofs.Lists.{all_sent, closed, opened}
-use Rattle.timed_election.proofs.Outcomes.{Heard as Came, IsAnswerTo, IsLow, Outcome, Stays, Wins, ack_taken, call_taken, calls, calls_again, counts, defers, reacted, rests, says, VotesOrAnswers, wins}
+use Rattle.timed_election.proofs.Outcomes.{Heard as Came, IsAnswerTo, IsLow, Outcome, Stays, VotesOrAnswers, Wins, ack_taken, call_taken, calls, calls_again, counts, defers, reacted, rests, says, wins}
 use Rattle.timed_election.proofs.Quiet.{IsQuiet, no_ack, no_call}
 use Rattle.timed_election.proofs.Ranking.{best_first, nobody_better, not_itself}
 use Rattle.timed_election.proofs.Times.{all_acked, best_now, over_by, unheard_by}

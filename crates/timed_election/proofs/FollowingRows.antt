@@ -1,62 +1,23 @@
 -- What a peon whose leader is lost does at each input, if nothing is of an epoch after the next: it follows on, begins to
 -- probe, or takes part in the election of the next epoch.
-use Rattle.election_rules.specs.declared.scores.Scores.{Scores}
+use Rattle.law_names.proofs.Runs.{Monitors}
+use Rattle.law_names.proofs.Table.{AllByRecursion, Body, Command, Cookie, Course, Entry, Input, MOST_WAITING, Me, Phase, Place, Readings, Reply, Request, Scores, Session, State, Timer, adopt, armed, ask, at_rest, chunk, disarm, disarmed, elect, end_of, epoch_of, grant, has, hear, hear_accept, hear_ack, hear_begin, hear_chunk, hear_client, hear_collect, hear_commit, hear_cookie, hear_forward, hear_get_chunk, hear_get_cookie_full, hear_get_cookie_recent, hear_last, hear_last_chunk, hear_lease, hear_lease_ack, hear_no_cookie, hear_ping, hear_ping_reply, hear_probe, hear_probe_reply, hear_propose, hear_route, hear_victory, index_of, is_after, is_armed, is_cookie, is_even, is_heard, is_peon, is_too_long, lease_of, merge, message_to, of_leader, only, only_ping, others, pending, promise_of, propose_due, quorum_of, react, read, readable, running, scores_count, shown, since, table_or, timer_comes, unarmed, weigh}
 use Rattle.mon_bytes.specs.declared.command.Command.TheVariants as command
-use Rattle.mon_bytes.specs.declared.command.Command.{Command}
-use Rattle.mon_bytes.specs.declared.entry.Entry.{Entry}
-use Rattle.mon_lease.specs.Lease.{readable}
-use Rattle.mon_msg.specs.Protocol.Chunks.{hear_chunk, hear_last_chunk}
-use Rattle.mon_msg.specs.Protocol.Commands.{ask, hear_forward, hear_route, is_too_long, propose_due}
-use Rattle.mon_msg.specs.Protocol.Copying.{hear_cookie, hear_no_cookie}
-use Rattle.mon_msg.specs.Protocol.Course.{Course, disarm}
-use Rattle.mon_msg.specs.Protocol.Elections.{hear_ack, hear_propose, hear_victory, merge, table_or, weigh}
-use Rattle.mon_msg.specs.Protocol.Entering.{adopt, elect, is_even, scores_count}
-use Rattle.mon_msg.specs.Protocol.Hearing.{hear, hear_client, is_heard}
-use Rattle.mon_msg.specs.Protocol.Leader.{hear_accept, hear_last, hear_lease_ack}
-use Rattle.mon_msg.specs.Protocol.Peon.{hear_begin, hear_collect, hear_commit, hear_lease, of_leader}
-use Rattle.mon_msg.specs.Protocol.Phases.{is_peon}
-use Rattle.mon_msg.specs.Protocol.Pings.{hear_ping, hear_ping_reply}
-use Rattle.mon_msg.specs.Protocol.Places.{is_after, is_cookie}
-use Rattle.mon_msg.specs.Protocol.Probing.{hear_probe, hear_probe_reply}
-use Rattle.mon_msg.specs.Protocol.Providing.{chunk, grant, hear_get_chunk, hear_get_cookie_full, hear_get_cookie_recent}
-use Rattle.mon_msg.specs.Protocol.Readings.{Readings, epoch_of, promise_of}
-use Rattle.mon_msg.specs.Protocol.Reads.{read, shown, since}
-use Rattle.mon_msg.specs.Protocol.Records.{pending}
-use Rattle.mon_msg.specs.Protocol.Sending.{message_to, others}
-use Rattle.mon_msg.specs.Protocol.Sets.{only}
-use Rattle.mon_msg.specs.Protocol.State.{State, lease_of, quorum_of}
-use Rattle.mon_msg.specs.Protocol.Table.{at_rest, react, running, timer_comes}
-use Rattle.mon_msg.specs.Protocol.Timers.{armed, disarmed, end_of, index_of, is_armed, only_ping, unarmed}
 use Rattle.mon_msg.specs.declared.input.Input.TheVariants as input
-use Rattle.mon_msg.specs.declared.input.Input.{Input}
-use Rattle.mon_msg.specs.declared.limits.TheConstants.{MOST_WAITING}
-use Rattle.mon_msg.specs.declared.view.Me.{Me}
-use Rattle.mon_types.specs.Ranks.{has}
 use Rattle.mon_types.specs.declared.names.Which.TheVariants as which
 use Rattle.mon_wire.specs.declared.body.Body.TheVariants as body
-use Rattle.mon_wire.specs.declared.body.Body.{Body}
-use Rattle.mon_wire.specs.declared.parts.Cookie.{Cookie}
-use Rattle.mon_wire.specs.declared.parts.Place.{Place}
 use Rattle.mon_wire.specs.declared.phase.Phase.TheVariants as phase
-use Rattle.mon_wire.specs.declared.phase.Phase.{Phase}
 use Rattle.mon_wire.specs.declared.phase.Timer.TheVariants as timer
-use Rattle.mon_wire.specs.declared.phase.Timer.{Timer}
-use Rattle.mon_wire.specs.declared.reply.Reply.{Reply}
 use Rattle.mon_wire.specs.declared.request.Request.TheVariants as request
-use Rattle.mon_wire.specs.declared.request.Request.{Request}
-use Rattle.mon_wire.specs.declared.request.Session.{Session}
 use Rattle.quorum_model.proofs.Members.{member_of}
-use Rattle.quorum_model.specs.Monitors.{Monitors}
 use Rattle.quorum_stays.proofs.Timers.{disarmed_size, ends, off, only_ping_is, same_kind_or, still_ends, still_on}
 use Rattle.quorum_timed.proofs.Armed.{Timers}
 use Rattle.quorum_walk.proofs.Parity.{odd_of_even}
 use Rattle.quorum_walk.proofs.Walk.{Then, and_three, by_test, done, or_three, where_fits}
-use Rattle.std.proofs.Common.{Bool, Err, List, None, Ok, Option, Some, [], ap, arith, eqb, false, filter, inl, inr, leb, length, ltb, map, not, refl, slice_index_or, subst, suc, sym, true, ℕ, ◌&&◌, ◌+◌, ◌^◌, ◌||◌, ◌∙◌, ◌∷◌, ◌≡◌, ◌≤◌, ◌⊎◌}
+use Rattle.std.proofs.Common.{Bool, Err, IsSomeAnd, List, None, Ok, Option, Some, [], ap, arith, eqb, false, filter, inl, inr, is_some, leb, length, ltb, map, not, refl, slice_index_or, subst, suc, sym, true, ℕ, ◌&&◌, ◌+◌, ◌^◌, ◌||◌, ◌∙◌, ◌∷◌, ◌≡◌, ◌≤◌, ◌⊎◌}
 use Rattle.std.proofs.lemmas.Bool.{eqb-true, false≢true, leb-false, ltb-false, ltb-true, not-false, or_parts}
 use Rattle.std.proofs.lemmas.List.{length-set}
 use Rattle.std.proofs.lemmas.Option.{none-some}
-use Rattle.std.specs.List.{AllByRecursion}
-use Rattle.std.specs.Prelude.{IsSomeAnd, is_some}
 use Rattle.table_rows.proofs.Electing.{probes as probes_row}
 use Rattle.timed_election.proofs.Entering.{Calls, Joined, acked, called, calls, proposed}
 use Rattle.timed_election.proofs.Lists.{closed, opened}

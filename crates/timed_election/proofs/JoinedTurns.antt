@@ -1,31 +1,12 @@
 -- One event at a member that joined the election, while others haven't.
-use Rattle.mon_bytes.specs.declared.entry.Entry.{Entry}
-use Rattle.mon_msg.specs.Protocol.Changes.{Change}
-use Rattle.mon_msg.specs.Protocol.Elections.{is_allowed, is_whole, may_defer, stands_before}
-use Rattle.mon_msg.specs.Protocol.Entering.{is_even, scores_count}
-use Rattle.mon_msg.specs.Protocol.Leading.{is_alone}
-use Rattle.mon_msg.specs.Protocol.Played.{Fits, played}
-use Rattle.mon_msg.specs.Protocol.Readings.{Readings, epoch_of, readings_of, shared_entries}
-use Rattle.mon_msg.specs.Protocol.Sending.{message_to, others}
-use Rattle.mon_msg.specs.Protocol.Sets.{only}
-use Rattle.mon_msg.specs.Protocol.State.{State}
-use Rattle.mon_msg.specs.Protocol.Table.{react}
-use Rattle.mon_msg.specs.Protocol.Timers.{armed, end_of}
+use Rattle.law_names.proofs.Runs.{Envelope, Event, Monitors, message_at, messages_of}
+use Rattle.law_names.proofs.Table.{AllByRecursion, Change, Entry, Fits, Input, Me, Message, Readings, Sent, State, Timer, armed, end_of, epoch_of, has, is_allowed, is_alone, is_even, is_majority, is_whole, may_defer, message_to, no_ranks, only, others, played, react, readings_of, scores_count, shared_entries, stands_before, with_rank}
+use Rattle.log_model.proofs.Lists.{all_map}
 use Rattle.mon_msg.specs.declared.input.Input.TheVariants as input
-use Rattle.mon_msg.specs.declared.input.Input.{Input}
-use Rattle.mon_msg.specs.declared.plan.Sent.{Sent}
-use Rattle.mon_msg.specs.declared.view.Me.{Me}
-use Rattle.mon_types.specs.Ranks.{has, is_majority, no_ranks, with_rank}
 use Rattle.mon_wire.specs.declared.body.Body.TheVariants as body
-use Rattle.mon_wire.specs.declared.message.Message.{Message}
 use Rattle.mon_wire.specs.declared.phase.Timer.TheVariants as timer
-use Rattle.mon_wire.specs.declared.phase.Timer.{Timer}
 use Rattle.quorum_agreement.proofs.Others.{others as has_others}
 use Rattle.quorum_model.proofs.Members.{member_of}
-use Rattle.quorum_model.specs.Clients.{messages_of}
-use Rattle.quorum_model.specs.Meets.{message_at}
-use Rattle.quorum_model.specs.Monitors.{Monitors}
-use Rattle.quorum_model.specs.World.{Envelope, Event}
 use Rattle.quorum_stays.proofs.Onward.{one_state}
 use Rattle.quorum_stays.proofs.Timers.{armed_size, ends, same_kind_or, still_ends}
 use Rattle.quorum_stays.proofs.UnderWay.{numbers}
@@ -34,12 +15,9 @@ use Rattle.quorum_timed.specs.Calls.{IsCall}
 use Rattle.quorum_timed.specs.Timed.{MayBe, Owed, Pace, Timed, owed_by}
 use Rattle.quorum_walk.proofs.Ranks.{has_only_is, has_with, has_with_is, nobody}
 use Rattle.quorum_walk.proofs.Walk.{Then}
-use Rattle.log_model.proofs.Lists.{all_map}
-use Rattle.std.proofs.Common.{Bool, List, None, Ok, Option, Some, [], ap, arith, eqb, false, inl, inr, length, ltb, map, refl, subst, suc, sym, true, ℕ, ◌&&◌, ◌*◌, ◌++◌, ◌+◌, ◌<◌, ◌^◌, ◌∙◌, ◌∷◌, ◌≡◌, ◌≤◌, ◌⊎◌, ◌||◌}
+use Rattle.std.proofs.Common.{Bool, IsSomeAnd, List, None, Ok, Option, Some, [], ap, arith, eqb, false, inl, inr, length, ltb, map, refl, slice_get, subst, suc, sym, true, ℕ, ◌&&◌, ◌*◌, ◌++◌, ◌+◌, ◌<◌, ◌^◌, ◌||◌, ◌∙◌, ◌∷◌, ◌≡◌, ◌≤◌, ◌⊎◌}
 use Rattle.std.proofs.lemmas.Bool.{and_from, and_parts, cases_eq, eq-eqb, false≢true, lt-ltb, ne_eqb}
 use Rattle.std.proofs.lemmas.List.{get_or-set_same, length-set}
-use Rattle.std.specs.List.{AllByRecursion}
-use Rattle.std.specs.Prelude.{IsSomeAnd, slice_get}
 use Rattle.timed_election.proofs.Coming.{Handled, How, again, asks, came_or_left, fires, first as first_, left_same, new_at}
 use Rattle.timed_election.proofs.Counting.{not_whole, several}
 use Rattle.timed_election.proofs.Joining.{Beginning, First, Goes, HeardIn, IsIn, Joining, Missed, Stock, Takes, election, joined}

@@ -1,18 +1,11 @@
 -- What holds while the members join an election one by one.
-use Rattle.mon_msg.specs.Protocol.Readings.{Readings, epoch_of, readings_of}
-use Rattle.mon_msg.specs.Protocol.Timers.{end_of}
-use Rattle.mon_types.specs.Ranks.{has}
+use Rattle.law_names.proofs.Runs.{Envelope, Monitors, World, message_at}
+use Rattle.law_names.proofs.Table.{AllByRecursion, Message, Readings, end_of, epoch_of, has, readings_of}
 use Rattle.mon_wire.specs.declared.body.Body.TheVariants as body
-use Rattle.mon_wire.specs.declared.message.Message.{Message}
 use Rattle.mon_wire.specs.declared.phase.Timer.TheVariants as timer
-use Rattle.quorum_model.specs.Meets.{message_at}
-use Rattle.quorum_model.specs.Monitors.{Monitors}
-use Rattle.quorum_model.specs.World.{Envelope, World}
 use Rattle.quorum_timed.specs.Calls.{IsCall}
 use Rattle.quorum_timed.specs.Timed.{MayBe, Owed, Pace, Timed}
-use Rattle.std.proofs.Common.{Bool, List, None, Option, Some, [], arith, false, min, refl, suc, true, ℕ, ◌*◌, ◌+◌, ◌∷◌, ◌≡◌, ◌≤◌, ◌⊎◌}
-use Rattle.std.specs.List.{AllByRecursion}
-use Rattle.std.specs.Prelude.{IsSomeAnd}
+use Rattle.std.proofs.Common.{Bool, IsSomeAnd, List, None, Option, Some, [], arith, false, min, refl, suc, true, ℕ, ◌*◌, ◌+◌, ◌∷◌, ◌≡◌, ◌≤◌, ◌⊎◌}
 use Rattle.timed_election.specs.Election.{ArrivesBy, Election, Heard, IsAck, Stands, TakesPart}
 use Rattle.timed_election.specs.Joining.{FollowsLost, IsNearIn}
 use Rattle.timed_election.specs.Probing.{IsAnswer, IsProbe, IsProbing}

@@ -1,13 +1,8 @@
 -- The members join the election, event by event, until all take part.
+use Rattle.law_names.proofs.Runs.{Envelope, Event, Monitors}
+use Rattle.law_names.proofs.Table.{Body, State, epoch_of, has, is_even, readings_of}
 use Rattle.log_model.proofs.Lists.{all_map}
-use Rattle.mon_msg.specs.Protocol.Entering.{is_even}
-use Rattle.mon_msg.specs.Protocol.Readings.{epoch_of, readings_of}
-use Rattle.mon_msg.specs.Protocol.State.{State}
-use Rattle.mon_types.specs.Ranks.{has}
 use Rattle.mon_wire.specs.declared.body.Body.TheVariants as body
-use Rattle.mon_wire.specs.declared.body.Body.{Body}
-use Rattle.quorum_model.specs.Monitors.{Monitors}
-use Rattle.quorum_model.specs.World.{Envelope, Event}
 use Rattle.quorum_stays.proofs.Staying.{goes_on, time_of_next}
 use Rattle.quorum_stays.proofs.SteppingDown.{here}
 use Rattle.quorum_stays.specs.Reading.{ClocksGoOn}

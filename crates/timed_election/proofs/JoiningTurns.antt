@@ -1,34 +1,15 @@
 -- One event at a member that hasn't joined the election yet: it follows on, probes, or joins.
-use Rattle.election_rules.specs.Ranking.{allows, outranks}
-use Rattle.mon_bytes.specs.declared.entry.Entry.{Entry}
-use Rattle.mon_msg.specs.Protocol.Changes.{Change, Epoch}
-use Rattle.mon_msg.specs.Protocol.Elections.{is_allowed, stands_before}
-use Rattle.mon_msg.specs.Protocol.Entering.{is_even, scores_count}
-use Rattle.mon_msg.specs.Protocol.Phases.{same_phase, votes}
-use Rattle.mon_msg.specs.Protocol.Played.{Fits, played}
-use Rattle.mon_msg.specs.Protocol.Readings.{Readings, epoch_of, readings_of, shared_entries}
-use Rattle.mon_msg.specs.Protocol.Sending.{message_to, others}
-use Rattle.mon_msg.specs.Protocol.Sets.{only}
-use Rattle.mon_msg.specs.Protocol.State.{State}
-use Rattle.mon_msg.specs.Protocol.Table.{react}
-use Rattle.mon_msg.specs.Protocol.Timers.{end_of}
+use Rattle.election_rules.specs.Ranking.{outranks}
+use Rattle.law_names.proofs.Runs.{Envelope, Event, Monitors, message_at, messages_of}
+use Rattle.law_names.proofs.Table.{AllByRecursion, Body, Change, Entry, Epoch, Fits, Input, Me, Message, Phase, Readings, Sent, State, allows, count_of, end_of, epoch_of, has, is_allowed, is_even, is_majority, message_to, no_ranks, only, others, played, react, readings_of, same_phase, scores_count, shared_entries, stands_before, votes}
+use Rattle.log_model.proofs.Lists.{all_map}
 use Rattle.mon_msg.specs.declared.input.Input.TheVariants as input
-use Rattle.mon_msg.specs.declared.input.Input.{Input}
-use Rattle.mon_msg.specs.declared.plan.Sent.{Sent}
-use Rattle.mon_msg.specs.declared.view.Me.{Me}
-use Rattle.mon_types.specs.Ranks.{count_of, has, is_majority, no_ranks}
 use Rattle.mon_wire.specs.declared.body.Body.TheVariants as body
-use Rattle.mon_wire.specs.declared.body.Body.{Body}
-use Rattle.mon_wire.specs.declared.message.Message.{Message}
 use Rattle.mon_wire.specs.declared.phase.Phase.TheVariants as phase
-use Rattle.mon_wire.specs.declared.phase.Phase.{Phase}
 use Rattle.mon_wire.specs.declared.phase.Timer.TheVariants as timer
+use Rattle.quorum_elects.proofs.Ranks.{one_counts}
 use Rattle.quorum_elects.proofs.Standing.{among_map, among_others}
 use Rattle.quorum_model.proofs.Members.{member_of}
-use Rattle.quorum_model.specs.Clients.{messages_of}
-use Rattle.quorum_model.specs.Meets.{message_at}
-use Rattle.quorum_model.specs.Monitors.{Monitors}
-use Rattle.quorum_model.specs.World.{Envelope, Event}
 use Rattle.quorum_stays.proofs.Onward.{one_state}
 use Rattle.quorum_stays.proofs.UnderWay.{numbers}
 use Rattle.quorum_timed.specs.Calls.{IsCall, IsCandidate}
@@ -37,13 +18,9 @@ use Rattle.quorum_walk.proofs.Lists.{Among as AmongE}
 use Rattle.quorum_walk.proofs.Parity.{odd_of_even}
 use Rattle.quorum_walk.proofs.Ranks.{has_only, has_only_is, nobody}
 use Rattle.quorum_walk.proofs.Walk.{Then}
-use Rattle.std.proofs.Common.{Bool, List, None, Option, Some, [], ap, arith, false, inl, inr, length, ltb, map, not, refl, subst, suc, sym, true, ℕ, ◌&&◌, ◌*◌, ◌++◌, ◌+◌, ◌<◌, ◌^◌, ◌∙◌, ◌∷◌, ◌≡◌, ◌≤◌, ◌⊎◌}
+use Rattle.std.proofs.Common.{Bool, IsSomeAnd, List, None, Option, Some, [], ap, arith, false, inl, inr, length, ltb, map, not, refl, slice_get, subst, suc, sym, true, ℕ, ◌&&◌, ◌*◌, ◌++◌, ◌+◌, ◌<◌, ◌^◌, ◌∙◌, ◌∷◌, ◌≡◌, ◌≤◌, ◌⊎◌}
 use Rattle.std.proofs.lemmas.Bool.{cases_eq, eq-eqb, false≢true, le-ltb, lt-ltb}
 use Rattle.std.proofs.lemmas.List.{length-set}
-use Rattle.std.specs.List.{AllByRecursion}
-use Rattle.std.specs.Prelude.{IsSomeAnd, slice_get}
-use Rattle.log_model.proofs.Lists.{all_map}
-use Rattle.quorum_elects.proofs.Ranks.{one_counts}
 use Rattle.table_rows.proofs.Electing.{later_propose_row}
 use Rattle.timed_election.proofs.Coming.{Handled, How, again, asks, came_or_left, fires, first as first_, new_at}
 use Rattle.timed_election.proofs.Counting.{several}

@@ -1,22 +1,14 @@
 -- What an election leaves behind when it is won.
+use Rattle.law_names.proofs.Runs.{Envelope, Event, Monitors, message_at, messages_of}
+use Rattle.law_names.proofs.Table.{AllByRecursion, Change, Fits, Readings, has, played, promise_of, readings_of}
 use Rattle.log_model.proofs.Lists.{all_map}
-use Rattle.mon_msg.specs.Protocol.Changes.{Change}
-use Rattle.mon_msg.specs.Protocol.Played.{Fits, played}
-use Rattle.mon_msg.specs.Protocol.Readings.{Readings, promise_of, readings_of}
-use Rattle.mon_types.specs.Ranks.{has}
-use Rattle.quorum_model.specs.Clients.{messages_of}
-use Rattle.quorum_model.specs.Meets.{message_at}
-use Rattle.quorum_model.specs.Monitors.{Monitors}
-use Rattle.quorum_model.specs.World.{Envelope, Event}
 use Rattle.quorum_stays.proofs.SteppingDown.{here}
 use Rattle.quorum_stays.specs.Reading.{ClocksGoOn}
 use Rattle.quorum_timed.specs.Begins.{IsQuick}
 use Rattle.quorum_timed.specs.Timed.{Leads, MayBe, Owed, Pace, Timed}
-use Rattle.std.proofs.Common.{Bool, List, [], ap, arith, inl, inr, length, refl, subst, suc, sym, true, ℕ, ◌++◌, ◌+◌, ◌<◌, ◌∙◌, ◌∷◌, ◌≡◌, ◌≤◌}
+use Rattle.std.proofs.Common.{Bool, IsSomeAnd, List, [], ap, arith, inl, inr, length, refl, subst, suc, sym, true, ℕ, ◌++◌, ◌+◌, ◌<◌, ◌∙◌, ◌∷◌, ◌≡◌, ◌≤◌}
 use Rattle.std.proofs.lemmas.Bool.{cases_eq}
 use Rattle.std.proofs.lemmas.List.{append_assoc}
-use Rattle.std.specs.List.{AllByRecursion}
-use Rattle.std.specs.Prelude.{IsSomeAnd}
 use Rattle.timed_election.proofs.Coming.{Handled, left_all, next_all, still}
 use Rattle.timed_election.proofs.Ending.{WonAfter, ends_after}
 use Rattle.timed_election.proofs.Lists.{at_place, closed, opened}

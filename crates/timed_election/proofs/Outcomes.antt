@@ -1,61 +1,20 @@
 -- What a monitor that takes part in an election does at each input, if nothing is of a later epoch.
-use Rattle.election_rules.specs.declared.scores.Scores.{Scores}
-use Rattle.mon_bytes.specs.declared.entry.Entry.{Entry}
-use Rattle.mon_msg.specs.Protocol.Changes.{Epoch, Numbers}
-use Rattle.mon_msg.specs.Protocol.Chunks.{hear_chunk, hear_last_chunk}
-use Rattle.mon_msg.specs.Protocol.Collecting.{collect, collect_with, reign}
-use Rattle.mon_msg.specs.Protocol.Commands.{ask, hear_forward, hear_route}
-use Rattle.mon_msg.specs.Protocol.Copying.{hear_cookie, hear_no_cookie}
-use Rattle.mon_msg.specs.Protocol.Course.{Course, change, disarm}
-use Rattle.mon_msg.specs.Protocol.Elections.{election_ends, hear_ack, hear_propose, hear_victory, is_allowed, is_whole, may_defer, merge, stands_before, table_or, weigh}
-use Rattle.mon_msg.specs.Protocol.Entering.{elect, in_next_epoch, in_odd_epoch, is_even, scores_count, win}
-use Rattle.mon_msg.specs.Protocol.Hearing.{hear, hear_client, is_heard}
-use Rattle.mon_msg.specs.Protocol.Leader.{hear_accept, hear_last, hear_lease_ack}
-use Rattle.mon_msg.specs.Protocol.Leading.{is_alone}
-use Rattle.mon_msg.specs.Protocol.Peon.{hear_begin, hear_collect, hear_commit, hear_lease}
-use Rattle.mon_msg.specs.Protocol.Phases.{votes}
-use Rattle.mon_msg.specs.Protocol.Pings.{hear_ping, hear_ping_reply}
-use Rattle.mon_msg.specs.Protocol.Places.{is_after, is_cookie}
-use Rattle.mon_msg.specs.Protocol.Probing.{hear_probe, hear_probe_reply}
-use Rattle.mon_msg.specs.Protocol.Providing.{chunk, given_entries, given_values, grant, hear_get_chunk, hear_get_cookie_full, hear_get_cookie_recent, is_finished, reach}
-use Rattle.mon_msg.specs.Protocol.Readings.{Readings, epoch_of, or_zero, promise_of}
-use Rattle.mon_msg.specs.Protocol.Records.{pending}
-use Rattle.mon_msg.specs.Protocol.Sending.{members, message_to, others}
-use Rattle.mon_msg.specs.Protocol.Sets.{only}
-use Rattle.mon_msg.specs.Protocol.State.{State, no_clients, quorum_of, start_leader}
-use Rattle.mon_msg.specs.Protocol.Table.{at_rest, react, running, timer_comes}
-use Rattle.mon_msg.specs.Protocol.Timers.{armed, disarmed, end_of, is_armed, only_ping}
+use Rattle.law_names.proofs.Runs.{Envelope, Monitors}
+use Rattle.law_names.proofs.Table.{AllByRecursion, Body, Cookie, Course, Entry, Epoch, Input, Me, Message, Numbers, Phase, Place, Readings, Request, Scores, Sent, Session, State, Timer, armed, ask, at_rest, change, chunk, collect, collect_with, disarm, disarmed, elect, election_ends, end_of, epoch_of, given_entries, given_values, grant, has, hear, hear_accept, hear_ack, hear_begin, hear_chunk, hear_client, hear_collect, hear_commit, hear_cookie, hear_forward, hear_get_chunk, hear_get_cookie_full, hear_get_cookie_recent, hear_last, hear_last_chunk, hear_lease, hear_lease_ack, hear_no_cookie, hear_ping, hear_ping_reply, hear_probe, hear_probe_reply, hear_propose, hear_route, hear_victory, in_next_epoch, in_odd_epoch, is_after, is_allowed, is_alone, is_armed, is_cookie, is_even, is_finished, is_heard, is_majority, is_whole, may_defer, members, merge, message_to, next_number, no_clients, no_ranks, only, only_ping, or_zero, others, pending, promise_of, quorum_of, reach, react, reign, running, scores_count, stands_before, start_leader, table_or, timer_comes, votes, weigh, win, with_rank}
 use Rattle.mon_msg.specs.declared.election.Elector.{Elector}
 use Rattle.mon_msg.specs.declared.input.Input.TheVariants as input
-use Rattle.mon_msg.specs.declared.input.Input.{Input}
 use Rattle.mon_msg.specs.declared.plan.Sent.TheVariants as sent
-use Rattle.mon_msg.specs.declared.plan.Sent.{Sent}
-use Rattle.mon_msg.specs.declared.view.Me.{Me}
-use Rattle.mon_types.specs.Proposal.{next_number}
-use Rattle.mon_types.specs.Ranks.{has, is_majority, no_ranks, with_rank}
 use Rattle.mon_types.specs.declared.names.Which.TheVariants as which
 use Rattle.mon_wire.specs.declared.body.Body.TheVariants as body
-use Rattle.mon_wire.specs.declared.body.Body.{Body}
-use Rattle.mon_wire.specs.declared.message.Message.{Message}
-use Rattle.mon_wire.specs.declared.parts.Cookie.{Cookie}
-use Rattle.mon_wire.specs.declared.parts.Place.{Place}
 use Rattle.mon_wire.specs.declared.phase.Phase.TheVariants as phase
-use Rattle.mon_wire.specs.declared.phase.Phase.{Phase}
 use Rattle.mon_wire.specs.declared.phase.Timer.TheVariants as timer
-use Rattle.mon_wire.specs.declared.phase.Timer.{Timer}
 use Rattle.mon_wire.specs.declared.request.Request.TheVariants as request
-use Rattle.mon_wire.specs.declared.request.Request.{Request}
-use Rattle.mon_wire.specs.declared.request.Session.{Session}
 use Rattle.quorum_model.proofs.Members.{member_of}
-use Rattle.quorum_model.specs.Monitors.{Monitors}
-use Rattle.quorum_model.specs.World.{Envelope}
 use Rattle.quorum_timed.proofs.Armed.{Timers}
 use Rattle.quorum_walk.proofs.Parity.{next_is}
 use Rattle.quorum_walk.proofs.Walk.{Then, and_then, and_three, by_test, done, or_three, where_fits}
-use Rattle.std.proofs.Common.{Bool, Err, List, None, Ok, Option, Some, [], ap, arith, eqb, false, filter, inl, inr, leb, ltb, map, max, not, refl, slice_index_or, subst, suc, sym, true, ℕ, ◌&&◌, ◌++◌, ◌<◌, ◌^◌, ◌||◌, ◌∙◌, ◌∷◌, ◌≡◌, ◌≤◌, ◌⊎◌}
+use Rattle.std.proofs.Common.{Bool, Err, List, None, Ok, Option, Some, [], ap, arith, eqb, false, filter, inl, inr, is_some, leb, ltb, map, max, not, refl, slice_index_or, subst, suc, sym, true, ℕ, ◌&&◌, ◌++◌, ◌<◌, ◌^◌, ◌||◌, ◌∙◌, ◌∷◌, ◌≡◌, ◌≤◌, ◌⊎◌}
 use Rattle.std.proofs.lemmas.Bool.{and_parts, cond_both, eq-eqb, eqb-true, false≢true, leb-false, ltb-false, ltb-true, ne_eqb, or_cases}
-use Rattle.std.specs.List.{AllByRecursion}
-use Rattle.std.specs.Prelude.{is_some}
 use Rattle.timed_election.proofs.Quiet.{IsPlain, IsQuiet, plain_chunk}
 use Rattle.timed_election.specs.Keeping.{IsVote}
 

@@ -1,6 +1,5 @@
 -- A timed run that goes on where another one ends.
-use Rattle.quorum_model.specs.Monitors.{Monitors}
-use Rattle.quorum_model.specs.World.{Event}
+use Rattle.law_names.proofs.Runs.{Event, Monitors}
 use Rattle.quorum_timed.specs.Timed.{Comes, Leads, MayBe, Pace, Timed, at_time}
 use Rattle.std.proofs.Common.{Bool, List, [], ap, arith, subst, ℕ, ◌++◌, ◌∙◌, ◌∷◌}
 

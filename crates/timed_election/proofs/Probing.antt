@@ -1,25 +1,12 @@
 -- A member that probes hears the others within two delays, and goes on.
+use Rattle.law_names.proofs.Runs.{Envelope, Event, Monitors, message_at, messages_of}
+use Rattle.law_names.proofs.Table.{AllByRecursion, Course, Input, Message, State, Timer, at_rest, count_of, end_of, epoch_of, has, is_armed, is_majority, quorum_of, react, readings_of, same_phase, send, shared_entries}
 use Rattle.log_model.proofs.Lists.{all_map}
-use Rattle.mon_msg.specs.Protocol.Course.{Course}
-use Rattle.mon_msg.specs.Protocol.Phases.{same_phase}
-use Rattle.mon_msg.specs.Protocol.Readings.{epoch_of, readings_of, shared_entries}
-use Rattle.mon_msg.specs.Protocol.Sending.{send}
-use Rattle.mon_msg.specs.Protocol.State.{State, quorum_of}
-use Rattle.mon_msg.specs.Protocol.Table.{at_rest, react}
-use Rattle.mon_msg.specs.Protocol.Timers.{end_of, is_armed}
 use Rattle.mon_msg.specs.declared.input.Input.TheVariants as input
-use Rattle.mon_msg.specs.declared.input.Input.{Input}
-use Rattle.mon_types.specs.Ranks.{count_of, has, is_majority}
 use Rattle.mon_wire.specs.declared.body.Body.TheVariants as body
-use Rattle.mon_wire.specs.declared.message.Message.{Message}
 use Rattle.mon_wire.specs.declared.phase.Phase.TheVariants as phase
-use Rattle.mon_wire.specs.declared.phase.Timer.{Timer}
 use Rattle.quorum_elects.proofs.Ranks.{count_more}
 use Rattle.quorum_model.proofs.Members.{member_of}
-use Rattle.quorum_model.specs.Clients.{messages_of}
-use Rattle.quorum_model.specs.Meets.{message_at}
-use Rattle.quorum_model.specs.Monitors.{Monitors}
-use Rattle.quorum_model.specs.World.{Envelope, Event}
 use Rattle.quorum_stays.proofs.Onward.{one_state}
 use Rattle.quorum_stays.proofs.SteppingDown.{here}
 use Rattle.quorum_stays.proofs.UnderWay.{numbers}
@@ -27,10 +14,8 @@ use Rattle.quorum_stays.specs.SteppingDown.{EachIs}
 use Rattle.quorum_timed.specs.Begins.{IsBetween}
 use Rattle.quorum_timed.specs.Timed.{Leads, MayBe, Owed, Pace, Timed, at_time, owed_by}
 use Rattle.quorum_walk.proofs.Walk.{Then}
-use Rattle.std.proofs.Common.{Bool, List, Ok, Some, [], ap, arith, false, inl, inr, length, ltb, refl, subst, suc, sym, true, ℕ, ◌*◌, ◌++◌, ◌+◌, ◌<◌, ◌∙◌, ◌∷◌, ◌≡◌, ◌≤◌, ◌⊎◌}
+use Rattle.std.proofs.Common.{Bool, IsSomeAnd, List, Ok, Some, [], ap, arith, false, inl, inr, length, ltb, refl, slice_get, subst, suc, sym, true, ℕ, ◌*◌, ◌++◌, ◌+◌, ◌<◌, ◌∙◌, ◌∷◌, ◌≡◌, ◌≤◌, ◌⊎◌}
 use Rattle.std.proofs.lemmas.Bool.{cases_eq, cases_lt, eq-eqb, false≢true, lt-ltb, ltb-true}
-use Rattle.std.specs.List.{AllByRecursion}
-use Rattle.std.specs.Prelude.{IsSomeAnd, slice_get}
 use Rattle.timed_election.proofs.Coming.{Handled, How, again, asks, came_or_left, fires, first, handled, left_all, left_same, new_at, next_all, on_state, still, time_is, under_now}
 use Rattle.timed_election.proofs.Lists.{arrives_last, arrives_more, closed, message_in, opened}
 use Rattle.timed_election.proofs.ProbingRows.{Keeps, Knows, Probed, keeps_on, probe_answered, probed, reply_taken}

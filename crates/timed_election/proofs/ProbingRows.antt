@@ -1,50 +1,17 @@
 -- What a monitor that probes does at each input: it goes on with no fewer answers, calls an election, or begins a copy.
-use Rattle.election_rules.specs.declared.scores.Scores.{Scores}
-use Rattle.mon_bytes.specs.declared.entry.Entry.{Entry}
-use Rattle.mon_msg.specs.Protocol.Chunks.{hear_chunk, hear_last_chunk}
-use Rattle.mon_msg.specs.Protocol.Commands.{ask, hear_forward, hear_route}
-use Rattle.mon_msg.specs.Protocol.Copying.{hear_cookie, hear_no_cookie}
-use Rattle.mon_msg.specs.Protocol.Course.{Course}
-use Rattle.mon_msg.specs.Protocol.Elections.{hear_ack, hear_propose, hear_victory}
-use Rattle.mon_msg.specs.Protocol.Entering.{elect, in_odd_epoch}
-use Rattle.mon_msg.specs.Protocol.Hearing.{hear, hear_client, is_heard}
-use Rattle.mon_msg.specs.Protocol.Leader.{hear_accept, hear_last, hear_lease_ack}
-use Rattle.mon_msg.specs.Protocol.Peon.{hear_begin, hear_collect, hear_commit, hear_lease}
-use Rattle.mon_msg.specs.Protocol.Phases.{same_phase}
-use Rattle.mon_msg.specs.Protocol.Pings.{hear_ping, hear_ping_reply}
-use Rattle.mon_msg.specs.Protocol.Places.{is_after, is_cookie}
-use Rattle.mon_msg.specs.Protocol.Probing.{hear_probe, hear_probe_reply, lag}
-use Rattle.mon_msg.specs.Protocol.Providing.{chunk, grant, hear_get_chunk, hear_get_cookie_full, hear_get_cookie_recent}
-use Rattle.mon_msg.specs.Protocol.Readings.{Readings, epoch_of}
-use Rattle.mon_msg.specs.Protocol.Sending.{message_to, send}
-use Rattle.mon_msg.specs.Protocol.State.{State, quorum_of}
-use Rattle.mon_msg.specs.Protocol.Synchronizing.{full_sync, recent_sync}
-use Rattle.mon_msg.specs.Protocol.Table.{at_rest, react, running}
-use Rattle.mon_msg.specs.Protocol.Timers.{is_armed}
+use Rattle.law_names.proofs.Runs.{Monitors}
+use Rattle.law_names.proofs.Table.{AllByRecursion, Body, Cookie, Course, Entry, Input, Me, Phase, Place, Readings, Request, Scores, Session, State, Timer, Which, ask, at_rest, chunk, count_of, elect, epoch_of, full_sync, grant, has, hear, hear_accept, hear_ack, hear_begin, hear_chunk, hear_client, hear_collect, hear_commit, hear_cookie, hear_forward, hear_get_chunk, hear_get_cookie_full, hear_get_cookie_recent, hear_last, hear_last_chunk, hear_lease, hear_lease_ack, hear_no_cookie, hear_ping, hear_ping_reply, hear_probe, hear_probe_reply, hear_propose, hear_route, hear_victory, in_odd_epoch, is_after, is_armed, is_cookie, is_heard, is_majority, lag, message_to, no_ranks, quorum_of, react, recent_sync, running, same_phase, send, with_rank}
 use Rattle.mon_msg.specs.declared.input.Input.TheVariants as input
-use Rattle.mon_msg.specs.declared.input.Input.{Input}
-use Rattle.mon_msg.specs.declared.view.Me.{Me}
-use Rattle.mon_types.specs.Ranks.{count_of, has, is_majority, no_ranks, with_rank}
 use Rattle.mon_types.specs.declared.names.Which.TheVariants as which
-use Rattle.mon_types.specs.declared.names.Which.{Which}
 use Rattle.mon_wire.specs.declared.body.Body.TheVariants as body
-use Rattle.mon_wire.specs.declared.body.Body.{Body}
 use Rattle.mon_wire.specs.declared.phase.Phase.TheVariants as phase
-use Rattle.mon_wire.specs.declared.phase.Phase.{Phase}
-use Rattle.mon_wire.specs.declared.phase.Timer.{Timer}
 use Rattle.mon_wire.specs.declared.request.Request.TheVariants as request
-use Rattle.mon_wire.specs.declared.request.Request.{Request}
-use Rattle.mon_wire.specs.declared.request.Session.{Session}
-use Rattle.mon_wire.specs.declared.parts.Cookie.{Cookie}
-use Rattle.mon_wire.specs.declared.parts.Place.{Place}
 use Rattle.quorum_model.proofs.Members.{member_of}
-use Rattle.quorum_model.specs.Monitors.{Monitors}
 use Rattle.quorum_walk.proofs.Ranks.{has_with}
 use Rattle.quorum_walk.proofs.Walk.{Then, and_then, by_test, done, where_fits}
-use Rattle.std.proofs.Common.{Bool, Err, List, None, Ok, Option, Result, Some, [], arith, false, filter, length, ltb, not, refl, slice_index_or, subst, suc, sym, true, ℕ, ◌&&◌, ◌+◌, ◌<◌, ◌∙◌, ◌∷◌, ◌≡◌, ◌||◌}
+use Rattle.std.proofs.Common.{Bool, Err, List, None, Ok, Option, Result, Some, [], arith, false, filter, length, ltb, not, refl, slice_index_or, subst, suc, sym, true, ℕ, ◌&&◌, ◌+◌, ◌<◌, ◌||◌, ◌∙◌, ◌∷◌, ◌≡◌}
 use Rattle.std.proofs.lemmas.Bool.{and_parts, eq-eqb, false≢true, ltb-true, ne_eqb}
 use Rattle.std.proofs.lemmas.List.{get_or-set_same, length-set}
-use Rattle.std.specs.List.{AllByRecursion}
 use Rattle.timed_election.proofs.Quiet.{IsPlain, IsQuiet, plain_chunk}
 use Rattle.timed_election.specs.Joining.{IsNear, IsNearIn}
 

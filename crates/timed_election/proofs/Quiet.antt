@@ -1,13 +1,7 @@
 -- What a monitor sends that neither calls an election nor acknowledges a call.
-use Rattle.mon_bytes.specs.declared.entry.Entry.{Entry}
-use Rattle.mon_msg.specs.Protocol.Providing.{chunk, given_entries, given_values, is_finished, reach}
-use Rattle.mon_msg.specs.Protocol.Readings.{Readings, epoch_of}
+use Rattle.law_names.proofs.Table.{Body, Cookie, Entry, Place, Readings, Sent, chunk, epoch_of, given_entries, given_values, is_finished, reach}
 use Rattle.mon_msg.specs.declared.plan.Sent.TheVariants as sent
-use Rattle.mon_msg.specs.declared.plan.Sent.{Sent}
 use Rattle.mon_wire.specs.declared.body.Body.TheVariants as body
-use Rattle.mon_wire.specs.declared.body.Body.{Body}
-use Rattle.mon_wire.specs.declared.parts.Cookie.{Cookie}
-use Rattle.mon_wire.specs.declared.parts.Place.{Place}
 use Rattle.quorum_timed.specs.Calls.{IsCall}
 use Rattle.std.proofs.Common.{List, subst, ℕ, ◌&&◌, ◌≡◌}
 use Rattle.std.proofs.lemmas.Bool.{cond_both}

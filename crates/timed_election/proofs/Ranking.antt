@@ -1,12 +1,9 @@
 -- The best member outranks all others, whatever table a message has.
 use Rattle.election_rules.proofs.RankingLaws.{strict}
-use Rattle.election_rules.specs.Ranking.{allows, outranks, score}
+use Rattle.election_rules.specs.Ranking.{outranks, score}
 use Rattle.election_rules.specs.declared.rule.Rule.TheVariants.{Classic, Connectivity, Disallow}
-use Rattle.election_rules.specs.declared.rule.Rule.{Rule}
-use Rattle.election_rules.specs.declared.scores.Scores.{Scores}
-use Rattle.mon_msg.specs.Protocol.Entering.{scores_count}
-use Rattle.mon_types.specs.Ranks.{has}
-use Rattle.quorum_model.specs.Monitors.{Monitors}
+use Rattle.law_names.proofs.Runs.{Monitors}
+use Rattle.law_names.proofs.Table.{Rule, Scores, allows, has, scores_count}
 use Rattle.std.proofs.Common.{Bool, List, arith, false, refl, sym, true, ℕ, ◌&&◌, ◌<◌, ◌∙◌, ◌≡◌}
 use Rattle.std.proofs.lemmas.Bool.{and_from, and_parts, eq-eqb, false≢true, le-ltb, lt-ltb}
 use Rattle.timed_election.specs.Election.{CanElect}

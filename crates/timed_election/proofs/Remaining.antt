@@ -1,20 +1,14 @@
 -- What is still under way when an election ends: calls and acknowledgements alone.
+use Rattle.law_names.proofs.Runs.{Envelope, Event, Monitors, message_at, messages_of}
+use Rattle.law_names.proofs.Table.{AllByRecursion, Body, has}
 use Rattle.log_model.proofs.Lists.{all_append, all_map}
-use Rattle.mon_types.specs.Ranks.{has}
 use Rattle.mon_wire.specs.declared.body.Body.TheVariants as body
-use Rattle.mon_wire.specs.declared.body.Body.{Body}
-use Rattle.quorum_model.specs.Clients.{messages_of}
-use Rattle.quorum_model.specs.Meets.{message_at}
-use Rattle.quorum_model.specs.Monitors.{Monitors}
-use Rattle.quorum_model.specs.World.{Envelope, Event}
 use Rattle.quorum_stays.proofs.Onward.{list_left}
 use Rattle.quorum_stays.proofs.UnderWay.{all_numbers, all_owed, numbers}
 use Rattle.quorum_timed.specs.Calls.{IsCall}
 use Rattle.quorum_timed.specs.Timed.{MayBe, Owed, Pace, Timed, owed_by}
-use Rattle.std.proofs.Common.{Bool, List, Some, [], arith, inl, inr, length, refl, subst, suc, sym, true, ℕ, ◌++◌, ◌+◌, ◌<◌, ◌∙◌, ◌∷◌, ◌≡◌, ◌≤◌, ◌⊎◌}
+use Rattle.std.proofs.Common.{Bool, IsSomeAnd, List, Some, [], arith, inl, inr, length, refl, subst, suc, sym, true, ℕ, ◌++◌, ◌+◌, ◌<◌, ◌∙◌, ◌∷◌, ◌≡◌, ◌≤◌, ◌⊎◌}
 use Rattle.std.proofs.lemmas.Bool.{cases_lt}
-use Rattle.std.specs.List.{AllByRecursion}
-use Rattle.std.specs.Prelude.{IsSomeAnd}
 use Rattle.timed_election.proofs.Coming.{Handled, How, again, asks, fires, first, left_all, new_at, next_all, still, under_now}
 use Rattle.timed_election.proofs.Lists.{at_place, closed, opened}
 use Rattle.timed_election.proofs.Outcomes.{Asks, AsksIn, VotesOrAnswers}

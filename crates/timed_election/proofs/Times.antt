@@ -1,18 +1,14 @@
 -- How far time goes while an election goes on.
-use Rattle.mon_msg.specs.Protocol.Sending.{others}
-use Rattle.mon_msg.specs.Protocol.State.{State}
-use Rattle.mon_msg.specs.Protocol.Timers.{end_of}
-use Rattle.mon_types.specs.Ranks.{has}
+use Rattle.law_names.proofs.Runs.{Monitors}
+use Rattle.law_names.proofs.Table.{State, end_of, has, others}
 use Rattle.mon_wire.specs.declared.body.Body.TheVariants as body
 use Rattle.mon_wire.specs.declared.phase.Timer.TheVariants as timer
-use Rattle.quorum_model.specs.Monitors.{Monitors}
 use Rattle.quorum_stays.proofs.Onward.{one_state}
 use Rattle.quorum_timed.specs.Begins.{IsQuick}
 use Rattle.quorum_timed.specs.Calls.{Calls, HasAck}
 use Rattle.quorum_timed.specs.Timed.{MayBe, Owed, Pace, Timed}
-use Rattle.std.proofs.Common.{Bool, List, None, Some, [], ap, arith, false, inl, inr, refl, subst, sym, true, ℕ, ◌+◌, ◌∙◌, ◌∷◌, ◌≡◌, ◌≤◌, ◌⊎◌}
+use Rattle.std.proofs.Common.{Bool, IsSomeAnd, List, None, Some, [], ap, arith, false, inl, inr, refl, subst, sym, true, ℕ, ◌+◌, ◌∙◌, ◌∷◌, ◌≡◌, ◌≤◌, ◌⊎◌}
 use Rattle.std.proofs.lemmas.Bool.{false≢true}
-use Rattle.std.specs.Prelude.{IsSomeAnd}
 use Rattle.timed_election.proofs.Lists.{opened}
 use Rattle.timed_election.specs.Election.{ArrivesBy, CanElect, Election, Elects, Heard, IsAck, Stands, TakesPart, Unheard, in_election}
 

@@ -1,30 +1,11 @@
 -- What one event leaves of an election: it goes on, or the best member wins it.
+use Rattle.law_names.proofs.Runs.{Arrives, Deliver, Envelope, Event, Monitors, envelope_of, message_at, messages_of}
+use Rattle.law_names.proofs.Table.{AllByRecursion, Body, Change, Course, Epoch, Fits, Input, Me, Message, Numbers, Readings, State, Store, Timer, armed, disarmed, end_of, epoch_of, has, members, message_to, no_ranks, only, only_ping, or_zero, pending, played, promise_of, react, readings_of, shared_entries, start_leader}
 use Rattle.log_model.proofs.Lists.{all_append, all_both, all_map}
-use Rattle.mon_msg.specs.Protocol.Changes.{Change, Epoch, Numbers}
-use Rattle.mon_msg.specs.Protocol.Course.{Course}
-use Rattle.mon_msg.specs.Protocol.Played.{Fits, played}
-use Rattle.mon_msg.specs.Protocol.Readings.{Readings, epoch_of, or_zero, promise_of, readings_of, shared_entries}
-use Rattle.mon_msg.specs.Protocol.Records.{pending}
-use Rattle.mon_msg.specs.Protocol.Sending.{members, message_to}
-use Rattle.mon_msg.specs.Protocol.Sets.{only}
-use Rattle.mon_msg.specs.Protocol.State.{State, start_leader}
-use Rattle.mon_msg.specs.Protocol.Table.{react}
-use Rattle.mon_msg.specs.Protocol.Timers.{armed, disarmed, end_of, only_ping}
 use Rattle.mon_msg.specs.declared.input.Input.TheVariants as input
-use Rattle.mon_msg.specs.declared.input.Input.{Input}
-use Rattle.mon_tx.specs.Map.{Store}
-use Rattle.mon_msg.specs.declared.view.Me.{Me}
-use Rattle.mon_types.specs.Ranks.{has, no_ranks}
 use Rattle.mon_wire.specs.declared.body.Body.TheVariants as body
-use Rattle.mon_wire.specs.declared.body.Body.{Body}
-use Rattle.mon_wire.specs.declared.message.Message.{Message}
 use Rattle.mon_wire.specs.declared.phase.Timer.TheVariants as timer
-use Rattle.mon_wire.specs.declared.phase.Timer.{Timer}
 use Rattle.quorum_model.proofs.Members.{member_of}
-use Rattle.quorum_model.specs.Clients.{envelope_of, messages_of}
-use Rattle.quorum_model.specs.Meets.{message_at}
-use Rattle.quorum_model.specs.Monitors.{Monitors}
-use Rattle.quorum_model.specs.World.{Arrives, Deliver, Envelope, Event}
 use Rattle.quorum_stays.proofs.Carrying.{Gives, due_at, gives_append, new_carries}
 use Rattle.quorum_stays.proofs.Onward.{here_left, one_state, other_left}
 use Rattle.quorum_stays.proofs.Sending.{each, none_own, to_member}
@@ -36,11 +17,9 @@ use Rattle.quorum_timed.proofs.Armed.{Timers}
 use Rattle.quorum_timed.specs.Begins.{IsQuick}
 use Rattle.quorum_timed.specs.Calls.{IsCall, IsCandidate, IsDelivery, IsNewCall}
 use Rattle.quorum_timed.specs.Timed.{MayBe, Owed, Pace, Timed, Went, at_time, owed_by, without_first}
-use Rattle.std.proofs.Common.{Bool, List, None, Ok, Some, [], ap, arith, false, inl, inr, length, ltb, map, refl, subst, suc, sym, true, ℕ, ◌++◌, ◌+◌, ◌^◌, ◌∙◌, ◌∷◌, ◌≡◌, ◌≤◌, ◌⊎◌}
+use Rattle.std.proofs.Common.{Bool, IsSomeAnd, List, None, Ok, Some, [], ap, arith, false, inl, inr, length, ltb, map, refl, slice_get, subst, suc, sym, true, ℕ, ◌++◌, ◌+◌, ◌^◌, ◌∙◌, ◌∷◌, ◌≡◌, ◌≤◌, ◌⊎◌}
 use Rattle.std.proofs.lemmas.Bool.{cases_eq, eq-eqb, false≢true}
 use Rattle.std.proofs.lemmas.List.Elements.{filter_map-append}
-use Rattle.std.specs.List.{AllByRecursion}
-use Rattle.std.specs.Prelude.{IsSomeAnd, slice_get}
 use Rattle.timed_election.proofs.Coming.{How, again, asks, fires, first, left_all, left_same, new_at, next_all, no_delivery, on_state, same_there, still, time_is, under_now}
 use Rattle.timed_election.proofs.Events.{Turn, ack_counts, call_answered, call_is, part}
 use Rattle.timed_election.proofs.Lists.{arrives_last, arrives_more, at_place, closed, is_call, is_old, letter_is, message_in, old_or_new, one, opened}
