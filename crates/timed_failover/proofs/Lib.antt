@@ -1,10 +1,12 @@
 pub mod CollectActs
 pub mod CollectAsides
 pub mod CollectBegins
+pub mod CollectCome
 pub mod CollectElects
 pub mod CollectKeeps
 pub mod CollectLeaders
 pub mod CollectMembers
+pub mod CollectPops
 pub mod CollectQuiets
 pub mod CollectRows
 pub mod CollectTaken

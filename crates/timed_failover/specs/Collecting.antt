@@ -25,6 +25,7 @@ use Rattle.quorum_stays.specs.Steady.{AreApart, Carries, FollowsSince, IsOfComma
 use Rattle.quorum_timed.specs.Timed.{Leads, Owed, Pace, Timed}
 use Rattle.std.specs.Prelude.{Bool, IsSomeAnd, List, Option, Some, [], false, is_some, length, slice_index_or, suc, true, ℕ, ◌*◌, ◌+◌, ◌++◌, ◌<◌, ◌^◌, ◌∷◌, ◌≡◌, ◌≤◌, ◌⊎◌}
 use Rattle.timed_election.specs.Election.{CanElect, Election, reign_of}
+use Rattle.timed_failover.specs.Settling.{Opens, Settles}
 
 -- The election that the leader won, when, and its proposal number. Its first and its last version then. The last version
 -- that any member has or accepted, and its value.
@@ -183,3 +184,19 @@ pub record IsAsked (ms : Monitors) (q : List Bool) (pace : Pace) (x : Query) (t 
       (t.under_way i x.election.best)
   pub apart : (f i : ℕ) → has q f ≡ true → has q i ≡ true → AreApart x.election.best f i
       → Carries ms (reign ms.count pace x) t.world.messages f i (t.time + pace.delay) [] (t.under_way f i)
+
+-- At some time of the run, and by time u, the leader heard all members. It gave the first leases, or proposes the value
+-- that it found. The rest of the run goes on from there.
+pub record IsHeardBy (ms : Monitors) (q : List Bool) (pace : Pace) (x : Query) (t last : Timed)
+    (more : List (ℕ × Event)) (u : ℕ) : Type 0 where
+  pub before : List (ℕ × Event)
+  pub after : List (ℕ × Event)
+  pub parts : more ≡ before ++ after
+  pub reached : Timed
+  pub run : Leads ms q pace t before reached
+  pub rest : Leads ms q pace reached after last
+  pub by : reached.time ≤ u
+  pub version : ℕ
+  pub heard : Opens ms q pace (reign_of x.election x.pn) version x.value x.won reached
+      ⊎ ((value : List Op) × Settles ms q pace (reign_of x.election x.pn)
+      (record { version = version; value = x.value; won = x.won; found = record { value = value; at = reached.time } }) reached)
