@@ -1,31 +1,12 @@
 -- What a leader does once all members of its quorum answered: it sends the last version to those that lack it, and then
 -- serves, or proposes the value that it found.
-use Rattle.mon_bytes.specs.declared.entry.Entry.{Entry}
-use Rattle.mon_msg.specs.Protocol.Changes.{Change, Vote}
-use Rattle.mon_msg.specs.Protocol.Collecting.{begin_found, commits_to, settle}
-use Rattle.mon_msg.specs.Protocol.Course.{Course}
-use Rattle.mon_msg.specs.Protocol.Leading.{be_active, begin, begin_with, extend, is_alone}
-use Rattle.mon_msg.specs.Protocol.Readings.{Readings, epoch_of}
-use Rattle.mon_msg.specs.Protocol.Records.{most_value, record_at}
-use Rattle.mon_msg.specs.Protocol.Sending.{members, message_to}
-use Rattle.mon_msg.specs.Protocol.Sets.{are_within, is_empty, only}
-use Rattle.mon_msg.specs.Protocol.State.{State}
-use Rattle.mon_msg.specs.Protocol.Timers.{armed, disarmed, end_of, only_ping}
-use Rattle.mon_msg.specs.declared.paxos.Found.{Found}
+use Rattle.law_names.proofs.Runs.{Monitors, envelope_of, messages_of}
+use Rattle.law_names.proofs.Table.{Body, Change, Course, Entry, Found, Me, Op, Readings, Sent, State, Timer, Vote, are_within, armed, be_active, begin, begin_found, begin_with, commits_to, disarmed, end_of, epoch_of, extend, flat_map, has, is_alone, is_empty, members, message_to, most_value, no_ranks, only, only_ping, range_with_len, record_at, settle, text}
 use Rattle.mon_msg.specs.declared.paxos.LeaderStage.TheVariants as stage
-use Rattle.mon_msg.specs.declared.plan.Sent.{Sent}
-use Rattle.mon_msg.specs.declared.view.Me.{Me}
-use Rattle.mon_tx.specs.Text.{text}
-use Rattle.mon_tx.specs.declared.op.Op.{Op}
-use Rattle.mon_types.specs.Ranks.{has, no_ranks}
 use Rattle.mon_wire.specs.declared.body.Body.TheVariants as body
-use Rattle.mon_wire.specs.declared.body.Body.{Body}
 use Rattle.mon_wire.specs.declared.phase.Phase.TheVariants as phase
 use Rattle.mon_wire.specs.declared.phase.Timer.TheVariants as timer
-use Rattle.mon_wire.specs.declared.phase.Timer.{Timer}
 use Rattle.quorum_model.proofs.Members.{member_of}
-use Rattle.quorum_model.specs.Clients.{envelope_of, messages_of}
-use Rattle.quorum_model.specs.Monitors.{Monitors}
 use Rattle.quorum_recovers.proofs.CollectRows.{commits_one}
 use Rattle.quorum_stays.proofs.Carrying.{Gives, gives_append}
 use Rattle.quorum_stays.proofs.Sending.{each}
@@ -34,12 +15,10 @@ use Rattle.quorum_stays.proofs.Timers.{all_extended, ends, no_end, off, one_end,
 use Rattle.quorum_stays.specs.Steady.{LeadsSince, ProposesSince, Reign}
 use Rattle.quorum_timed.proofs.Armed.{Timers}
 use Rattle.quorum_walk.proofs.Ranks.{has_only, has_only_is, within_at}
-use Rattle.std.proofs.Common.{Bool, List, None, Ok, Option, Result, Some, [], ap, arith, cond, eqb, false, filter, inl, inr, length, ltb, map, not, refl, subst, suc, sym, true, zero, ℕ, ◌&&◌, ◌+◌, ◌++◌, ◌<◌, ◌^◌, ◌∙◌, ◌∷◌, ◌≡◌, ◌≤◌, ◌⊎◌}
+use Rattle.std.proofs.Common.{Bool, List, None, Ok, Option, Result, Some, [], ap, arith, cond, eqb, false, filter, inl, inr, length, ltb, map, not, refl, slice_index_or, subst, suc, sym, true, zero, ℕ, ◌&&◌, ◌++◌, ◌+◌, ◌<◌, ◌^◌, ◌∙◌, ◌∷◌, ◌≡◌, ◌≤◌, ◌⊎◌}
 use Rattle.std.proofs.lemmas.Bool.{and_parts, cases_eq, eq-eqb, eqb-true, false≢true, ltb-true, ne_eqb, not-true}
 use Rattle.std.proofs.lemmas.List.Elements.{filter_map-append}
 use Rattle.std.proofs.lemmas.List.{append-nil, length-set}
-use Rattle.std.specs.List.{flat_map, range_with_len}
-use Rattle.std.specs.Prelude.{slice_index_or}
 use Rattle.table_rows.proofs.Serving.{begins}
 
 -- ---- what is sent to some ranks, one after another

@@ -1,33 +1,19 @@
 -- A leader that just won asks its quorum, if all else that is under way is of the election, and all stores are near.
+use Rattle.law_names.proofs.Runs.{Envelope, Monitors, message_at}
+use Rattle.law_names.proofs.Table.{AllByRecursion, Found, Leader, Op, Readings, State, Timer, are_within, end_of, epoch_of, found_as, has, is_even, length_of, most_value, no_ranks, only, pending, pending_of, promise_of, readings_of, record_at, start_leader, text}
 use Rattle.log_model.proofs.Lists.{all_both, all_map}
-use Rattle.mon_msg.specs.Protocol.Entering.{is_even}
-use Rattle.mon_msg.specs.Protocol.Readings.{Readings, epoch_of, promise_of, readings_of}
-use Rattle.mon_msg.specs.Protocol.Records.{found_as, most_value, pending, pending_of, record_at}
-use Rattle.mon_msg.specs.Protocol.Sets.{are_within, only}
-use Rattle.mon_msg.specs.Protocol.State.{State, start_leader}
-use Rattle.mon_msg.specs.Protocol.Timers.{end_of, length_of}
-use Rattle.mon_msg.specs.declared.paxos.Found.{Found}
-use Rattle.mon_msg.specs.declared.paxos.Leader.{Leader}
-use Rattle.mon_tx.specs.Text.{text}
-use Rattle.mon_tx.specs.declared.op.Op.{Op}
-use Rattle.mon_types.specs.Ranks.{has, no_ranks}
 use Rattle.mon_wire.specs.declared.body.Body.TheVariants as body
 use Rattle.mon_wire.specs.declared.phase.Timer.TheVariants as timer
-use Rattle.mon_wire.specs.declared.phase.Timer.{Timer}
-use Rattle.quorum_model.specs.Meets.{message_at}
-use Rattle.quorum_model.specs.Monitors.{Monitors}
-use Rattle.quorum_model.specs.World.{Envelope}
 use Rattle.quorum_stays.proofs.Carrying.{carries_append}
 use Rattle.quorum_stays.proofs.Onward.{pack, unpack}
 use Rattle.quorum_stays.specs.Steady.{AreApart, Carries, IsAside, IsOfCommand, IsOfElections, Item, Reign, item}
 use Rattle.quorum_timed.specs.Begins.{IsQuick}
 use Rattle.quorum_timed.specs.Timed.{Owed, Pace, Timed}
 use Rattle.quorum_walk.proofs.Ranks.{has_only, has_only_is, within_at}
-use Rattle.std.proofs.Common.{Bool, List, None, Option, Some, [], ap, arith, cond, eqb, false, inl, inr, length, refl, subst, suc, sym, true, zero, ℕ, ◌*◌, ◌++◌, ◌+◌, ◌<◌, ◌^◌, ◌∙◌, ◌∷◌, ◌≡◌, ◌≤◌, ◌⊎◌}
+use Rattle.std.proofs.Common.{Bool, IsSomeAnd, List, None, Option, Some, [], ap, arith, cond, eqb, false, inl, inr, length, option_map, refl, subst, suc, sym, true, zero, ℕ, ◌*◌, ◌++◌, ◌+◌, ◌<◌, ◌^◌, ◌∙◌, ◌∷◌, ◌≡◌, ◌≤◌, ◌⊎◌}
 use Rattle.std.proofs.lemmas.Bool.{eqb-true, ltb-true}
 use Rattle.std.proofs.lemmas.List.{length-set}
-use Rattle.std.specs.List.{AllByRecursion}
-use Rattle.std.specs.Prelude.{IsSomeAnd, option_and_then, option_map}
+use Rattle.std.specs.Prelude.{option_and_then}
 use Rattle.timed_election.proofs.Lists.{opened}
 use Rattle.timed_election.specs.Election.{BeginsToCollect, CanElect, Defers, Election, IsOfElection, IsTold, IsWon, TakesPart, reign_of}
 use Rattle.timed_failover.proofs.CollectKeeps.{asides}

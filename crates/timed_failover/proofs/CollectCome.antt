@@ -1,34 +1,12 @@
 -- What comes to a quorum whose new leader asks it, until all members answered.
+use Rattle.law_names.proofs.Runs.{Envelope, Event, Monitors, message_at, messages_of}
+use Rattle.law_names.proofs.Table.{AllByRecursion, Body, Course, Entry, Input, Me, Message, Op, Origin, Readings, Reply, Request, Session, State, Timer, at_rest, end_of, epoch_of, has, hear, hear_forward, hear_route, is_heard, quorum_of, react, readings_of, same_phase, shared_entries}
 use Rattle.log_model.proofs.Lists.{all_map}
-use Rattle.mon_bytes.specs.declared.entry.Entry.{Entry}
-use Rattle.mon_msg.specs.Protocol.Commands.{hear_forward, hear_route}
-use Rattle.mon_msg.specs.Protocol.Course.{Course}
-use Rattle.mon_msg.specs.Protocol.Hearing.{hear, is_heard}
-use Rattle.mon_msg.specs.Protocol.Phases.{same_phase}
-use Rattle.mon_msg.specs.Protocol.Readings.{Readings, epoch_of, readings_of, shared_entries}
-use Rattle.mon_msg.specs.Protocol.State.{State, quorum_of}
-use Rattle.mon_msg.specs.Protocol.Table.{at_rest, react}
-use Rattle.mon_msg.specs.Protocol.Timers.{end_of}
 use Rattle.mon_msg.specs.declared.input.Input.TheVariants as input
-use Rattle.mon_msg.specs.declared.input.Input.{Input}
-use Rattle.mon_msg.specs.declared.plan.Origin.{Origin}
-use Rattle.mon_msg.specs.declared.view.Me.{Me}
-use Rattle.mon_tx.specs.declared.op.Op.{Op}
-use Rattle.mon_types.specs.Ranks.{has}
 use Rattle.mon_wire.specs.declared.body.Body.TheVariants as body
-use Rattle.mon_wire.specs.declared.body.Body.{Body}
-use Rattle.mon_wire.specs.declared.message.Message.{Message}
 use Rattle.mon_wire.specs.declared.phase.Phase.TheVariants as phase
 use Rattle.mon_wire.specs.declared.phase.Timer.TheVariants as timer
-use Rattle.mon_wire.specs.declared.phase.Timer.{Timer}
-use Rattle.mon_wire.specs.declared.reply.Reply.{Reply}
-use Rattle.mon_wire.specs.declared.request.Request.{Request}
-use Rattle.mon_wire.specs.declared.request.Session.{Session}
 use Rattle.quorum_model.proofs.Members.{member_of}
-use Rattle.quorum_model.specs.Clients.{messages_of}
-use Rattle.quorum_model.specs.Meets.{message_at}
-use Rattle.quorum_model.specs.Monitors.{Monitors}
-use Rattle.quorum_model.specs.World.{Envelope, Event}
 use Rattle.quorum_stays.proofs.Onward.{one_state, unpack}
 use Rattle.quorum_stays.proofs.Outcomes.{AsksAs, BringsNone, BringsRoute, NobodyAsks, Outcome, aside_row, client_row, propose_row}
 use Rattle.quorum_stays.proofs.Staying.{goes_on, time_of_next}
@@ -41,10 +19,8 @@ use Rattle.quorum_timed.specs.Begins.{IsBetween, IsQuick}
 use Rattle.quorum_timed.specs.Calls.{IsCall, IsCandidate}
 use Rattle.quorum_timed.specs.Timed.{Leads, MayBe, Owed, Pace, Timed, Went, at_time, without_first}
 use Rattle.quorum_walk.proofs.Walk.{Then, by_test, done}
-use Rattle.std.proofs.Common.{Bool, List, Ok, Option, Some, [], ap, arith, false, inl, inr, length, ltb, refl, subst, suc, sym, true, ℕ, ◌*◌, ◌+◌, ◌<◌, ◌^◌, ◌∙◌, ◌∷◌, ◌≡◌, ◌≤◌, ◌⊎◌}
+use Rattle.std.proofs.Common.{Bool, IsSomeAnd, List, Ok, Option, Some, [], ap, arith, false, inl, inr, length, ltb, refl, subst, suc, sym, true, ℕ, ◌*◌, ◌+◌, ◌<◌, ◌^◌, ◌∙◌, ◌∷◌, ◌≡◌, ◌≤◌, ◌⊎◌}
 use Rattle.std.proofs.lemmas.Bool.{cases_eq, false≢true, le-ltb, lt-ltb}
-use Rattle.std.specs.List.{AllByRecursion}
-use Rattle.std.specs.Prelude.{IsSomeAnd}
 use Rattle.timed_election.proofs.Coming.{Handled, How, again, asks, fires, first, handled, left_all, next_all, still}
 use Rattle.timed_election.proofs.Counting.{several}
 use Rattle.timed_election.proofs.Lists.{closed, opened}
@@ -54,11 +30,11 @@ use Rattle.timed_failover.proofs.CollectAsides.{aside_asked}
 use Rattle.timed_failover.proofs.CollectElects.{electing_asked}
 use Rattle.timed_failover.proofs.CollectKeeps.{IsApart, R}
 use Rattle.timed_failover.proofs.CollectMembers.{hears_collect, hears_victory}
-use Rattle.timed_failover.proofs.CollectPops.{MemberAt, over, pop_down, pop_other, pop_up, victory_due, collect_due}
+use Rattle.timed_failover.proofs.CollectPops.{MemberAt, collect_due, over, pop_down, pop_other, pop_up, victory_due}
 use Rattle.timed_failover.proofs.CollectQuiets.{still_asked}
-use Rattle.timed_failover.proofs.CollectTaken.{Left, last_taken}
 use Rattle.timed_failover.proofs.CollectTaken as taken
-use Rattle.timed_failover.specs.Collecting.{Collects, Electing, Following, IsAs, IsAsked, IsHeardBy, IsNoted, KeepsAs, Noted, Progress, Promised, Query, StillElects, answer_to, from_such, to_such}
+use Rattle.timed_failover.proofs.CollectTaken.{Left, last_taken}
+use Rattle.timed_failover.specs.Collecting.{AreBetween, Collects, Electing, Following, IsAs, IsAsked, IsHeardBy, IsNoted, KeepsAs, Noted, Progress, Promised, Query, StillElects, answer_to, from_such, to_such}
 use Rattle.timed_failover.specs.Settling.{Opens, Settles}
 
 -- ---- a member that still elects drops what is about a client's command
@@ -106,10 +82,6 @@ module _ (ms : Monitors) (q : List Bool) (pace : Pace) (quick : IsQuick pace) (x
   -- it asks on, or heard all
   abbrev pub After : (u : ℕ) → Timed → Type 0
   After u next = IsAsked ms q pace x next ⊎ HeardAll u next
-
-  -- each message under way is of its sender, to its receiver
-  abbrev pub Between : Timed → Type 0
-  Between t = (f i : ℕ) → has q f ≡ true → has q i ≡ true → AllByRecursion (λ o. IsBetween t.world f i o.number) (t.under_way f i)
 
   module _ (t : Timed) (X : IsAsked ms q pace x t) (u : ℕ) (M : MayBe ms q pace t u) (room : ClocksGoOn q pace u) (next : Timed) (e : Event) where
     abbrev C : CanElect ms q best
@@ -445,15 +417,15 @@ module _ (ms : Monitors) (q : List Bool) (pace : Pace) (quick : IsQuick pace) (x
         same rest = subst (λ (z : ℕ → ℕ → List Owed). IsAsked ms q pace x (record t { under_way = z })) (sym rest) X
 
         by : How ms q pace t u G.i G.came e G.left G.state → After u next
-        by (first f qf o others m list there from is at rest) = arrives f G.i (record { event = H; sender = qf; o = o; others = others; message = m; list = list; there = there; from = from; came_is = is; rest = rest })
-        by (again k m there from call cand is at rest) = calls_again G.i H rest m is from call cand
-        by (fires kind end on due is at rest) = inl (rings G.i H (same rest) kind end on due is)
-        by (asks session r is at rest) = inl (wanted G.i H (same rest) session r is)
+        by (first f qf o others m list there from is _ rest) = arrives f G.i (record { event = H; sender = qf; o = o; others = others; message = m; list = list; there = there; from = from; came_is = is; rest = rest })
+        by (again k m there from call cand is _ rest) = calls_again G.i H rest m is from call cand
+        by (fires kind end on due is _ rest) = inl (rings G.i H (same rest) kind end on due is)
+        by (asks session r is _ rest) = inl (wanted G.i H (same rest) session r is)
 
   -- ---- the run
 
   -- what was sent is of its sender
-  still_between : (t : Timed) (u : ℕ) (next : Timed) (e : Event) → Between t → Handled ms q pace within t u next e → Between next
+  still_between : (t : Timed) (u : ℕ) (next : Timed) (e : Event) → AreBetween q t → Handled ms q pace within t u next e → AreBetween q next
   still_between t u next e B H f j qf qj = next_all ms q pace t u next e H.left H.went H.i H.came H.state H.course H.how H.did (λ o. IsBetween next.world f j o.number) f j
       (left_all ms q pace t u next e H.left H.went H.i H.came H.state H.course H.how H.did (λ o. IsBetween next.world f j o.number) f j
       (all_map (λ o. IsBetween t.world f j o.number) (λ o. IsBetween next.world f j o.number) (λ o h. kept o h) (t.under_way f j) (B f j qf qj)))
@@ -471,7 +443,7 @@ module _ (ms : Monitors) (q : List Bool) (pace : Pace) (quick : IsQuick pace) (x
     | inr ni ↦ (let F = X.others i qi ni in let o = unpack (IsAs ms.count pace x q i F.progress) (t.world.state i) F.is_as in closed (λ (s : State). Unit {0}) (t.world.state i) o.0 o.1 tt)
   ]
 
-  pub heard_all : (t last : Timed) (more : List (ℕ × Event)) → IsAsked ms q pace x t → Between t → Leads ms q pace t more last → ClocksGoOn q pace last.time → x.won + 2 * pace.delay < last.time
+  pub heard_all : (t last : Timed) (more : List (ℕ × Event)) → IsAsked ms q pace x t → AreBetween q t → Leads ms q pace t more last → ClocksGoOn q pace last.time → x.won + 2 * pace.delay < last.time
       → IsHeardBy ms q pace x t last more (x.won + 2 * pace.delay)
   heard_all t last [] X B L room late = let k = over ms q pace x t X last.time L.0 in absurd (omega arith)
   heard_all t last ((u, e) ∷ more) X B L room late = by (stepped t X u L.0 room_now next e H) (λ Y. heard_all L.1.0 last more Y (still_between t u L.1.0 e B H) L.1.2 room late)

@@ -1,30 +1,13 @@
 -- A new leader still asks after an event at a member that takes part in the election: until the VICTORY comes, what is under
 -- way is a vote, a call may come again, and its own timer may fire. It calls and defers as before, and doesn't win.
-use Rattle.mon_bytes.specs.declared.entry.Entry.{Entry}
-use Rattle.mon_msg.specs.Protocol.Course.{Course}
-use Rattle.mon_msg.specs.Protocol.Elections.{is_whole}
-use Rattle.mon_msg.specs.Protocol.Entering.{is_even}
-use Rattle.mon_msg.specs.Protocol.Leading.{is_alone}
-use Rattle.mon_msg.specs.Protocol.Readings.{Readings, epoch_of, readings_of, shared_entries}
-use Rattle.mon_msg.specs.Protocol.Sending.{others}
-use Rattle.mon_msg.specs.Protocol.Sets.{only}
-use Rattle.mon_msg.specs.Protocol.State.{State}
-use Rattle.mon_msg.specs.Protocol.Table.{react}
-use Rattle.mon_msg.specs.Protocol.Timers.{armed, disarmed, end_of}
+use Rattle.law_names.proofs.Runs.{Envelope, Event, Monitors, messages_of}
+use Rattle.law_names.proofs.Table.{AllByRecursion, Course, Entry, Input, Me, Message, Readings, Sent, State, Timer, armed, disarmed, end_of, epoch_of, has, is_alone, is_even, is_majority, is_whole, no_ranks, only, others, react, readings_of, shared_entries, with_rank}
 use Rattle.mon_msg.specs.declared.input.Input.TheVariants as input
-use Rattle.mon_msg.specs.declared.input.Input.{Input}
 use Rattle.mon_msg.specs.declared.plan.Sent.TheVariants as sent
-use Rattle.mon_msg.specs.declared.plan.Sent.{Sent}
-use Rattle.mon_msg.specs.declared.view.Me.{Me}
-use Rattle.mon_types.specs.Ranks.{has, is_majority, no_ranks, with_rank}
 use Rattle.mon_wire.specs.declared.body.Body.TheVariants as body
-use Rattle.mon_wire.specs.declared.message.Message.{Message}
 use Rattle.mon_wire.specs.declared.phase.Timer.TheVariants as timer
-use Rattle.mon_wire.specs.declared.phase.Timer.{Timer}
+use Rattle.quorum_agreement.proofs.Others.{others as has_others}
 use Rattle.quorum_model.proofs.Members.{member_of}
-use Rattle.quorum_model.specs.Clients.{messages_of}
-use Rattle.quorum_model.specs.Monitors.{Monitors}
-use Rattle.quorum_model.specs.World.{Envelope, Event}
 use Rattle.quorum_stays.proofs.Stepping.{Did}
 use Rattle.quorum_stays.proofs.Timers.{armed_size, disarmed_size, ends, one_end, same_kind_or, still_ends, still_on}
 use Rattle.quorum_timed.proofs.Armed.{Timers}
@@ -34,11 +17,9 @@ use Rattle.quorum_walk.proofs.Ranks.{has_only_is, has_with_is, nobody}
 use Rattle.quorum_walk.proofs.Walk.{Then}
 use Rattle.std.proofs.Common.{Bool, List, None, Ok, Option, Some, [], ap, arith, false, inl, inr, length, ltb, map, refl, subst, suc, sym, true, ℕ, ◌+◌, ◌<◌, ◌^◌, ◌∙◌, ◌∷◌, ◌≡◌, ◌≤◌}
 use Rattle.std.proofs.lemmas.Bool.{false≢true}
-use Rattle.std.specs.List.{AllByRecursion}
 use Rattle.timed_election.proofs.Coming.{How, again, asks, fires, first}
 use Rattle.timed_election.proofs.Counting.{not_whole, several}
 use Rattle.timed_election.proofs.Outcomes.{AsksIn, IsAnswerTo, IsLow, Outcome, Stays, calls, calls_again, counts, defers, reacted, rests, says, wins}
-use Rattle.quorum_agreement.proofs.Others.{others as has_others}
 use Rattle.timed_election.specs.Election.{CanElect}
 use Rattle.timed_failover.proofs.CollectKeeps.{IsApart, L}
 use Rattle.timed_failover.proofs.CollectQuiets.{still_asked}

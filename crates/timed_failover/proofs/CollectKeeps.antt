@@ -1,30 +1,16 @@
 -- What stays as it was while a new leader asks, at an event that sends nothing of its round.
-use Rattle.mon_msg.specs.Protocol.Course.{Course}
-use Rattle.mon_msg.specs.Protocol.Readings.{Readings, epoch_of, promise_of, readings_of}
-use Rattle.mon_msg.specs.Protocol.Records.{pending}
-use Rattle.mon_msg.specs.Protocol.Played.{Fits, played}
-use Rattle.mon_msg.specs.Protocol.Changes.{Change}
-use Rattle.mon_msg.specs.Protocol.State.{State}
-use Rattle.mon_msg.specs.declared.input.Input.{Input}
-use Rattle.mon_tx.specs.Map.{Store}
-use Rattle.mon_types.specs.Ranks.{has}
-use Rattle.mon_wire.specs.declared.body.Body.{Body}
-use Rattle.quorum_model.specs.Clients.{messages_of}
-use Rattle.quorum_model.specs.Meets.{message_at}
-use Rattle.quorum_model.specs.Monitors.{Monitors}
-use Rattle.quorum_model.specs.World.{Envelope, Event}
-use Rattle.quorum_stays.proofs.Carrying.{Gives, carries_append, carries_on, due_at, new_carries, before_due}
+use Rattle.law_names.proofs.Runs.{Envelope, Event, Monitors, message_at, messages_of}
+use Rattle.law_names.proofs.Table.{AllByRecursion, Body, Change, Course, Fits, Input, Readings, State, Store, epoch_of, has, pending, played, promise_of, readings_of}
+use Rattle.quorum_stays.proofs.Carrying.{Gives, before_due, carries_append, carries_on, due_at, new_carries}
 use Rattle.quorum_stays.proofs.Onward.{one_state, pack, unpack}
 use Rattle.quorum_stays.proofs.Stepping.{Did}
 use Rattle.quorum_stays.proofs.UnderWay.{all_numbers, all_owed, numbers}
 use Rattle.quorum_stays.specs.Steady.{Carries, IsAside, IsOfClients, IsOfEarlier, Item, Reign}
 use Rattle.quorum_timed.specs.Timed.{Owed, Pace, Timed, Went, at_time, owed_by}
-use Rattle.std.proofs.Common.{Bool, List, Option, Some, [], ap, arith, inl, inr, length, refl, subst, suc, sym, true, ℕ, ◌++◌, ◌+◌, ◌∙◌, ◌≡◌, ◌≤◌, ◌⊎◌, ◌∷◌}
+use Rattle.std.proofs.Common.{Bool, IsSomeAnd, List, Option, Some, [], ap, arith, inl, inr, is_some, length, refl, slice_get, subst, suc, sym, true, ℕ, ◌++◌, ◌+◌, ◌∙◌, ◌∷◌, ◌≡◌, ◌≤◌, ◌⊎◌}
 use Rattle.std.proofs.lemmas.Bool.{cases_eq}
 use Rattle.std.proofs.lemmas.List.{append-nil}
-use Rattle.std.specs.List.{AllByRecursion}
-use Rattle.std.specs.Prelude.{IsSomeAnd, slice_get, is_some}
-use Rattle.timed_election.proofs.Coming.{How, new_at, under_now, time_is}
+use Rattle.timed_election.proofs.Coming.{How, new_at, time_is, under_now}
 use Rattle.timed_election.proofs.Lists.{at_place}
 use Rattle.timed_failover.specs.Collecting.{Electing, Following, IsAs, IsNoted, IsWhole, KeepsAs, Noted, Progress, Promised, Query, Questioned, answer_to, from_such, reign, to_such}
 

@@ -1,34 +1,18 @@
 -- What a new leader keeps and remembers after a LAST of a member.
-use Rattle.mon_msg.specs.Protocol.Changes.{Change, Last, Learn}
-use Rattle.mon_msg.specs.Protocol.Course.{Course}
-use Rattle.mon_msg.specs.Protocol.Leader.{all_answered, note_answer}
-use Rattle.mon_msg.specs.Protocol.Played.{Fits, play, played}
-use Rattle.mon_msg.specs.Protocol.Readings.{Readings, epoch_of, promise_of}
-use Rattle.mon_msg.specs.Protocol.Records.{most_value, pending, record_at}
-use Rattle.mon_msg.specs.Protocol.Sets.{are_within}
-use Rattle.mon_msg.specs.Protocol.State.{State}
-use Rattle.mon_msg.specs.Protocol.Table.{at_rest}
-use Rattle.mon_msg.specs.declared.paxos.Found.{Found}
-use Rattle.mon_msg.specs.declared.view.Me.{Me}
-use Rattle.mon_bytes.specs.declared.entry.Entry.{Entry}
-use Rattle.mon_tx.specs.Text.{text}
-use Rattle.mon_tx.specs.declared.op.Op.{Op}
-use Rattle.mon_types.specs.Ranks.{has, with_rank}
-use Rattle.mon_types.specs.declared.names.Which.{Which}
+use Rattle.law_names.proofs.Runs.{Monitors}
+use Rattle.law_names.proofs.Table.{AllByRecursion, Change, Course, Entry, Fits, Found, Last, Learn, Me, Op, Readings, State, Which, all_answered, are_within, at_rest, epoch_of, has, most_value, pending, play, played, promise_of, record_at, text, with_rank}
+use Rattle.mon_msg.specs.Protocol.Leader.{note_answer}
 use Rattle.mon_wire.specs.declared.phase.Phase.TheVariants as phase
 use Rattle.quorum_model.proofs.Members.{member_of}
-use Rattle.quorum_model.specs.Monitors.{Monitors}
 use Rattle.quorum_recovers.proofs.States.{get_other, get_set}
 use Rattle.quorum_stays.proofs.Stores.{learned_epoch, learned_promise}
 use Rattle.quorum_stays.specs.Steady.{IsOfCommand}
 use Rattle.quorum_timed.specs.Timed.{Pace}
 use Rattle.quorum_walk.proofs.Ranks.{has_with, has_with_is}
-use Rattle.std.proofs.Common.{Bool, List, None, Ok, Option, Result, Some, [], ap, arith, drop, false, inl, inr, length, ltb, refl, subst, suc, sym, true, ℕ, ◌&&◌, ◌+◌, ◌-◌, ◌<◌, ◌^◌, ◌∙◌, ◌∷◌, ◌≡◌, ◌≤◌, ◌⊎◌}
+use Rattle.std.proofs.Common.{Bool, IsSomeAnd, List, None, Ok, Option, Result, Some, [], ap, arith, drop, false, inl, inr, is_some, length, ltb, refl, slice_index_or, slice_set, subst, suc, sym, true, ℕ, ◌&&◌, ◌+◌, ◌-◌, ◌<◌, ◌^◌, ◌∙◌, ◌∷◌, ◌≡◌, ◌≤◌, ◌⊎◌}
 use Rattle.std.proofs.Math.Seq.{drop-nil}
 use Rattle.std.proofs.lemmas.Bool.{cases_order, false≢true, le-ltb}
 use Rattle.std.proofs.lemmas.List.{get_or-set_same, length-set}
-use Rattle.std.specs.List.{AllByRecursion}
-use Rattle.std.specs.Prelude.{IsSomeAnd, is_some, slice_index_or, slice_set}
 use Rattle.table_rows.proofs.Hearing.{IsMember, hears}
 use Rattle.table_rows.proofs.Serving.{learned}
 use Rattle.timed_failover.proofs.CollectRows.{Says, after_note, found_either, found_later, found_there, found_with, notes, says, takes_new, takes_old}

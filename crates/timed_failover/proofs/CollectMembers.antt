@@ -1,24 +1,11 @@
 -- A new leader still asks after a member heard its VICTORY, or its COLLECT.
-use Rattle.mon_msg.specs.Protocol.Changes.{Change, Epoch, Promise}
-use Rattle.mon_msg.specs.Protocol.Course.{Course}
+use Rattle.law_names.proofs.Runs.{Envelope, Event, Monitors, messages_of}
+use Rattle.law_names.proofs.Table.{AllByRecursion, Body, Change, Course, Epoch, Fits, Input, Me, Promise, Readings, State, at_rest, epoch_of, has, is_majority, message_to, play, played, promise_of, react, readings_of, shared_entries, votes}
 use Rattle.mon_msg.specs.Protocol.Elections.{follow}
-use Rattle.mon_msg.specs.Protocol.Phases.{votes}
-use Rattle.mon_msg.specs.Protocol.Played.{Fits, play, played}
-use Rattle.mon_msg.specs.Protocol.Readings.{Readings, epoch_of, promise_of, readings_of, shared_entries}
-use Rattle.mon_msg.specs.Protocol.Sending.{message_to}
-use Rattle.mon_msg.specs.Protocol.State.{State}
-use Rattle.mon_msg.specs.Protocol.Table.{at_rest, react}
 use Rattle.mon_msg.specs.declared.input.Input.TheVariants as input
-use Rattle.mon_msg.specs.declared.input.Input.{Input}
-use Rattle.mon_msg.specs.declared.view.Me.{Me}
-use Rattle.mon_types.specs.Ranks.{has, is_majority}
 use Rattle.mon_wire.specs.declared.body.Body.TheVariants as body
-use Rattle.mon_wire.specs.declared.body.Body.{Body}
 use Rattle.mon_wire.specs.declared.phase.Phase.TheVariants as phase
 use Rattle.quorum_model.proofs.Members.{member_of}
-use Rattle.quorum_model.specs.Clients.{messages_of}
-use Rattle.quorum_model.specs.Monitors.{Monitors}
-use Rattle.quorum_model.specs.World.{Envelope, Event}
 use Rattle.quorum_stays.proofs.Carrying.{Gives, due_at}
 use Rattle.quorum_stays.proofs.Onward.{here_left, one_state, other_left, pack, unpack}
 use Rattle.quorum_stays.proofs.States.{begun_follows}
@@ -26,11 +13,9 @@ use Rattle.quorum_stays.proofs.Stepping.{Did}
 use Rattle.quorum_stays.specs.Steady.{Carries, FollowsSince, Item, Reign, in_reign, item}
 use Rattle.quorum_timed.specs.Timed.{Owed, Pace, Timed, Went, at_time, without_first}
 use Rattle.quorum_walk.proofs.Parity.{even_of_odd}
-use Rattle.std.proofs.Common.{Bool, List, None, Ok, Option, Some, [], ap, arith, false, inl, inr, ltb, refl, subst, suc, sym, true, ℕ, ◌&&◌, ◌*◌, ◌+◌, ◌++◌, ◌<◌, ◌^◌, ◌∙◌, ◌∷◌, ◌≡◌, ◌≤◌}
+use Rattle.std.proofs.Common.{Bool, IsSomeAnd, List, None, Ok, Option, Some, [], ap, arith, false, inl, inr, ltb, refl, subst, suc, sym, true, ℕ, ◌&&◌, ◌*◌, ◌++◌, ◌+◌, ◌<◌, ◌^◌, ◌∙◌, ◌∷◌, ◌≡◌, ◌≤◌}
 use Rattle.std.proofs.lemmas.Bool.{cases_eq, le-ltb}
 use Rattle.std.proofs.lemmas.List.{append-nil}
-use Rattle.std.specs.List.{AllByRecursion}
-use Rattle.std.specs.Prelude.{IsSomeAnd}
 use Rattle.table_rows.proofs.Electing.{victory_row}
 use Rattle.timed_election.proofs.Coming.{How}
 use Rattle.timed_election.specs.Election.{CanElect}

@@ -1,8 +1,6 @@
 -- A new leader still asks if a message of no round is taken off a channel. It asks for two delays at most.
-use Rattle.mon_msg.specs.Protocol.Readings.{Readings, readings_of}
-use Rattle.mon_msg.specs.Protocol.State.{State}
-use Rattle.mon_types.specs.Ranks.{has}
-use Rattle.quorum_model.specs.Monitors.{Monitors}
+use Rattle.law_names.proofs.Runs.{Monitors}
+use Rattle.law_names.proofs.Table.{Readings, State, has, readings_of}
 use Rattle.quorum_stays.proofs.Carrying.{first_by}
 use Rattle.quorum_stays.proofs.Onward.{here_left, list_left, one_state, other_left, unpack}
 use Rattle.quorum_stays.proofs.States.{Missing, one_missing}

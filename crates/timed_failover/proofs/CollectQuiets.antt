@@ -1,18 +1,10 @@
 -- A new leader still asks after an event that writes nothing and sends nothing of its round.
-use Rattle.mon_msg.specs.Protocol.Course.{Course}
-use Rattle.mon_msg.specs.Protocol.Readings.{Readings, epoch_of, promise_of, readings_of}
-use Rattle.mon_msg.specs.Protocol.State.{State}
-use Rattle.mon_msg.specs.declared.input.Input.{Input}
-use Rattle.mon_types.specs.Ranks.{has}
-use Rattle.quorum_model.specs.Clients.{messages_of}
-use Rattle.quorum_model.specs.Monitors.{Monitors}
-use Rattle.quorum_model.specs.World.{Envelope, Event}
+use Rattle.law_names.proofs.Runs.{Envelope, Event, Monitors, messages_of}
+use Rattle.law_names.proofs.Table.{AllByRecursion, Course, Input, Readings, State, epoch_of, has, promise_of, readings_of}
 use Rattle.quorum_stays.proofs.Stepping.{Did}
 use Rattle.quorum_stays.specs.Steady.{Carries, Item}
 use Rattle.quorum_timed.specs.Timed.{Owed, Pace, Timed, Went, at_time}
-use Rattle.std.proofs.Common.{Bool, List, Some, [], arith, subst, suc, sym, true, ℕ, ◌+◌, ◌∙◌, ◌≡◌, ◌≤◌}
-use Rattle.std.specs.List.{AllByRecursion}
-use Rattle.std.specs.Prelude.{IsSomeAnd}
+use Rattle.std.proofs.Common.{Bool, IsSomeAnd, List, Some, [], arith, subst, suc, sym, true, ℕ, ◌+◌, ◌∙◌, ◌≡◌, ◌≤◌}
 use Rattle.timed_election.proofs.Coming.{How}
 use Rattle.timed_failover.proofs.CollectKeeps.{IsApart, L, R, apart_on, es, every_store, now_is, on_state}
 use Rattle.timed_failover.specs.Collecting.{CanLearn, Collects, IsAs, IsAsked, IsNear, IsNoted, IsStocked, IsWhole, KeepsAs, Progress, Query, Questioned, answer_to, from_such, to_such}

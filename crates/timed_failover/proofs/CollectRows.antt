@@ -1,42 +1,18 @@
 -- The rows of an election that was won: VICTORY, COLLECT, and LAST up to the last one.
-use Rattle.mon_bytes.specs.declared.entry.Entry.{Entry}
-use Rattle.mon_msg.specs.Protocol.Answers.{answer_of, is_complete, sent_values, told_of}
-use Rattle.mon_msg.specs.Protocol.Changes.{Promise}
-use Rattle.mon_msg.specs.Protocol.Course.{Course, ◌>>=◌}
+use Rattle.law_names.proofs.Table.{Body, Course, Entry, Found, Me, Op, Phase, Promise, Readings, State, Timer, Told, Which, all_answered, answer_of, armed, at_rest, better, counts, end_of, epoch_of, fits, hear_whole, is_complete, learn, longest, message_to, most_value, news_from, note, only_ping, pending, pending_of, play, promise_of, record_at, run_from, run_of, same_phase, sent_values, settle, text, told_of, ◌>>=◌}
 use Rattle.mon_msg.specs.Protocol.Elections.{follow}
-use Rattle.mon_msg.specs.Protocol.Found.{better, counts, is_newer}
-use Rattle.mon_msg.specs.Protocol.Leader.{all_answered, hear_answer, hear_whole, note, note_answer}
-use Rattle.mon_msg.specs.Protocol.Learning.{learn, news_from}
-use Rattle.mon_msg.specs.Protocol.Length.{fits}
-use Rattle.mon_msg.specs.Protocol.Collecting.{settle}
-use Rattle.mon_msg.specs.Protocol.Played.{play}
-use Rattle.mon_msg.specs.Protocol.Readings.{Readings, epoch_of, promise_of}
-use Rattle.mon_msg.specs.Protocol.Records.{longest, most_value, pending, pending_of, record_at, run_from, run_of}
-use Rattle.mon_msg.specs.Protocol.Sending.{message_to}
-use Rattle.mon_msg.specs.Protocol.State.{State}
-use Rattle.mon_msg.specs.Protocol.Table.{at_rest}
-use Rattle.mon_msg.specs.Protocol.Timers.{armed, end_of, only_ping}
-use Rattle.mon_msg.specs.declared.paxos.Found.{Found}
-use Rattle.mon_msg.specs.declared.view.Me.{Me}
-use Rattle.mon_tx.specs.Text.{text}
-use Rattle.mon_tx.specs.declared.op.Op.{Op}
-use Rattle.mon_types.specs.declared.names.Which.{Which}
+use Rattle.mon_msg.specs.Protocol.Found.{is_newer}
+use Rattle.mon_msg.specs.Protocol.Leader.{hear_answer, note_answer}
 use Rattle.mon_wire.specs.declared.body.Body.TheVariants as body
-use Rattle.mon_wire.specs.declared.body.Body.{Body}
-use Rattle.mon_wire.specs.declared.parts.Told.{Told}
 use Rattle.mon_wire.specs.declared.phase.Phase.TheVariants as phase
-use Rattle.mon_wire.specs.declared.phase.Phase.{Phase}
 use Rattle.mon_wire.specs.declared.phase.Timer.TheVariants as timer
-use Rattle.mon_wire.specs.declared.phase.Timer.{Timer}
-use Rattle.mon_msg.specs.Protocol.Phases.{same_phase}
 use Rattle.quorum_elects.proofs.Values.{FoundShort, pending_short}
 use Rattle.quorum_recovers.proofs.LastAnswers.{fits_one, run_one}
 use Rattle.quorum_stays.proofs.Timers.{armed_size, ends, one_end, only_ping_is, same_kind_or, still_ends}
 use Rattle.quorum_stays.specs.Steady.{FollowsSince, IsOfCommand}
 use Rattle.quorum_timed.proofs.Armed.{Timers}
-use Rattle.std.proofs.Common.{Bool, List, None, Ok, Option, Result, Some, [], ap, arith, cond, drop, eqb, false, inl, inr, leb, length, ltb, refl, subst, suc, sym, true, ℕ, ◌&&◌, ◌||◌, ◌+◌, ◌-◌, ◌<◌, ◌^◌, ◌∙◌, ◌∷◌, ◌≡◌, ◌≤◌, ◌⊎◌}
-use Rattle.std.proofs.lemmas.Bool.{cond_both, false≢true, le-leb, le-ltb, lt-ltb, ltb-false, ltb-true, or_cases, and_parts, eqb-true}
-use Rattle.std.specs.Prelude.{IsSomeAnd, is_some}
+use Rattle.std.proofs.Common.{Bool, IsSomeAnd, List, None, Ok, Option, Result, Some, [], ap, arith, cond, drop, eqb, false, inl, inr, is_some, leb, length, ltb, refl, subst, suc, sym, true, ℕ, ◌&&◌, ◌+◌, ◌-◌, ◌<◌, ◌^◌, ◌||◌, ◌∙◌, ◌∷◌, ◌≡◌, ◌≤◌, ◌⊎◌}
+use Rattle.std.proofs.lemmas.Bool.{and_parts, cond_both, eqb-true, false≢true, le-leb, le-ltb, lt-ltb, ltb-false, ltb-true, or_cases}
 use Rattle.table_rows.proofs.Electing.{collect_row, last_row}
 use Rattle.table_rows.proofs.Hearing.{IsLeader, IsMember, hears}
 use Rattle.table_rows.proofs.Serving.{learned, learns_one}

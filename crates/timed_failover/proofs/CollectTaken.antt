@@ -1,32 +1,13 @@
 -- A new leader takes the LAST of a member. It goes on asking if others are missing.
+use Rattle.law_names.proofs.Runs.{Envelope, Event, Monitors, messages_of}
+use Rattle.law_names.proofs.Table.{AllByRecursion, Body, Change, Course, Fits, Found, Input, Me, Readings, State, Vote, are_within, be_active, begin_with, commits_to, end_of, epoch_of, flat_map, has, members, most_value, only, pending, play, played, promise_of, react, readings_of, record_at, settle, shared_entries, text, with_rank}
 use Rattle.log_model.proofs.Lists.{all_append}
-use Rattle.mon_msg.specs.Protocol.Changes.{Change, Vote}
-use Rattle.mon_msg.specs.Protocol.Collecting.{commits_to, settle}
-use Rattle.mon_msg.specs.Protocol.Course.{Course}
-use Rattle.mon_msg.specs.Protocol.Leading.{be_active, begin_with}
-use Rattle.mon_msg.specs.Protocol.Played.{Fits, play, played}
-use Rattle.mon_msg.specs.Protocol.Readings.{Readings, epoch_of, promise_of, readings_of, shared_entries}
-use Rattle.mon_msg.specs.Protocol.Records.{most_value, pending, record_at}
-use Rattle.mon_msg.specs.Protocol.Sending.{members}
-use Rattle.mon_msg.specs.Protocol.Sets.{are_within, only}
-use Rattle.mon_msg.specs.Protocol.State.{State}
-use Rattle.mon_msg.specs.Protocol.Table.{react}
-use Rattle.mon_msg.specs.Protocol.Timers.{end_of}
 use Rattle.mon_msg.specs.declared.input.Input.TheVariants as input
-use Rattle.mon_msg.specs.declared.input.Input.{Input}
-use Rattle.mon_msg.specs.declared.paxos.Found.{Found}
 use Rattle.mon_msg.specs.declared.paxos.LeaderStage.TheVariants as stage
-use Rattle.mon_msg.specs.declared.view.Me.{Me}
-use Rattle.mon_tx.specs.Text.{text}
-use Rattle.mon_types.specs.Ranks.{has, with_rank}
 use Rattle.mon_wire.specs.declared.body.Body.TheVariants as body
-use Rattle.mon_wire.specs.declared.body.Body.{Body}
 use Rattle.mon_wire.specs.declared.phase.Phase.TheVariants as phase
 use Rattle.mon_wire.specs.declared.phase.Timer.TheVariants as timer
 use Rattle.quorum_model.proofs.Members.{member_of}
-use Rattle.quorum_model.specs.Clients.{messages_of}
-use Rattle.quorum_model.specs.Monitors.{Monitors}
-use Rattle.quorum_model.specs.World.{Envelope, Event}
 use Rattle.quorum_stays.proofs.Carrying.{Gives, due_at, gives_append, gives_other}
 use Rattle.quorum_stays.proofs.Onward.{here_left, one_state, other_left, pack, unpack}
 use Rattle.quorum_stays.proofs.Sending.{each, each_from, not_alone, to_member, to_none}
@@ -35,10 +16,8 @@ use Rattle.quorum_stays.specs.Steady.{AreApart, Carries, FollowsSince, IsOfComma
 use Rattle.quorum_timed.specs.Timed.{Owed, Pace, Timed, Went, at_time, without_first}
 use Rattle.quorum_walk.proofs.Ranks.{has_only_is, has_with_is, within_at}
 use Rattle.quorum_walk.proofs.Sparing.{played_more}
-use Rattle.std.proofs.Common.{Bool, List, None, Ok, Some, [], ap, arith, cond, false, inl, inr, length, ltb, refl, subst, suc, sym, true, ℕ, ◌*◌, ◌+◌, ◌++◌, ◌<◌, ◌^◌, ◌∙◌, ◌∷◌, ◌≡◌, ◌≤◌, ◌⊎◌}
+use Rattle.std.proofs.Common.{Bool, IsSomeAnd, List, None, Ok, Some, [], ap, arith, cond, false, inl, inr, is_some, length, ltb, refl, slice_index_or, subst, suc, sym, true, ℕ, ◌*◌, ◌++◌, ◌+◌, ◌<◌, ◌^◌, ◌∙◌, ◌∷◌, ◌≡◌, ◌≤◌, ◌⊎◌}
 use Rattle.std.proofs.lemmas.Bool.{cases_eq, cases_order, false≢true, ltb-false, ltb-true}
-use Rattle.std.specs.List.{AllByRecursion, flat_map}
-use Rattle.std.specs.Prelude.{IsSomeAnd, is_some, slice_index_or}
 use Rattle.timed_election.proofs.Coming.{How}
 use Rattle.timed_election.proofs.Lists.{opened}
 use Rattle.timed_election.specs.Election.{CanElect}
@@ -46,8 +25,8 @@ use Rattle.timed_failover.proofs.CollectActs.{Goes, behind, caught_up, commits_g
 use Rattle.timed_failover.proofs.CollectKeeps.{IsApart, R, apart_on, gives_on, now_is, on_state, other_store}
 use Rattle.timed_failover.proofs.CollectLeaders.{Learns, Takes, collecting, found_fine, noted, notes_it, notes_others, still_collects, takes}
 use Rattle.timed_failover.proofs.CollectRows.{notes}
-use Rattle.timed_failover.specs.Settling.{Behind, KeepsAtFirst, Level, Opener, Opens, Settler, Settles, Settling, first_items, is_counted, Progress as SettlerProgress, KeepsAs as SettlerKeeps, to_such as peon_items, from_such as leader_items}
 use Rattle.timed_failover.specs.Collecting.{CanLearn, Collects, Electing, Following, IsAs, IsAsked, IsNear, IsNoted, IsStocked, IsWhole, KeepsAs, Noted, Progress, Promised, Query, Questioned, answer_to, from_such, to_such}
+use Rattle.timed_failover.specs.Settling.{Behind, KeepsAs as SettlerKeeps, KeepsAtFirst, Level, Opener, Opens, Progress as SettlerProgress, Settler, Settles, Settling, first_items, from_such as leader_items, is_counted, to_such as peon_items}
 
 module _ (ms : Monitors) (q : List Bool) (pace : Pace) (x : Query) (t : Timed) (X : IsAsked ms q pace x t) (u : ℕ) (later : t.time ≤ u) (next : Timed) (e : Event)
     (f : ℕ) (qf : has q f ≡ true) (nf : f ≡ x.election.best → ⊥) (others : List Owed) (went : Went ms q pace (at_time ms q pace u t) e (without_first f x.election.best others t.under_way) next)

@@ -1,21 +1,11 @@
 -- A quorum that is led and loses its leader: its others are deserted.
-use Rattle.mon_msg.specs.Protocol.Probing.{lag}
-use Rattle.mon_msg.specs.Protocol.Readings.{epoch_of, readings_of}
-use Rattle.mon_msg.specs.Protocol.State.{State}
-use Rattle.mon_msg.specs.Protocol.Timers.{end_of, is_armed}
-use Rattle.mon_msg.specs.declared.view.Me.{Me}
-use Rattle.mon_types.specs.Ranks.{has}
+use Rattle.law_names.proofs.Runs.{Envelope, Monitors, message_at}
+use Rattle.law_names.proofs.Table.{AllByRecursion, Body, Me, Message, Phase, State, end_of, epoch_of, has, is_armed, lag, readings_of}
 use Rattle.mon_wire.specs.declared.body.Body.TheVariants as body
-use Rattle.mon_wire.specs.declared.body.Body.{Body}
-use Rattle.mon_wire.specs.declared.message.Message.{Message}
 use Rattle.mon_wire.specs.declared.phase.Phase.TheVariants as phase
-use Rattle.mon_wire.specs.declared.phase.Phase.{Phase}
 use Rattle.mon_wire.specs.declared.phase.Timer.TheVariants as timer
 use Rattle.quorum_laws.specs.Accepting.{readings_at}
 use Rattle.quorum_model.proofs.Members.{me_is, member_of}
-use Rattle.quorum_model.specs.Meets.{message_at}
-use Rattle.quorum_model.specs.Monitors.{Monitors}
-use Rattle.quorum_model.specs.World.{Envelope}
 use Rattle.quorum_recovers.proofs.Known.{low_of}
 use Rattle.quorum_stays.proofs.Onward.{one_state}
 use Rattle.quorum_stays.specs.Steady.{Carries, FollowsSince, IsAside, IsOfClients, IsOfEarlier, IsOfElections, Reign, Round, Steady, leased}
@@ -23,10 +13,8 @@ use Rattle.quorum_timed.specs.Begins.{ArePart, Begins}
 use Rattle.quorum_timed.specs.Calls.{IsCall}
 use Rattle.quorum_timed.specs.Timed.{Owed, Pace, Timed}
 use Rattle.quorum_timed.specs.Waiting.{Waits, leads_alone, timer_of}
-use Rattle.std.proofs.Common.{Bool, List, None, Option, Some, [], ap, arith, false, inl, inr, max, refl, subst, suc, sym, true, ℕ, ◌+◌, ◌<◌, ◌^◌, ◌||◌, ◌∙◌, ◌∷◌, ◌≡◌, ◌≤◌, ◌⊎◌}
+use Rattle.std.proofs.Common.{Bool, IsSomeAnd, List, None, Option, Some, [], ap, arith, false, inl, inr, is_some, max, refl, subst, suc, sym, true, ℕ, ◌+◌, ◌<◌, ◌^◌, ◌||◌, ◌∙◌, ◌∷◌, ◌≡◌, ◌≤◌, ◌⊎◌}
 use Rattle.std.proofs.lemmas.Bool.{false≢true, lt-ltb}
-use Rattle.std.specs.List.{AllByRecursion}
-use Rattle.std.specs.Prelude.{IsSomeAnd, is_some}
 use Rattle.timed_election.proofs.Lists.{closed, opened}
 use Rattle.timed_election.specs.Joining.{Deserted, FollowsLost, IsNear, IsOld, IsOther}
 use Rattle.timed_failover.proofs.Led.{near_holds, of_quorum, peon_last, peon_unmarked, sent_epoch, several}

@@ -1,10 +1,7 @@
 -- What every run says of a quorum that is led in it: its log, and how far its members are.
-use Rattle.mon_msg.specs.Protocol.Phases.{is_leading, is_member, is_peon}
-use Rattle.mon_msg.specs.Protocol.Readings.{epoch_of, promise_of, readings_of}
-use Rattle.mon_msg.specs.Protocol.State.{State}
-use Rattle.mon_types.specs.Ranks.{has, no_ranks}
+use Rattle.law_names.proofs.Runs.{Envelope, Monitors, last_of, message_at}
+use Rattle.law_names.proofs.Table.{Phase, State, epoch_of, has, is_leading, is_member, is_peon, no_ranks, promise_of, readings_of}
 use Rattle.mon_wire.specs.declared.phase.Phase.TheVariants as phase
-use Rattle.mon_wire.specs.declared.phase.Phase.{Phase}
 use Rattle.quorum_elects.specs.Ready.{LacksAtMost}
 use Rattle.quorum_history.proofs.History.{AnEpoch}
 use Rattle.quorum_history.proofs.Holds.{FollowsIn, InPhase, core_of}
@@ -13,18 +10,13 @@ use Rattle.quorum_laws.proofs.Invariant.{EnvelopeHolds, InvOf}
 use Rattle.quorum_laws.proofs.Reading.{at_least, state_holds}
 use Rattle.quorum_laws.specs.Accepting.{readings_at}
 use Rattle.quorum_laws.specs.Elections.{IsMember, IsQuorum}
-use Rattle.quorum_model.specs.Meets.{message_at}
-use Rattle.quorum_model.specs.Growth.{last_of}
-use Rattle.quorum_model.specs.Monitors.{Monitors}
-use Rattle.quorum_model.specs.World.{Envelope}
 use Rattle.quorum_near.proofs.Whole.{Holds, held, last_read, mark_read}
 use Rattle.quorum_recovers.proofs.Known.{within_log}
 use Rattle.quorum_stays.specs.Steady.{Begun, Follower, FollowsSince, Keeps, Leads, Reign, Round, Steady, leased}
 use Rattle.quorum_timed.specs.Timed.{Pace, Timed}
 use Rattle.quorum_walk.proofs.Sparing.{own_of}
-use Rattle.std.proofs.Common.{Bool, List, None, Option, Some, ap, arith, cond, false, inl, inr, length, refl, subst, suc, sym, true, zero, ℕ, ◌+◌, ◌<◌, ◌∙◌, ◌≡◌, ◌≤◌, ◌⊎◌}
+use Rattle.std.proofs.Common.{Bool, IfSome, IsSomeAnd, List, None, Option, Some, ap, arith, cond, false, inl, inr, length, refl, subst, suc, sym, true, zero, ℕ, ◌+◌, ◌<◌, ◌∙◌, ◌≡◌, ◌≤◌, ◌⊎◌}
 use Rattle.std.proofs.lemmas.Bool.{cases_eq}
-use Rattle.std.specs.Prelude.{IfSome, IsSomeAnd}
 use Rattle.table_walk.proofs.Lists.{all_get}
 use Rattle.timed_election.proofs.Lists.{opened}
 use Rattle.timed_failover.proofs.Owned.{Owns, owned}

@@ -13,6 +13,7 @@ pub mod CollectTaken
 pub mod Deserting
 pub mod Led
 pub mod Owned
+pub mod Serving
 pub mod SettledAtOnce
 pub mod Settlers
 pub mod SettlersCome

@@ -1,34 +1,19 @@
 -- Each version of the log was committed by the monitor whose rank its proposal number has.
+use Rattle.law_names.proofs.Runs.{AllFit, Asked, Event, Monitors, Plain, PlainFits, Stop, World, first_world, grown, happens, is_marked, kept_only, last_of, lost, moved, plain_of, put_at, records_after, run, unmoved, with_asked}
+use Rattle.law_names.proofs.Table.{Body, Change, Course, Input, Me, Op, Readings, State, Store, at_rest, encoded, has, joined, react, reaction_of, readings_of, shared_entries, text}
 use Rattle.log_copies.proofs.Matching.{read_last}
 use Rattle.log_copies.proofs.Standing.{Agrees, BodyStands, InputMatches, event}
 use Rattle.log_copies.proofs.Unmarked.{OnLog, Situated}
 use Rattle.log_copies.specs.Synchronizing.{written}
 use Rattle.log_model.proofs.Lists.{length_push}
 use Rattle.mon_msg.proofs.Joining.{apply-joined}
-use Rattle.mon_msg.specs.Joined.{joined}
-use Rattle.mon_msg.specs.Protocol.Changes.{Change, encoded}
-use Rattle.mon_msg.specs.Protocol.Course.{Course}
-use Rattle.mon_msg.specs.Protocol.Reaction.{reaction_of}
-use Rattle.mon_msg.specs.Protocol.Readings.{Readings, readings_of, shared_entries}
-use Rattle.mon_msg.specs.Protocol.State.{State}
-use Rattle.mon_msg.specs.Protocol.Table.{at_rest, react}
 use Rattle.mon_msg.specs.declared.input.Input.TheVariants as input
-use Rattle.mon_msg.specs.declared.input.Input.{Input}
-use Rattle.mon_msg.specs.declared.view.Me.{Me}
-use Rattle.mon_tx.specs.Map.{Store}
-use Rattle.mon_tx.specs.Text.{text}
-use Rattle.mon_tx.specs.declared.op.Op.{Op}
-use Rattle.mon_types.specs.Ranks.{has}
 use Rattle.mon_wire.specs.declared.body.Body.TheVariants as body
-use Rattle.mon_wire.specs.declared.body.Body.{Body}
 use Rattle.mon_wire.specs.declared.phase.Phase.TheVariants as phase
 use Rattle.quorum_agreement.proofs.Accepting.{Commits, Rests, RestsOrCommits, accept_reacts}
 use Rattle.quorum_agreement.proofs.Beginning.{at_first}
 use Rattle.quorum_agreement.proofs.Event.{good, input_tells, standing}
 use Rattle.quorum_agreement.proofs.Grown.{GrowsByOne, grown_marked, grown_none}
-use Rattle.mon_kv.specs.Readers.{is_marked}
-use Rattle.quorum_near.proofs.Whole.{last_read}
-use Rattle.quorum_history.proofs.Numbers.{level_is}
 use Rattle.quorum_agreement.proofs.Invariant.{EnvelopeMatches, LogHolds, OfLog}
 use Rattle.quorum_agreement.proofs.Kept.{accepted_keeps}
 use Rattle.quorum_agreement.proofs.Premises.{Completed, accept_completes, ack_others, elects_others, last_follows, leads_others, place_reached, recent}
@@ -36,23 +21,17 @@ use Rattle.quorum_agreement.proofs.Runs.{runs_hold}
 use Rattle.quorum_agreement.proofs.Step.{copy_marked}
 use Rattle.quorum_agreement.proofs.Worlds.{Follows, all_follow, asking}
 use Rattle.quorum_history.proofs.Holds.{BodyHolds, InPhase, core_of, level_in}
+use Rattle.quorum_history.proofs.Numbers.{level_is}
 use Rattle.quorum_history.proofs.Rows.{InputHolds}
 use Rattle.quorum_laws.proofs.Events.{After, Does, Keeps, each_event, event_holds, member_of, same, shares}
 use Rattle.quorum_laws.proofs.Invariant.{InvWith}
 use Rattle.quorum_laws.proofs.Later.{Later}
 use Rattle.quorum_laws.specs.Accepting.{AcceptedIn, HasAccepted, IsMajorityOf}
-use Rattle.quorum_model.specs.Clients.{with_asked}
-use Rattle.quorum_model.specs.Events.{AllFit, PlainFits}
-use Rattle.quorum_model.specs.Growth.{grown, last_of, records_after}
-use Rattle.quorum_model.specs.Happens.{Stop, happens, kept_only, lost, moved, put_at, unmoved}
-use Rattle.quorum_model.specs.Monitors.{Monitors}
-use Rattle.quorum_model.specs.Runs.{run}
-use Rattle.quorum_model.specs.World.{Asked, Event, Plain, World, first_world, plain_of}
+use Rattle.quorum_near.proofs.Whole.{last_read}
 use Rattle.quorum_walk.proofs.Sparing.{own_of}
 use Rattle.quorum_walk.proofs.Walk.{Then}
-use Rattle.std.proofs.Common.{Bool, Err, List, Ok, Result, [], ap, append-nil, arith, false, inl, inr, length, refl, subst, suc, sym, true, ℕ, ◌%◌, ◌++◌, ◌-◌, ◌<◌, ◌∙◌, ◌∷◌, ◌≡◌, ◌≤◌, ◌⊎◌}
+use Rattle.std.proofs.Common.{Bool, Err, IfOk, List, Ok, Result, [], ap, append-nil, arith, false, inl, inr, length, refl, subst, suc, sym, true, ℕ, ◌%◌, ◌++◌, ◌-◌, ◌<◌, ◌∙◌, ◌∷◌, ◌≡◌, ◌≤◌, ◌⊎◌}
 use Rattle.std.proofs.lemmas.Bool.{cases_lt, cond_both, eq-eqb, false≢true}
-use Rattle.std.specs.Prelude.{IfOk}
 
 -- a map with no version that the log lacks adds nothing
 grown_same : (log : List (List ℕ)) (m : Store) → last_of m ≤ length log → grown log m ≡ log

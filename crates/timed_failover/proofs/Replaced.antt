@@ -1,6 +1,5 @@
 -- A lost leader is replaced: the members that it deserted join an election, and one of them wins it.
-use Rattle.quorum_model.specs.Monitors.{Monitors}
-use Rattle.quorum_model.specs.World.{Event}
+use Rattle.law_names.proofs.Runs.{Event, Monitors}
 use Rattle.quorum_stays.specs.Reading.{ClocksGoOn}
 use Rattle.quorum_stays.specs.Steady.{Reign, Round, Steady}
 use Rattle.quorum_timed.specs.Begins.{Begins, IsQuick}

@@ -1,9 +1,6 @@
 -- A leader that found nothing leads calmly as soon as it gave the first leases.
-use Rattle.mon_msg.specs.Protocol.Readings.{readings_of}
-use Rattle.mon_msg.specs.Protocol.State.{State}
-use Rattle.mon_tx.specs.declared.op.Op.{Op}
-use Rattle.mon_types.specs.Ranks.{has}
-use Rattle.quorum_model.specs.Monitors.{Monitors}
+use Rattle.law_names.proofs.Runs.{Monitors}
+use Rattle.law_names.proofs.Table.{Op, State, has, readings_of}
 use Rattle.quorum_stays.proofs.Onward.{pack, unpack}
 use Rattle.quorum_stays.proofs.Peering.{PeonIn}
 use Rattle.quorum_stays.specs.Steady.{Carries, FollowsSince, HasLease, LeadsSince, Noted, Reign, Steady}

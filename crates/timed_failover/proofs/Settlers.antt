@@ -1,14 +1,7 @@
 -- A leader proposes the value that it found: what is known of its members, and what changes nothing.
-use Rattle.mon_msg.specs.Protocol.Changes.{Change}
-use Rattle.mon_msg.specs.Protocol.Phases.{same_phase}
-use Rattle.mon_msg.specs.Protocol.Readings.{Readings, epoch_of, promise_of, readings_of}
-use Rattle.mon_msg.specs.Protocol.State.{State, quorum_of}
-use Rattle.mon_msg.specs.declared.clients.Clients.{Clients}
-use Rattle.mon_types.specs.Ranks.{has}
+use Rattle.law_names.proofs.Runs.{Envelope, Event, Monitors}
+use Rattle.law_names.proofs.Table.{AllByRecursion, Change, Clients, Phase, Readings, State, epoch_of, has, promise_of, quorum_of, readings_of, same_phase}
 use Rattle.mon_wire.specs.declared.phase.Phase.TheVariants as phase
-use Rattle.mon_wire.specs.declared.phase.Phase.{Phase}
-use Rattle.quorum_model.specs.Monitors.{Monitors}
-use Rattle.quorum_model.specs.World.{Envelope, Event}
 use Rattle.quorum_stays.proofs.Carrying.{Gives, first_by, gives_none}
 use Rattle.quorum_stays.proofs.Onward.{one_state, unpack}
 use Rattle.quorum_stays.proofs.States.{Missing, one_missing, quiet_follows, quiet_proposes}
@@ -19,10 +12,8 @@ use Rattle.quorum_stays.specs.Steady.{AreApart, Carries, FollowsSince, IsOfClien
 use Rattle.quorum_timed.proofs.Armed.{Timers}
 use Rattle.quorum_timed.specs.Calls.{Calls}
 use Rattle.quorum_timed.specs.Timed.{MayBe, Owed, Pace, Timed, Went, at_time}
-use Rattle.std.proofs.Common.{Bool, List, Some, [], ap, arith, false, inl, inr, ltb, refl, subst, sym, true, ℕ, ◌*◌, ◌+◌, ◌<◌, ◌∙◌, ◌∷◌, ◌≡◌, ◌≤◌, ◌⊎◌}
+use Rattle.std.proofs.Common.{Bool, IsSomeAnd, List, Some, [], ap, arith, false, inl, inr, ltb, refl, subst, sym, true, ℕ, ◌*◌, ◌+◌, ◌<◌, ◌∙◌, ◌∷◌, ◌≡◌, ◌≤◌, ◌⊎◌}
 use Rattle.std.proofs.lemmas.Bool.{cases_eq, false≢true, lt-ltb}
-use Rattle.std.specs.List.{AllByRecursion}
-use Rattle.std.specs.Prelude.{IsSomeAnd}
 use Rattle.timed_failover.specs.Settling.{Accepted, Behind, Counted, KeepsAs, Level, Progress, Settler, Settles, Settling, from_such, is_counted, to_such}
 
 module _ (ms : Monitors) (q : List Bool) (pace : Pace) (reign : Reign) (x : Settling) where

@@ -1,28 +1,10 @@
 -- What comes to a quorum whose leader proposes the value that it found, until it is committed.
-use Rattle.mon_msg.specs.Protocol.Changes.{Change}
-use Rattle.mon_msg.specs.Protocol.Course.{Course}
-use Rattle.mon_msg.specs.Protocol.Leading.{is_alone}
-use Rattle.mon_msg.specs.Protocol.Phases.{same_phase}
-use Rattle.mon_msg.specs.Protocol.Readings.{Readings, readings_of, shared_entries}
-use Rattle.mon_msg.specs.Protocol.Sets.{are_within}
-use Rattle.mon_msg.specs.Protocol.State.{State}
-use Rattle.mon_msg.specs.Protocol.Table.{react}
-use Rattle.mon_msg.specs.Protocol.Timers.{end_of, index_of}
+use Rattle.law_names.proofs.Runs.{Arrives, Client, Deliver, Event, Monitors, Plain, Ring, arrival, message_at, messages_of, state_at}
+use Rattle.law_names.proofs.Table.{Change, Course, Input, Origin, Readings, Reply, Request, Session, State, Timer, are_within, end_of, has, index_of, is_alone, react, readings_of, same_phase, shared_entries, with_rank}
 use Rattle.mon_msg.specs.declared.input.Input.TheVariants as input
-use Rattle.mon_msg.specs.declared.input.Input.{Input}
-use Rattle.mon_msg.specs.declared.plan.Origin.{Origin}
-use Rattle.mon_types.specs.Ranks.{has, with_rank}
 use Rattle.mon_wire.specs.declared.phase.Phase.TheVariants as phase
 use Rattle.mon_wire.specs.declared.phase.Timer.TheVariants as timer
-use Rattle.mon_wire.specs.declared.phase.Timer.{Timer}
-use Rattle.mon_wire.specs.declared.reply.Reply.{Reply}
-use Rattle.mon_wire.specs.declared.request.Request.{Request}
-use Rattle.mon_wire.specs.declared.request.Session.{Session}
 use Rattle.quorum_model.proofs.Members.{member_of}
-use Rattle.quorum_model.specs.Clients.{messages_of}
-use Rattle.quorum_model.specs.Meets.{arrival, message_at, state_at}
-use Rattle.quorum_model.specs.Monitors.{Monitors}
-use Rattle.quorum_model.specs.World.{Arrives, Client, Deliver, Event, Plain, Ring}
 use Rattle.quorum_stays.proofs.Onward.{here_left, list_left, other_left}
 use Rattle.quorum_stays.proofs.Outcomes.{AsksAs, BringsNone, BringsRoute, NobodyAsks, Outcome, aside_row, client_row, messages_for_clients, propose_row}
 use Rattle.quorum_stays.proofs.Staying.{goes_on, time_of_next}
@@ -35,11 +17,10 @@ use Rattle.quorum_stays.specs.Steady.{AreApart, Carries, FollowsSince, IsAside, 
 use Rattle.quorum_timed.specs.Begins.{IsQuick}
 use Rattle.quorum_timed.specs.Timed.{Again, Arriving, Asking, Comes, Firing, Leads, MayBe, Owed, Pace, Timed, Went, at_time, without_first}
 use Rattle.quorum_walk.proofs.Walk.{Then}
-use Rattle.std.proofs.Common.{Bool, List, None, Ok, Option, Some, [], ap, arith, false, inl, inr, refl, subst, suc, sym, true, ℕ, ◌*◌, ◌+◌, ◌<◌, ◌∙◌, ◌∷◌, ◌≡◌, ◌≤◌, ◌⊎◌}
+use Rattle.std.proofs.Common.{Bool, IsSomeAnd, List, None, Ok, Option, Some, [], ap, arith, false, inl, inr, option_map, refl, subst, suc, sym, true, ℕ, ◌*◌, ◌+◌, ◌<◌, ◌∙◌, ◌∷◌, ◌≡◌, ◌≤◌, ◌⊎◌}
 use Rattle.std.proofs.lemmas.Bool.{cases_eq, false≢true}
-use Rattle.std.specs.Prelude.{IsSomeAnd, option_map}
-use Rattle.timed_failover.proofs.Settlers.{Member, PeerAt, Proposer, inside, leading, member, no_call, over, stays_quiet}
 use Rattle.timed_failover.proofs.Settlers as settlers
+use Rattle.timed_failover.proofs.Settlers.{Member, PeerAt, Proposer, inside, leading, member, no_call, over, stays_quiet}
 use Rattle.timed_failover.proofs.SettlersCount.{counts, settles}
 use Rattle.timed_failover.proofs.SettlersHear.{hears}
 use Rattle.timed_failover.specs.Settling.{Accepted, Behind, Counted, IsSettledBy, Level, Progress, Settles, Settling, accept_item, from_such, to_such}

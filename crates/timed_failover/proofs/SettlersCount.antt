@@ -1,25 +1,12 @@
 -- The leader counts that a peon accepted the value that it found. When all did, it commits it and serves.
-use Rattle.mon_msg.specs.Protocol.Changes.{Last, Learn}
-use Rattle.mon_msg.specs.Protocol.Course.{Course}
-use Rattle.mon_msg.specs.Protocol.Played.{played}
-use Rattle.mon_msg.specs.Protocol.Readings.{Readings, epoch_of, promise_of, readings_of, shared_entries}
-use Rattle.mon_msg.specs.Protocol.Sending.{answers_to, members, message_to}
-use Rattle.mon_msg.specs.Protocol.Sets.{are_within, is_empty}
-use Rattle.mon_msg.specs.Protocol.State.{State}
-use Rattle.mon_msg.specs.Protocol.Timers.{disarmed, only_ping}
+use Rattle.law_names.proofs.Runs.{Arrives, Deliver, Envelope, Monitors, envelope_of, message_at, messages_of}
+use Rattle.law_names.proofs.Table.{AllByRecursion, Course, Last, Learn, Me, Op, Readings, State, answers_to, are_within, disarmed, epoch_of, has, is_empty, members, message_to, only_ping, played, promise_of, readings_of, shared_entries, with_rank}
 use Rattle.mon_msg.specs.declared.input.Input.TheVariants as input
-use Rattle.mon_msg.specs.declared.view.Me.{Me}
-use Rattle.mon_tx.specs.declared.op.Op.{Op}
-use Rattle.mon_types.specs.Ranks.{has, with_rank}
 use Rattle.mon_wire.specs.declared.body.Body.TheVariants as body
 use Rattle.mon_wire.specs.declared.phase.Phase.TheVariants as phase
 use Rattle.mon_wire.specs.declared.phase.Timer.TheVariants as timer
 use Rattle.mon_wire.specs.declared.reply.Reply.TheVariants as reply
 use Rattle.quorum_model.proofs.Members.{member_of}
-use Rattle.quorum_model.specs.Clients.{envelope_of, messages_of}
-use Rattle.quorum_model.specs.Meets.{message_at}
-use Rattle.quorum_model.specs.Monitors.{Monitors}
-use Rattle.quorum_model.specs.World.{Arrives, Deliver, Envelope}
 use Rattle.quorum_stays.proofs.Carrying.{Gives, gives_append, gives_none}
 use Rattle.quorum_stays.proofs.Committing.{maybe_answer}
 use Rattle.quorum_stays.proofs.Giving.{gives_apart, gives_each, gives_no_leader, to_all}
@@ -37,11 +24,9 @@ use Rattle.quorum_stays.specs.Reading.{ClocksGoOn}
 use Rattle.quorum_stays.specs.Steady.{AreApart, Carries, FollowsSince, IsItem, IsOfClients, Keeps, LeadsSince, Noted, Reign, Round, Steady, in_reign}
 use Rattle.quorum_timed.specs.Timed.{MayBe, Owed, Pace, Timed, Went, at_time, without_first}
 use Rattle.quorum_walk.proofs.Ranks.{has_with, has_with_is, within_at}
-use Rattle.std.proofs.Common.{Bool, List, None, Some, [], ap, arith, false, inl, inr, length, ltb, map, not, refl, subst, suc, sym, true, zero, ℕ, ◌*◌, ◌+◌, ◌++◌, ◌<◌, ◌^◌, ◌∙◌, ◌∷◌, ◌≡◌, ◌≤◌}
+use Rattle.std.proofs.Common.{Bool, IsSomeAnd, List, None, Some, [], ap, arith, false, inl, inr, length, ltb, map, not, option_map, refl, subst, suc, sym, true, zero, ℕ, ◌*◌, ◌++◌, ◌+◌, ◌<◌, ◌^◌, ◌∙◌, ◌∷◌, ◌≡◌, ◌≤◌}
 use Rattle.std.proofs.lemmas.Bool.{cases_eq, false≢true}
 use Rattle.std.proofs.lemmas.List.Elements.{filter_map-append}
-use Rattle.std.specs.List.{AllByRecursion}
-use Rattle.std.specs.Prelude.{IsSomeAnd, option_map}
 use Rattle.timed_failover.proofs.Settlers.{PeerAt, Proposer, few, goes_on, inside, leading, over, rests}
 use Rattle.timed_failover.specs.Settling.{Accepted, Counted, KeepsAs, Progress, Settles, Settling, accept_item, from_such, is_counted, to_such}
 

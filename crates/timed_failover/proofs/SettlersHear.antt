@@ -1,15 +1,8 @@
 -- A peon takes the last version that it lacks, and accepts the value that its leader found.
-use Rattle.mon_msg.specs.Protocol.Changes.{Change, Last, Learn, Vote}
-use Rattle.mon_msg.specs.Protocol.Played.{played}
-use Rattle.mon_msg.specs.Protocol.Readings.{Readings, epoch_of, promise_of, readings_of, shared_entries}
-use Rattle.mon_msg.specs.Protocol.State.{State}
+use Rattle.law_names.proofs.Runs.{Arrives, Deliver, Envelope, Monitors, message_at}
+use Rattle.law_names.proofs.Table.{Body, Change, Last, Learn, Readings, State, Vote, epoch_of, has, played, promise_of, readings_of, shared_entries}
 use Rattle.mon_msg.specs.declared.input.Input.TheVariants as input
-use Rattle.mon_types.specs.Ranks.{has}
 use Rattle.mon_wire.specs.declared.body.Body.TheVariants as body
-use Rattle.mon_wire.specs.declared.body.Body.{Body}
-use Rattle.quorum_model.specs.Meets.{message_at}
-use Rattle.quorum_model.specs.Monitors.{Monitors}
-use Rattle.quorum_model.specs.World.{Arrives, Deliver, Envelope}
 use Rattle.quorum_stays.proofs.Carrying.{Gives}
 use Rattle.quorum_stays.proofs.Onward.{here_left, lands, other_left, pack, unpack}
 use Rattle.quorum_stays.proofs.Peons.{gives_elsewhere, gives_one}
@@ -20,9 +13,8 @@ use Rattle.quorum_stays.proofs.Stores.{learned_epoch, learned_promise}
 use Rattle.quorum_stays.proofs.Turning.{other_state, other_store, same_carried}
 use Rattle.quorum_stays.specs.Steady.{Carries, FollowsSince, IsItem, Item, Reign, in_reign}
 use Rattle.quorum_timed.specs.Timed.{MayBe, Owed, Pace, Timed, Went, at_time, without_first}
-use Rattle.std.proofs.Common.{Bool, List, None, Some, [], ap, arith, inl, inr, refl, subst, suc, sym, true, ℕ, ◌*◌, ◌+◌, ◌^◌, ◌∙◌, ◌∷◌, ◌≡◌, ◌≤◌, false}
+use Rattle.std.proofs.Common.{Bool, IsSomeAnd, List, None, Some, [], ap, arith, false, inl, inr, option_map, refl, subst, suc, sym, true, ℕ, ◌*◌, ◌+◌, ◌^◌, ◌∙◌, ◌∷◌, ◌≡◌, ◌≤◌}
 use Rattle.std.proofs.lemmas.Bool.{cases_eq}
-use Rattle.std.specs.Prelude.{IsSomeAnd, option_map}
 use Rattle.timed_failover.proofs.Settlers.{PeerAt, Proposer, first_of, goes_on, inside, rests}
 use Rattle.timed_failover.specs.Settling.{Accepted, Behind, Counted, KeepsAs, Level, Progress, Settles, Settling, begin_item, commit_item, from_such, is_counted, to_such}
 

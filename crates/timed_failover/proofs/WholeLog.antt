@@ -1,7 +1,6 @@
 -- A leader that serves has the whole log, if a majority of its quorum promised no greater number than its own.
-use Rattle.mon_msg.specs.Protocol.Readings.{epoch_of, promise_of}
-use Rattle.mon_msg.specs.Protocol.State.{State}
-use Rattle.mon_types.specs.Ranks.{has}
+use Rattle.law_names.proofs.Runs.{AllFit, Event, Monitors, World, run}
+use Rattle.law_names.proofs.Table.{State, epoch_of, has, promise_of}
 use Rattle.mon_wire.specs.declared.phase.Phase.TheVariants as phase
 use Rattle.quorum_history.proofs.Holds.{InPhase, core_of, level_in}
 use Rattle.quorum_history.proofs.Numbers.{level_is}
@@ -11,10 +10,6 @@ use Rattle.quorum_laws.proofs.Numbers.{numbers_hold}
 use Rattle.quorum_laws.specs.Accepting.{IsMajorityOf, readings_at}
 use Rattle.quorum_laws.specs.Promises.{NumbersHold}
 use Rattle.quorum_laws.specs.Values.{KnowsOlder, has_heard}
-use Rattle.quorum_model.specs.Events.{AllFit}
-use Rattle.quorum_model.specs.Monitors.{Monitors}
-use Rattle.quorum_model.specs.Runs.{run}
-use Rattle.quorum_model.specs.World.{Event, World}
 use Rattle.quorum_near.proofs.Whole.{held}
 use Rattle.quorum_recovers.proofs.Known.{within_log}
 use Rattle.quorum_walk.proofs.Ranks.{majorities}

@@ -3,7 +3,7 @@ use Rattle.mon_msg.specs.Protocol.Answers.{answer_of}
 use Rattle.mon_msg.specs.Protocol.Changes.{Learn}
 use Rattle.mon_msg.specs.Protocol.Entering.{is_even}
 use Rattle.mon_msg.specs.Protocol.Played.{play}
-use Rattle.mon_msg.specs.Protocol.Readings.{Readings, epoch_of, or_zero, promise_of, readings_of}
+use Rattle.mon_msg.specs.Protocol.Readings.{Readings, epoch_of, promise_of, readings_of}
 use Rattle.mon_msg.specs.Protocol.Records.{most_value, pending, record_at}
 use Rattle.mon_msg.specs.Protocol.Sets.{are_within}
 use Rattle.mon_msg.specs.Protocol.State.{State}
@@ -14,7 +14,6 @@ use Rattle.mon_tx.specs.declared.op.Op.{Op}
 use Rattle.mon_types.specs.Ranks.{has}
 use Rattle.mon_wire.specs.declared.body.Body.TheVariants as body
 use Rattle.mon_wire.specs.declared.body.Body.{Body}
-use Rattle.mon_wire.specs.declared.parts.Told.{Told}
 use Rattle.mon_wire.specs.declared.phase.Phase.TheVariants as phase
 use Rattle.mon_wire.specs.declared.phase.TheConstants.Timer.{COUNT}
 use Rattle.mon_wire.specs.declared.phase.Timer.TheVariants as timer
@@ -22,7 +21,9 @@ use Rattle.mon_wire.specs.declared.phase.Timer.{Timer}
 use Rattle.quorum_model.specs.Monitors.{Monitors}
 use Rattle.quorum_model.specs.World.{Envelope, Event}
 use Rattle.quorum_stays.specs.Steady.{AreApart, Carries, FollowsSince, IsOfCommand, Item, Reign, item}
+use Rattle.quorum_timed.specs.Begins.{IsBetween}
 use Rattle.quorum_timed.specs.Timed.{Leads, Owed, Pace, Timed}
+use Rattle.std.specs.List.{AllByRecursion}
 use Rattle.std.specs.Prelude.{Bool, IsSomeAnd, List, Option, Some, [], false, is_some, length, slice_index_or, suc, true, ℕ, ◌*◌, ◌+◌, ◌++◌, ◌<◌, ◌^◌, ◌∷◌, ◌≡◌, ◌≤◌, ◌⊎◌}
 use Rattle.timed_election.specs.Election.{CanElect, Election, reign_of}
 use Rattle.timed_failover.specs.Settling.{Opens, Settles}
@@ -184,6 +185,11 @@ pub record IsAsked (ms : Monitors) (q : List Bool) (pace : Pace) (x : Query) (t 
       (t.under_way i x.election.best)
   pub apart : (f i : ℕ) → has q f ≡ true → has q i ≡ true → AreApart x.election.best f i
       → Carries ms (reign ms.count pace x) t.world.messages f i (t.time + pace.delay) [] (t.under_way f i)
+
+-- Each message under way between two members is of the one, to the other.
+abbrev pub AreBetween : List Bool → Timed → Type 0
+AreBetween q t = (f i : ℕ) → has q f ≡ true → has q i ≡ true
+    → AllByRecursion (λ o. IsBetween t.world f i o.number) (t.under_way f i)
 
 -- At some time of the run, and by time u, the leader heard all members. It gave the first leases, or proposes the value
 -- that it found. The rest of the run goes on from there.

@@ -4,6 +4,7 @@ use Rattle.quorum_model.specs.Meets.{message_at}
 use Rattle.quorum_timed.specs.Calls.{IsCall}
 use Rattle.quorum_model.specs.Monitors.{Monitors}
 use Rattle.quorum_model.specs.World.{Event}
+use Rattle.quorum_stays.specs.Steady.{Reign, Round, Steady}
 use Rattle.quorum_timed.specs.Timed.{Leads, Pace, Timed}
 use Rattle.std.specs.List.{AllByRecursion}
 use Rattle.std.specs.Prelude.{Bool, IsSomeAnd, List, false, true, ℕ, ◌++◌, ◌≡◌, ◌≤◌}
@@ -42,3 +43,16 @@ pub record IsReplacedBy (ms : Monitors) (q : List Bool) (pace : Pace) (best epoc
   pub best_is : election.best ≡ best
   pub won : IsWon ms q pace election reached
   pub votes : OnlyVotes q election.epoch reached
+
+-- At some time of the run, and by time u, one of the members of q leads all of them.
+pub record SteadyBy (ms : Monitors) (q : List Bool) (pace : Pace) (t : Timed) (more : List (ℕ × Event)) (u : ℕ) : Type
+    0 where
+  pub before : List (ℕ × Event)
+  pub after : List (ℕ × Event)
+  pub parts : more ≡ before ++ after
+  pub reached : Timed
+  pub run : Leads ms q pace t before reached
+  pub by : reached.time ≤ u
+  pub reign : Reign
+  pub round : Round
+  pub steady : Steady ms q pace reign round reached

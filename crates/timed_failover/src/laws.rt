@@ -12,7 +12,8 @@ ghost use Rattle.quorum_timed.specs.Begins.{Begins, IsQuick};
 ghost use Rattle.quorum_timed.specs.Timed.{Leads, Pace, Timed};
 ghost use Rattle.timed_election.specs.Election.{CanElect};
 ghost use Rattle.timed_election.specs.Joining.{Deserted};
-ghost use Rattle.timed_failover.specs.Failover.{IsReplacedBy, IsWithout, NobodyCalls, from_time};
+ghost use Rattle.timed_failover.specs.Collecting.{AreBetween, IsAsked, IsHeardBy, Query};
+ghost use Rattle.timed_failover.specs.Failover.{IsReplacedBy, IsWithout, NobodyCalls, SteadyBy, from_time};
 ghost use Rattle.timed_failover.specs.Newest.{IsNewest};
 ghost use Rattle.timed_failover.specs.Reached.{IsAsLed, Reached};
 ghost use Rattle.timed_failover.specs.Settling.{IsSettledBy, Opens, Settles, Settling, opening};
@@ -72,4 +73,23 @@ pub fn law_lost_leader_is_replaced()
         → ClocksGoOn q pace last.time → pace.since + 15000 + 2 * pace.delay + 2 * pace.late < last.time
         → IsReplacedBy ms q pace best (suc reign.epoch) t last more
         (pace.since + 15000 + 2 * pace.delay + 2 * pace.late) }
+{}
+
+/// A new leader that asks its quorum what was accepted hears all members within two delays after its victory, if each
+/// answer fits one message. Then it gave the first leases, or proposes the value that it found. Clients may ask what they
+/// want meanwhile.
+pub fn law_new_leader_hears_all()
+    ensures { (ms : Monitors) (q : List Bool) (pace : Pace) (x : Query) (t last : Timed) (more : List (ℕ × Event))
+        → IsQuick pace → IsAsked ms q pace x t → AreBetween q t → Leads ms q pace t more last
+        → ClocksGoOn q pace last.time → x.won + 2 * pace.delay < last.time
+        → IsHeardBy ms q pace x t last more (x.won + 2 * pace.delay) }
+{}
+
+/// Such a leader serves within four delays after its victory: from some time up to then on its quorum is led (`Steady`).
+/// So it stays led (`law_stays_led`), and commands are answered.
+pub fn law_new_leader_serves()
+    ensures { (ms : Monitors) (q : List Bool) (pace : Pace) (x : Query) (t last : Timed) (more : List (ℕ × Event))
+        → IsQuick pace → 4 * pace.delay ≤ 3000 → IsAsked ms q pace x t → AreBetween q t → Leads ms q pace t more last
+        → ClocksGoOn q pace last.time → x.won + 4 * pace.delay < last.time
+        → SteadyBy ms q pace t more (x.won + 4 * pace.delay) }
 {}
