@@ -4,6 +4,7 @@ use Rattle.law_names.proofs.Table.{AllByRecursion, Change, Fits, Readings, has, 
 use Rattle.log_model.proofs.Lists.{all_map}
 use Rattle.quorum_stays.proofs.SteppingDown.{here}
 use Rattle.quorum_stays.specs.Reading.{ClocksGoOn}
+use Rattle.quorum_stays.specs.Steady.{IsOfElections}
 use Rattle.quorum_timed.specs.Begins.{IsQuick}
 use Rattle.quorum_timed.specs.Timed.{Leads, MayBe, Owed, Pace, Timed}
 use Rattle.std.proofs.Common.{Bool, IsSomeAnd, List, [], ap, arith, inl, inr, length, refl, subst, suc, sym, true, ℕ, ◌++◌, ◌+◌, ◌<◌, ◌∙◌, ◌∷◌, ◌≡◌, ◌≤◌}
@@ -16,7 +17,7 @@ use Rattle.timed_election.proofs.Outcomes.{VotesOrAnswers}
 use Rattle.timed_election.proofs.Parts.{joined}
 use Rattle.timed_election.proofs.Remaining.{Remains, Says, remains_at_first, remains_next, votes_alone}
 use Rattle.timed_election.specs.Election.{Election, Elects, IsRaised}
-use Rattle.timed_election.specs.Keeping.{IsVote, IsWonWithin, OnlyVotes}
+use Rattle.timed_election.specs.Keeping.{IsWonWithin, OnlyVotes}
 
 module _ (ms : Monitors) (q : List Bool) (pace : Pace) (quick : IsQuick pace) (short : pace.delay < 1000) (E : Election) (t : Timed) (X : Elects ms q pace E t) (soon : t.time ≤ E.by) where
   -- ---- until it is won
@@ -49,20 +50,20 @@ module _ (ms : Monitors) (q : List Bool) (pace : Pace) (quick : IsQuick pace) (s
     votes : OnlyVotes q E.epoch W.reached
     votes f j qf qj = next_all ms q pace W.eve W.at W.reached W.event H.left H.went H.i H.came H.state H.course H.how H.did Q f j
         (left_all ms q pace W.eve W.at W.reached W.event H.left H.went H.i H.came H.state H.course H.how H.did Q f j
-        (all_map (Says IsVote W.eve.world.messages) Q old (W.eve.under_way f j) (votes_alone (E.by + pace.delay) pace.delay ms q pace W.eve W.at W.on late W.lasting.1 f j qf qj)))
-        (λ d m there from to at. closed (λ (n : Envelope). n.message.epoch ≤ E.epoch → IsVote n.message.body) (message_at W.reached.world.messages (suc (length W.eve.world.messages) + d)) m at
+        (all_map (Says IsOfElections W.eve.world.messages) Q old (W.eve.under_way f j) (votes_alone (E.by + pace.delay) pace.delay ms q pace W.eve W.at W.on late W.lasting.1 f j qf qj)))
+        (λ d m there from to at. closed (λ (n : Envelope). n.message.epoch ≤ E.epoch → IsOfElections n.message.body) (message_at W.reached.world.messages (suc (length W.eve.world.messages) + d)) m at
         (λ low. (let k = (at_place (λ (n : Envelope). (n.message.from ≡ H.i) × (n.to ≡ H.i → ⊥) × (n.message.epoch ≡ suc E.epoch)) (messages_of H.course.out) d m W.wins.fresh there).2 in absurd (omega arith))))
       where
         Q : Owed → Type 0
-        Q o = IsSomeAnd (message_at W.reached.world.messages o.number) (λ m. m.message.epoch ≤ E.epoch → IsVote m.message.body)
+        Q o = IsSomeAnd (message_at W.reached.world.messages o.number) (λ m. m.message.epoch ≤ E.epoch → IsOfElections m.message.body)
 
         late : E.by + pace.delay + pace.delay < W.at
         late = let a = X.together in let b = W.wins.over in omega arith
 
-        old : (o : Owed) → Says IsVote W.eve.world.messages o → Q o
+        old : (o : Owed) → Says IsOfElections W.eve.world.messages o → Q o
         old o k =
-            let m = opened (λ (n : Envelope). IsVote n.message.body) (message_at W.eve.world.messages o.number) k in
-            closed (λ (n : Envelope). n.message.epoch ≤ E.epoch → IsVote n.message.body) (message_at W.reached.world.messages o.number) m.0
+            let m = opened (λ (n : Envelope). IsOfElections n.message.body) (message_at W.eve.world.messages o.number) k in
+            closed (λ (n : Envelope). n.message.epoch ≤ E.epoch → IsOfElections n.message.body) (message_at W.reached.world.messages o.number) m.0
             (still ms q pace W.eve W.at W.reached W.event H.left H.went H.i H.came H.state H.course H.how H.did o.number m.0 m.1) (λ _. m.2)
 
     raised : IsRaised E W.wins.won.pn (readings_of (t.world.store E.best)) (readings_of (W.reached.world.store E.best))

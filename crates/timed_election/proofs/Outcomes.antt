@@ -10,13 +10,13 @@ use Rattle.mon_wire.specs.declared.phase.Phase.TheVariants as phase
 use Rattle.mon_wire.specs.declared.phase.Timer.TheVariants as timer
 use Rattle.mon_wire.specs.declared.request.Request.TheVariants as request
 use Rattle.quorum_model.proofs.Members.{member_of}
+use Rattle.quorum_stays.specs.Steady.{IsOfElections}
 use Rattle.quorum_timed.proofs.Armed.{Timers}
 use Rattle.quorum_walk.proofs.Parity.{next_is}
 use Rattle.quorum_walk.proofs.Walk.{Then, and_then, and_three, by_test, done, or_three, where_fits}
 use Rattle.std.proofs.Common.{Bool, Err, List, None, Ok, Option, Some, [], ap, arith, eqb, false, filter, inl, inr, is_some, leb, ltb, map, max, not, refl, slice_index_or, subst, suc, sym, true, ℕ, ◌&&◌, ◌++◌, ◌<◌, ◌^◌, ◌||◌, ◌∙◌, ◌∷◌, ◌≡◌, ◌≤◌, ◌⊎◌}
 use Rattle.std.proofs.lemmas.Bool.{and_parts, cond_both, eq-eqb, eqb-true, false≢true, leb-false, ltb-false, ltb-true, ne_eqb, or_cases}
 use Rattle.timed_election.proofs.Quiet.{IsPlain, IsQuiet, plain_chunk}
-use Rattle.timed_election.specs.Keeping.{IsVote}
 
 -- a message of another monitor comes
 pub record Heard (n : ℕ) (came : Input) (f e : ℕ) (b : Body) : Type 0 where
@@ -56,7 +56,7 @@ IsAnswerTo came (sent.Reply to r) = Unit {0}
 
 -- a call, an acknowledgement, or an answer to what comes
 abbrev pub VotesOrAnswers : Input → Envelope → Type 0
-VotesOrAnswers came m = IsVote m.message.body ⊎ (AsksIn came × (Asks m.message.body → ⊥))
+VotesOrAnswers came m = IsOfElections m.message.body ⊎ (AsksIn came × (Asks m.message.body → ⊥))
 
 -- what comes is of no later epoch
 abbrev pub IsLow : ℕ → Input → Type 0

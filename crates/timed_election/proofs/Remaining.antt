@@ -5,6 +5,7 @@ use Rattle.log_model.proofs.Lists.{all_append, all_map}
 use Rattle.mon_wire.specs.declared.body.Body.TheVariants as body
 use Rattle.quorum_stays.proofs.Onward.{list_left}
 use Rattle.quorum_stays.proofs.UnderWay.{all_numbers, all_owed, numbers}
+use Rattle.quorum_stays.specs.Steady.{IsOfElections}
 use Rattle.quorum_timed.specs.Calls.{IsCall}
 use Rattle.quorum_timed.specs.Timed.{MayBe, Owed, Pace, Timed, owed_by}
 use Rattle.std.proofs.Common.{Bool, IsSomeAnd, List, Some, [], arith, inl, inr, length, refl, subst, suc, sym, true, ℕ, ◌++◌, ◌+◌, ◌<◌, ◌∙◌, ◌∷◌, ◌≡◌, ◌≤◌, ◌⊎◌}
@@ -13,14 +14,13 @@ use Rattle.timed_election.proofs.Coming.{Handled, How, again, asks, fires, first
 use Rattle.timed_election.proofs.Lists.{at_place, closed, opened}
 use Rattle.timed_election.proofs.Outcomes.{Asks, AsksIn, VotesOrAnswers}
 use Rattle.timed_election.specs.Election.{Election, Elects, IsOfElection}
-use Rattle.timed_election.specs.Keeping.{IsVote}
 
 -- the message of that number says so
 abbrev pub Says : (Body → Type 0) → List Envelope → Owed → Type 0
 Says P messages o = IsSomeAnd (message_at messages o.number) (λ m. P m.message.body)
 
 abbrev pub AllVotes : List Envelope → List Owed → Type 0
-AllVotes messages = AllByRecursion (Says IsVote messages)
+AllVotes messages = AllByRecursion (Says IsOfElections messages)
 
 module _ (asked : ℕ) (delay : ℕ) where
   -- Messages that arrive soon come first. All others are calls and acknowledgements.
@@ -48,12 +48,12 @@ module _ (asked : ℕ) (delay : ℕ) where
   more_votes : (messages : List Envelope) (os new : List Owed) → SoonThenVotes messages os → AllVotes messages new → SoonThenVotes messages (os ++ new)
   more_votes messages [] [] k n = tt
   more_votes messages [] (o ∷ new) k n = inl n
-  more_votes messages (o ∷ os) new (inl k) n = inl (all_append (Says IsVote messages) (o ∷ os) new k n)
+  more_votes messages (o ∷ os) new (inl k) n = inl (all_append (Says IsOfElections messages) (o ∷ os) new k n)
   more_votes messages (o ∷ os) new (inr k) n = inr (k.0, more_votes messages os new k.1 n)
 
-  same_soon : (old next : List Envelope) → ((o : Owed) → Says IsVote old o → Says IsVote next o) → (os : List Owed) → SoonThenVotes old os → SoonThenVotes next os
+  same_soon : (old next : List Envelope) → ((o : Owed) → Says IsOfElections old o → Says IsOfElections next o) → (os : List Owed) → SoonThenVotes old os → SoonThenVotes next os
   same_soon old next f [] k = tt
-  same_soon old next f (o ∷ os) (inl k) = inl (all_map (Says IsVote old) (Says IsVote next) f (o ∷ os) k)
+  same_soon old next f (o ∷ os) (inl k) = inl (all_map (Says IsOfElections old) (Says IsOfElections next) f (o ∷ os) k)
   same_soon old next f (o ∷ os) (inr k) = inr (k.0, same_soon old next f os k.1)
 
   -- ---- at first, and at the end
@@ -112,7 +112,7 @@ module _ (asked : ℕ) (delay : ℕ) where
     asks_nothing : (m : Envelope) → VotesOrAnswers H.came m → Asks m.message.body → ⊥
     asks_nothing m (inl vote) a = none m.message.body vote a
       where
-        none : (b : Body) → IsVote b → Asks b → ⊥
+        none : (b : Body) → IsOfElections b → Asks b → ⊥
         none (body.Propose table) vote a = a
         none body.Ack vote a = a
         none other vote a = vote
@@ -146,17 +146,17 @@ module _ (asked : ℕ) (delay : ℕ) where
           (λ d m there from to at. early))
       | inl late ↦ subst (SoonThenVotes next.world.messages) (sym (under_now ms q pace t u next e H.left H.went H.i H.came H.state H.course H.how H.did f j))
           (more_votes next.world.messages (H.left f j) (owed_by (u + pace.delay) (numbers f j (suc count) es))
-          (same_soon t.world.messages next.world.messages (kept IsVote) (H.left f j) (left_soon f j qf qj)) (new_votes late))
+          (same_soon t.world.messages next.world.messages (kept IsOfElections) (H.left f j) (left_soon f j qf qj)) (new_votes late))
     ]
       where
-        vote : asked + delay < u + pace.delay → (m : Envelope) → VotesOrAnswers H.came m → IsVote m.message.body
+        vote : asked + delay < u + pace.delay → (m : Envelope) → VotesOrAnswers H.came m → IsOfElections m.message.body
         vote late m (inl k) = k
         vote late m (inr k) = let l = in_time k.0 in let z = same in absurd (omega arith)
 
         new_votes : asked + delay < u + pace.delay → AllVotes next.world.messages (owed_by (u + pace.delay) (numbers f j (suc count) es))
-        new_votes late = all_owed (u + pace.delay) (numbers f j (suc count) es) (λ k. Says IsVote next.world.messages (record { number = k; by = u + pace.delay })) (Says IsVote next.world.messages) (λ k h. h)
-            (all_numbers f j (suc count) es (λ k. Says IsVote next.world.messages (record { number = k; by = u + pace.delay }))
-            (λ d m there from to. closed (λ (n : Envelope). IsVote n.message.body) (message_at next.world.messages (suc count + d)) m (new_at ms q pace t u next e H.left H.went H.i H.came H.state H.course H.how H.did d m there)
+        new_votes late = all_owed (u + pace.delay) (numbers f j (suc count) es) (λ k. Says IsOfElections next.world.messages (record { number = k; by = u + pace.delay })) (Says IsOfElections next.world.messages) (λ k h. h)
+            (all_numbers f j (suc count) es (λ k. Says IsOfElections next.world.messages (record { number = k; by = u + pace.delay }))
+            (λ d m there from to. closed (λ (n : Envelope). IsOfElections n.message.body) (message_at next.world.messages (suc count + d)) m (new_at ms q pace t u next e H.left H.went H.i H.came H.state H.course H.how H.did d m there)
             (vote late m (at_place (VotesOrAnswers H.came) es d m sends there))))
 
     pub remains_next : Remains q next

@@ -1,26 +1,19 @@
 -- What an election leaves behind: what members keep, and what is still under way.
 use Rattle.mon_msg.specs.Protocol.Readings.{readings_of}
 use Rattle.mon_types.specs.Ranks.{has}
-use Rattle.mon_wire.specs.declared.body.Body.TheVariants as body
-use Rattle.mon_wire.specs.declared.body.Body.{Body}
 use Rattle.quorum_model.specs.Meets.{message_at}
 use Rattle.quorum_model.specs.Monitors.{Monitors}
 use Rattle.quorum_model.specs.World.{Event}
+use Rattle.quorum_stays.specs.Steady.{IsOfElections}
 use Rattle.quorum_timed.specs.Timed.{Leads, Pace, Timed}
 use Rattle.std.specs.List.{AllByRecursion}
 use Rattle.std.specs.Prelude.{Bool, IsSomeAnd, List, true, ℕ, ◌++◌, ◌≡◌, ◌≤◌}
 use Rattle.timed_election.specs.Election.{Election, IsRaised, IsWon}
 
--- a call or an acknowledgement
-abbrev pub IsVote : Body → Type 0
-IsVote (body.Propose table) = Unit {0}
-IsVote body.Ack = Unit {0}
-IsVote other = ⊥
-
 -- All that is under way among members and not of a later epoch is calls and acknowledgements.
 abbrev pub OnlyVotes : List Bool → (epoch : ℕ) → Timed → Type 0
 OnlyVotes q epoch t = (f i : ℕ) → has q f ≡ true → has q i ≡ true
-    → AllByRecursion (λ o. IsSomeAnd (message_at t.world.messages o.number) (λ m. m.message.epoch ≤ epoch → IsVote m.message.body))
+    → AllByRecursion (λ o. IsSomeAnd (message_at t.world.messages o.number) (λ m. m.message.epoch ≤ epoch → IsOfElections m.message.body))
     (t.under_way f i)
 
 -- At some time of the run, and by time u, the election is won, and the run goes on. No member changed its store but the

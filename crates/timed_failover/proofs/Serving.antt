@@ -1,5 +1,6 @@
 -- A new leader that asks its quorum serves: at once if it finds nothing, and otherwise when what it found is committed.
 use Rattle.law_names.proofs.Runs.{Event, Monitors}
+use Rattle.law_names.proofs.Table.{Op}
 use Rattle.quorum_stays.specs.Reading.{ClocksGoOn}
 use Rattle.quorum_stays.specs.Steady.{Reign}
 use Rattle.quorum_timed.specs.Begins.{IsQuick}
@@ -7,11 +8,12 @@ use Rattle.quorum_timed.specs.Timed.{Leads, Pace, Timed}
 use Rattle.std.proofs.Common.{Bool, List, ap, arith, inl, inr, sym, ℕ, ◌*◌, ◌++◌, ◌+◌, ◌<◌, ◌∙◌, ◌≤◌}
 use Rattle.std.proofs.lemmas.List.{append_assoc}
 use Rattle.timed_election.proofs.Parts.{joined}
-use Rattle.timed_election.specs.Election.{reign_of}
+use Rattle.timed_election.specs.Election.{Election, reign_of}
+use Rattle.timed_failover.proofs.CollectBegins.{asked, query}
 use Rattle.timed_failover.proofs.CollectCome.{heard_all}
 use Rattle.timed_failover.proofs.SettledAtOnce.{opens}
 use Rattle.timed_failover.proofs.SettlersCome.{committed}
-use Rattle.timed_failover.specs.Collecting.{AreBetween, IsAsked, IsHeardBy, Query}
+use Rattle.timed_failover.specs.Collecting.{AreBetween, IsAsked, IsElected, IsHeardBy, Query}
 use Rattle.timed_failover.specs.Failover.{SteadyBy}
 use Rattle.timed_failover.specs.Settling.{IsSettledBy, Settling, opening}
 
@@ -51,3 +53,13 @@ module _ (ms : Monitors) (q : List Bool) (pace : Pace) (x : Query) (t last : Tim
           steady = S.steady;
         }
   ]
+
+-- one that just won asks its quorum
+module _ (ms : Monitors) (q : List Bool) (pace : Pace) (E : Election) (version : ℕ) (value : List Op) (t last : Timed) (more : List (ℕ × Event)) (quick : IsQuick pace) (short : 4 * pace.delay ≤ 3000)
+    (K : IsElected ms q pace E version value t) (L : Leads ms q pace t more last) (room : ClocksGoOn q pace last.time) (late : t.time + 4 * pace.delay < last.time) where
+  asks : IsAsked ms q pace (query ms q pace quick E t K.won K.can K.odd K.together K.soon K.since K.ranks K.second K.second_in K.second_is K.votes version value K.fits K.made K.stocked K.learns K.low K.whole) t
+  asks = asked ms q pace quick E t K.won K.can K.odd K.together K.soon K.since K.ranks K.second K.second_in K.second_is K.votes version value K.fits K.made K.stocked K.learns K.low K.whole
+
+  pub elected_serves : SteadyBy ms q pace t more (t.time + 4 * pace.delay)
+  elected_serves = serves ms q pace (query ms q pace quick E t K.won K.can K.odd K.together K.soon K.since K.ranks K.second K.second_in K.second_is K.votes version value K.fits K.made K.stocked K.learns K.low K.whole)
+      t last more quick short asks K.between L room late

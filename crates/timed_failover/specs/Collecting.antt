@@ -25,7 +25,8 @@ use Rattle.quorum_timed.specs.Begins.{IsBetween}
 use Rattle.quorum_timed.specs.Timed.{Leads, Owed, Pace, Timed}
 use Rattle.std.specs.List.{AllByRecursion}
 use Rattle.std.specs.Prelude.{Bool, IsSomeAnd, List, Option, Some, [], false, is_some, length, slice_index_or, suc, true, ℕ, ◌*◌, ◌+◌, ◌++◌, ◌<◌, ◌^◌, ◌∷◌, ◌≡◌, ◌≤◌, ◌⊎◌}
-use Rattle.timed_election.specs.Election.{CanElect, Election, reign_of}
+use Rattle.timed_election.specs.Election.{CanElect, Election, IsWon, reign_of}
+use Rattle.timed_election.specs.Keeping.{OnlyVotes}
 use Rattle.timed_failover.specs.Settling.{Opens, Settles}
 
 -- The election that the leader won, when, and its proposal number. Its first and its last version then. The last version
@@ -190,6 +191,33 @@ pub record IsAsked (ms : Monitors) (q : List Bool) (pace : Pace) (x : Query) (t 
 abbrev pub AreBetween : List Bool → Timed → Type 0
 AreBetween q t = (f i : ℕ) → has q f ≡ true → has q i ≡ true
     → AllByRecursion (λ o. IsBetween t.world f i o.number) (t.under_way f i)
+
+-- ---- a victory
+
+-- A member of q, which has a second one, just won an election in time (`IsWon`). Of the election only calls and
+-- acknowledgements are under way. No member lacks more than this version, whose value it has pending then. None promised
+-- the winner's number, and each answer to it fits one message.
+pub record IsElected (ms : Monitors) (q : List Bool) (pace : Pace) (E : Election) (version : ℕ) (value : List Op)
+    (t : Timed) : Type 0 where
+  pub can : CanElect ms q E.best
+  pub odd : is_even E.epoch ≡ false
+  pub together : E.by ≤ E.from + 3 * pace.delay
+  pub soon : t.time ≤ E.by + 5000 + pace.late
+  pub since : pace.since ≤ t.time
+  pub ranks : length q ≡ 15
+  pub second : ℕ
+  pub second_in : has q second ≡ true
+  pub second_is : second ≡ E.best → ⊥
+  pub won : IsWon ms q pace E t
+  pub votes : OnlyVotes q E.epoch t
+  pub between : AreBetween q t
+  pub fits : suc (suc version) ≤ 2 ^ 62
+  pub made : 0 < version → IsOfCommand value × (length (text value) ≤ most_value)
+  pub stocked : (i : ℕ) → has q i ≡ true → IsStocked version value (readings_of (t.world.store i))
+  pub learns : CanLearn version value (readings_of (t.world.store E.best))
+  pub low : (i : ℕ) → has q i ≡ true → (i ≡ E.best → ⊥) → promise_of (readings_of (t.world.store i)) < won.pn
+  pub whole : (i : ℕ) → has q i ≡ true → (i ≡ E.best → ⊥)
+      → IsWhole (answer_to ms.count won.pn (readings_of (t.world.store E.best)).last (readings_of (t.world.store i)))
 
 -- At some time of the run, and by time u, the leader heard all members. It gave the first leases, or proposes the value
 -- that it found. The rest of the run goes on from there.

@@ -10,9 +10,9 @@ ghost use Rattle.quorum_stays.specs.Reading.{ClocksGoOn};
 ghost use Rattle.quorum_stays.specs.Steady.{Reign, Round, Steady};
 ghost use Rattle.quorum_timed.specs.Begins.{Begins, IsQuick};
 ghost use Rattle.quorum_timed.specs.Timed.{Leads, Pace, Timed};
-ghost use Rattle.timed_election.specs.Election.{CanElect};
+ghost use Rattle.timed_election.specs.Election.{CanElect, Election};
 ghost use Rattle.timed_election.specs.Joining.{Deserted};
-ghost use Rattle.timed_failover.specs.Collecting.{AreBetween, IsAsked, IsHeardBy, Query};
+ghost use Rattle.timed_failover.specs.Collecting.{AreBetween, IsAsked, IsElected, IsHeardBy, Query};
 ghost use Rattle.timed_failover.specs.Failover.{IsReplacedBy, IsWithout, NobodyCalls, SteadyBy, from_time};
 ghost use Rattle.timed_failover.specs.Newest.{IsNewest};
 ghost use Rattle.timed_failover.specs.Reached.{IsAsLed, Reached};
@@ -92,4 +92,13 @@ pub fn law_new_leader_serves()
         → IsQuick pace → 4 * pace.delay ≤ 3000 → IsAsked ms q pace x t → AreBetween q t → Leads ms q pace t more last
         → ClocksGoOn q pace last.time → x.won + 4 * pace.delay < last.time
         → SteadyBy ms q pace t more (x.won + 4 * pace.delay) }
+{}
+
+/// A member that won an election in time serves within four delays after that, if no member lacks more than one version
+/// and each answer to its COLLECT fits one message (`IsElected`). Clients may ask what they want meanwhile.
+pub fn law_winner_serves()
+    ensures { (ms : Monitors) (q : List Bool) (pace : Pace) (E : Election) (version : ℕ) (value : List Op)
+        (t last : Timed) (more : List (ℕ × Event)) → IsQuick pace → 4 * pace.delay ≤ 3000
+        → IsElected ms q pace E version value t → Leads ms q pace t more last → ClocksGoOn q pace last.time
+        → t.time + 4 * pace.delay < last.time → SteadyBy ms q pace t more (t.time + 4 * pace.delay) }
 {}
