@@ -33,7 +33,7 @@ pub record OnLog (log : List (List ℕ)) (m : Store) : Type 0 where
   pub versions : HasVersions log last m
   pub unmarked : (readings_of m).marked ≡ false
 
--- ---- what other parts of the invariant say of the monitor, and of what comes to it
+-- ---- what other parts of the invariant say of the monitor, and of what arrives at it
 
 pub record Situated (me : Me) (w : Readings) (s : State) : Type 0 where
   pub leads : is_leading s.phase ≡ true → HasOthers me s.leader.quorum

@@ -1,4 +1,4 @@
--- What comes to a monitor that was started, and which of its rows that is.
+-- What arrives at a monitor that was started, and which of its rows that is.
 use Rattle.std.proofs.Common.{◌≡◌, ℕ, Bool, true, false, List, None, Result, Ok, is_some, sym, ap, subst, ◌∙◌, arith}
 use Rattle.std.proofs.lemmas.Bool.Decides.{nat_tests}
 use Rattle.std.specs.Prelude.{if◌then◌else◌}

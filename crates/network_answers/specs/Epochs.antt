@@ -42,7 +42,7 @@ pub record ShowsMark (before : List Asked) (log : List (List ℕ)) (a : Answer) 
   pub is : IsMark before log mark
   pub to : mark ≤ a.last
 
--- The answer tells a change for which nobody had asked by then.
+-- The answer reports a change for which nobody had asked by then.
 pub record TellsUnasked (before : List Asked) (a : Answer) : Type 0 where
   pub service : Service
   pub from : ℕ

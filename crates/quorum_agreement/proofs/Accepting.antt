@@ -84,7 +84,7 @@ module _ (me : Me) (now f e pn v : ℕ) (x : Course) where
       by_test (not (of_member begun f e x && eqb pn x.state.leader.pn && eqb v (suc x.readings.last))) (λ t. done (inl (record { changes = refl; sends = refl })))
       (λ t. by_test (are_within me.member.monitors x.state.leader.quorum (with_rank x.state.leader.accepted f)) (λ u. commits t u x.state.leader.value refl) (λ u. done (inl (record { changes = refl; sends = refl }))))
 
--- it comes to a monitor that may be booting, or that doesn't hear its sender
+-- it arrives at a monitor that may be booting, or that doesn't hear its sender
 pub accept_reacts : (me : Me) (shared : List Entry) (now : ℕ) (w : Readings) (s : State) (d : Message) (pn v : ℕ) → d.body ≡ body.Accept pn v
     → Then (RestsOrCommits me now d.from d.epoch pn v (at_rest w s)) (react me shared now w s (input.Deliver d))
 unfolding react

@@ -22,7 +22,7 @@ use Rattle.quorum_walk.proofs.Walk.{Then}
 use Rattle.std.proofs.Common.{IfOk, Ok, arith, false, inl, inr, length, refl, subst, sym, true, ℕ, ◌∙◌, ◌≡◌, ◌≤◌}
 use Rattle.std.proofs.lemmas.Bool.{ltb-true}
 
--- what comes to a monitor with a fitting event, and what it does
+-- what arrives at a monitor with a fitting event, and what it does
 pub record Does (ms : Monitors) (w : World) (p : Plain) : Type 0 where
   pub fit : PlainFits ms.count p
   pub by : Arrived ms w p

@@ -104,7 +104,7 @@ pub record Tickets (n : ℕ) (places : Places) (store : ℕ → Store) (state : 
 abbrev pub Lasts : (n : ℕ) (asked more : List Asked) (log newer : List (List ℕ)) (places after : Places) → Type 0
 Lasts n asked more log newer places after = (v : ℕ) → v < length log → (a : LoggedAt n asked log places v) → (v < length newer) × (b : LoggedAt n more newer after v) × (b.k ≡ a.k)
 
--- ---- a request comes to another place
+-- ---- a request arrives at another place
 
 -- a place that an event of monitor i may take a request from
 abbrev pub IsAt : ℕ → Place → Type 0

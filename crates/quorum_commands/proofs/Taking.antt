@@ -1,4 +1,4 @@
--- What a monitor does with a command that comes to it, or that waits there: it is refused, waits, becomes the next version's
+-- What a monitor does with a command that arrives at it, or that waits there: it is refused, waits, becomes the next version's
 -- value, or is forwarded. Each is done once.
 use Rattle.law_names.proofs.Table.{Body, Command, CommandRefused, Course, Entry, Input, Last, Learn, MOST_WAITING, Me, Message, Op, Origin, Phase, Readings, Reply, Request, Sent, Session, State, Timer, Vote, Waiting, Which, answer_any, answer_to, ask, asked_of, at_leader, at_peon, at_rest, begin, begin_alone, begin_made, begin_with, disarm, end_of, epoch_of, has, has_queue, hear, hear_client, hear_forward, is_alone, is_heard, is_leading, is_member, is_one_of, is_peon, is_standing, is_too_long, leads_in, learn, lease_of, may_propose, members, message_to, of_member, propose, propose_due, propose_first, propose_next, react, read, readable, refusal, same_phase, service_last, service_of, shown, since, timer_comes, too_long, value, ◌▸◌}
 use Rattle.mon_bytes.specs.declared.command.Command.TheVariants as command

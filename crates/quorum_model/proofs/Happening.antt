@@ -21,7 +21,7 @@ use Rattle.std.specs.List.{AllByRecursion}
 use Rattle.std.specs.Option.{option_map}
 use Rattle.std.specs.Prelude.{IfOk}
 
--- ---- what comes to a monitor
+-- ---- what arrives at a monitor
 
 module _ (ms : Monitors) (w : World) (p : Plain) where
   -- a message that comes was sent, and a client's request is the event's own
@@ -30,7 +30,7 @@ module _ (ms : Monitors) (w : World) (p : Plain) where
   Brought rank (input.Client t r) = (at : ℕ) × (p ≡ Client rank at t r)
   Brought rank other = Unit {0}
 
-  -- what comes to a monitor of the map that is up, or that starts
+  -- what arrives at a monitor of the map that is up, or that starts
   pub record Arrived : Type 0 where
     pub rank : ℕ
     pub lt : ltb rank ms.count ≡ true

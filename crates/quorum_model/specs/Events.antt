@@ -10,7 +10,7 @@ use Rattle.quorum_model.specs.World.{Plain, Start, Deliver, Ring, Client, Event,
 abbrev pub RequestFits : Request → Type 0
 RequestFits r = IfSome (command_of r) IsCommand
 
--- what comes to one of n monitors
+-- what arrives at one of n monitors
 abbrev pub PlainFits : ℕ → Plain → Type 0
 PlainFits n (Start rank at) = rank < n
 PlainFits n (Deliver message at) = Unit {0}

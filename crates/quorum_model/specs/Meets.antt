@@ -12,7 +12,7 @@ use Rattle.mon_msg.specs.declared.view.Me.{Me}
 use Rattle.quorum_model.specs.Monitors.{Monitors, me_of}
 use Rattle.quorum_model.specs.World.{World, Plain, Start, Deliver, Ring, Client, Envelope}
 
--- an input that comes to the monitor of a rank at a time
+-- an input that arrives at the monitor of a rank at a time
 pub record Arrival : Type 0 where
   pub rank : ℕ
   pub at : ℕ

@@ -17,7 +17,7 @@ use Rattle.mon_wire.specs.declared.request.Session.{Session}
 pub data Plain : Type 0 where
   -- it forgets all that its store doesn't keep, and starts
   Start : (rank : ℕ) → (at : ℕ) → Plain
-  -- the message of that number, counted from 1, comes to its receiver: at any time after it was sent, and any number of
+  -- the message of that number, counted from 1, arrives at its receiver: at any time after it was sent, and any number of
   -- times
   Deliver : (message : ℕ) → (at : ℕ) → Plain
   -- that timer fires, whether or not its time has come

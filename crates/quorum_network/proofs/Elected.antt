@@ -355,7 +355,7 @@ sent_more net s = by (me_of three s.rank)
     by (Some m) = made m (iteration_of m (net.process s.rank) s.doing)
 
 -- The third process is started again, with another number, and datagram 1, which was sent to it before it was killed,
--- comes to it.
+-- arrives at it.
 abbrev pub plays : List Play
 plays = Arrives 1 5000 Whole ∷ Starts 2 4 Whole ∷ until_elected
 

@@ -35,7 +35,7 @@ pub data Play : Type 0 where
   -- the datagram with this number, counted from 0 in the order of sending, arrives at the monitor that it was sent to, at
   -- this reading of that monitor's clock
   Arrives : (datagram clock : ℕ) → Until → Play
-  -- nothing comes to a process
+  -- nothing arrives at a process
   Waits : (rank clock : ℕ) → Until → Play
 
 abbrev pub idle : (i now : ℕ) → Until → Step

@@ -168,7 +168,7 @@ module _ (ms : Monitors) (i : ℕ) (me : Me) (is : me_of ms i ≡ Some me) where
           step_is net doing (Kept k) (record { came = Ok (Some it); serving = serving_with store_view st }) e
           ∙ ap (with_outcome (entered net i doing) i) (killed store_view st it r reacts_so small_so short_so k ∙ ap (λ (m : Store). outcome_as (Down m) (take k (letters me m r.sends))) then_is)
 
-    -- a message comes to it
+    -- a message arrives at it
     module _ (net : Network) (S : Sits net i kv st) (j : ℕ) (m : Message) (has : HasText m) (fits : length (text m) ≤ 60000) (from : m.from ≡ j) (count : m.monitors ≡ me.member.monitors)
         (tells : is_request m.body ≡ false) (clock : ℕ) (rests : due_by clock (due st.timers) ≡ None) where
       abbrev heard_as : Outcome → Iteration

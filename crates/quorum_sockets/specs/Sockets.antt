@@ -1,4 +1,4 @@
--- Processes over sockets: what comes to a process went out of the socket of another one.
+-- Processes over sockets: what arrives at a process went out of the socket of another one.
 use Rattle.std.specs.Prelude.{◌≡◌, ◌⊎◌, ℕ, List, [], ◌∷◌, Option, Some, None, Result}
 use Rattle.std.specs.List.{Contains}
 use Rattle.mon_bytes.specs.Reading.{IsBytes}

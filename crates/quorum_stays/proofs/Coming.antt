@@ -1,4 +1,4 @@
--- What comes to a member of a quorum that is led.
+-- What arrives at a member of a quorum that is led.
 use Rattle.law_names.proofs.Runs.{Arrival, Arrives, Client, Deliver, Envelope, Event, Monitors, Plain, Ring, World, arrival, message_at, messages_of, replies_of, state_at}
 use Rattle.law_names.proofs.Table.{AllByRecursion, Change, Clients, Course, Input, Origin, Phase, Reply, Request, Session, State, Store, Timer, end_of, epoch_of, has, index_of, is_alone, is_member, quorum_of, react, readings_of, same_phase, shared_entries}
 use Rattle.mon_msg.specs.declared.input.Input.TheVariants as input

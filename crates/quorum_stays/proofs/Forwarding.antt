@@ -200,7 +200,7 @@ module _ (ms : Monitors) (q : List Bool) (pace : Pace) (reign : Reign) (K : IsQu
         by (inl p) g = rw (ne_eqb f reign.leader nf, eq-eqb ms.count ms.count refl, p, eq-eqb reign.epoch (epoch_of (readings_of (t.world.store reign.leader))) (sym S.epoch), subst (λ (z : List Bool). has z f ≡ true) (sym g) qf, lt-ltb (slice_index_or V.was.clients.taken f 0) seq lt) refl
         by (inr p) g = rw (ne_eqb f reign.leader nf, eq-eqb ms.count ms.count refl, p, eq-eqb reign.epoch (epoch_of (readings_of (t.world.store reign.leader))) (sym S.epoch), subst (λ (z : List Bool). has z f ≡ true) (sym g) qf, lt-ltb (slice_index_or V.was.clients.taken f 0) seq lt) refl
 
-    -- it comes to the leader
+    -- it arrives at the leader
     comes_there : (D : ℕ) (o : Owed) (c : Command) → u ≤ o.by → o.by + answer_time pace + pace.delay ≤ D → message_at t.world.messages o.number ≡ Some (in_reign ms reign f reign.leader (body.Forward seq c)) → slice_index_or V.was.clients.taken f 0 < seq
         → e ≡ Arrives (Deliver o.number (u + pace.clock reign.leader)) → Errand seq D later next
     comes_there D o c soon le there lt comes = elim (asked ms q pace reign K r t S A u M later next e V (origin.Forwarded f seq) (takes_it o.number c there comes lt)) [
@@ -273,7 +273,7 @@ module _ (ms : Monitors) (q : List Bool) (pace : Pace) (reign : Reign) (K : IsQu
         ]
       ]
 
-  -- ---- a command comes to the peon
+  -- ---- a command arrives at the peon
 
   module _ (r : Round) (t : Timed) (S : Steady ms q pace reign r t) (A : Attends pace reign r t) (N : Counts q reign f t) (u : ℕ) (M : MayBe ms q pace t u) (next : Timed) (session : Session) (x : Request) (command : Reads x → ⊥)
       (C : Comes ms q pace (at_time ms q pace u t) next (Arrives (Client f (u + pace.clock f) session x))) (later : Round) (V : Served ms pace reign (Arrives (Client f (u + pace.clock f) session x)) u t.world next.world r later) where

@@ -1,4 +1,4 @@
--- A quorum stays led when an answer of a peon comes to its leader, unless it is the last one to a value.
+-- A quorum stays led when an answer of a peon arrives at its leader, unless it is the last one to a value.
 use Rattle.law_names.proofs.Runs.{Arrives, Deliver, Monitors, message_at}
 use Rattle.law_names.proofs.Table.{Body, Readings, State, are_within, disarmed, end_of, epoch_of, has, promise_of, readings_of, shared_entries, with_rank}
 use Rattle.mon_msg.specs.declared.input.Input.TheVariants as input

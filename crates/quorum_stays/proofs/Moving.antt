@@ -1,4 +1,4 @@
--- Each event of a timed run is at one member. What comes to it is of a member, and so is what is under way afterwards.
+-- Each event of a timed run is at one member. What arrives at it is of a member, and so is what is under way afterwards.
 use Rattle.law_names.proofs.Runs.{Arrives, Client, Deliver, Envelope, Event, Monitors, Plain, Ring, World, arrival, happens, message_at, messages_of, moved, state_at}
 use Rattle.law_names.proofs.Table.{AllByRecursion, Course, Input, Message, State, has, react, reaction_of, readings_of, shared_entries}
 use Rattle.log_model.proofs.Lists.{all_append, all_map}
@@ -50,7 +50,7 @@ module _ (ms : Monitors) (q : List Bool) (pace : Pace) (within : (i : ℕ) → h
   pub record IsSent (w : World) (k i : ℕ) (m : Message) : Type 0 where
     pub there : message_at w.messages k ≡ Some (record { to = i; message = m })
 
-  -- what comes to member i at this time
+  -- what arrives at member i at this time
   abbrev pub Brought : World → (i at : ℕ) → Event → Input → Type 0
   Brought w i at e (input.Deliver m) = (has q m.from ≡ true) × ((k : ℕ) × (e ≡ Arrives (Deliver k at)) × IsSent w k i m)
   Brought w i at e (input.Client session r) = e ≡ Arrives (Client i at session r)

@@ -149,7 +149,7 @@ module _ (ms : Monitors) (q : List Bool) (pace : Pace) (reign : Reign) (K : IsQu
         | inr z ↦ served_later t.world next.world last.world reign.leader session z (leads_grew ms q pace more next last L.1.2)
       ]
 
-  -- ---- a command comes to the leader
+  -- ---- a command arrives at the leader
 
   leads_phase : (r : Round) (o : Option Begun) (s : State) → Leads ms.count q pace reign r o s → is_leading s.phase ≡ true
   leads_phase r None s F = let p = F.leads in rw p refl

@@ -7,7 +7,7 @@ use Rattle.quorum_model.proofs.Members.{me_is, member_of}
 use Rattle.std.proofs.Common.{Err, List, Ok, Option, Result, Some, ap, ltb, nat_lt, refl, subst, suc, sym, true, ℕ, ◌++◌, ◌∙◌, ◌≡◌}
 use Rattle.std.proofs.lemmas.Bool.{cond_both, eq-eqb, ne_eqb}
 
--- a message that comes to its receiver
+-- a message that arrives at its receiver
 abbrev pub brought : (at : ℕ) → Envelope → Arrival
 brought at e = record { rank = e.to; at = at; input = input.Deliver e.message }
 

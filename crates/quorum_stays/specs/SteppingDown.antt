@@ -21,7 +21,7 @@ pub record ServesWith (m : ℕ) (s : State) : Type 0 where
   pub serves : is_one_of serving s.phase ≡ true
   pub among : has s.leader.quorum m ≡ true
 
--- ---- what comes to it
+-- ---- what arrives at it
 
 -- The event brings monitor i no command: no client asks it for one, and no FORWARD arrives at it.
 abbrev pub BringsNone : (i : ℕ) → World → Event → Type 0

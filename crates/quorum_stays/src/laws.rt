@@ -106,7 +106,7 @@ pub fn law_lost_leader_is_left()
 
 /// A leader that lost a monitor of its quorum steps down in time: at some time up to this bound it isn't active or
 /// updating, or its quorum lacks the monitor. The bound is 30 seconds after `since` whatever it does at first, and 23
-/// seconds if it is active. It is 13 seconds if no command waits at it and none comes to it. To each of them three
+/// seconds if it is active. It is 13 seconds if no command waits at it and none arrives at it. To each of them three
 /// latenesses of timers are added, or two in the last case. This holds of members in any state, whatever they send.
 pub fn law_leader_steps_down()
     ensures serving { (ms : Monitors) (q : List Bool) (pace : Pace) (t last : Timed) (more : List (ℕ × Event)) (i m : ℕ)

@@ -1,5 +1,5 @@
 -- Runs in time. From some time on the messages among the monitors of a set arrive in time, once and in order, and the
--- timers of these monitors fire in time. Nothing else comes to them but what clients ask. The other monitors take no
+-- timers of these monitors fire in time. Nothing else arrives at them but what clients ask. The other monitors take no
 -- step: they count as stopped, and what they sent doesn't arrive.
 use Rattle.mon_msg.specs.Protocol.Timers.{end_of}
 use Rattle.mon_types.specs.Ranks.{has}

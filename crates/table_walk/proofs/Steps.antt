@@ -198,7 +198,7 @@ MayRaise me came (Numbers pn) = pn ≤ 2 ^ 62
 MayRaise me came other = ⊥
 
 -- Why a body is sent. Answers to PROBE, BEGIN, ACCEPT, FORWARD and ROUTE are sent in steps of their own, and what a leader
--- tells its quorum (`MayTell`).
+-- says to its quorum (`MayTell`).
 abbrev pub MaySay : Me → List Entry → Course → Body → Type 0
 MaySay me shared x (body.ProbeReply quorum first last) = ⊥
 MaySay me shared x (body.Begin pn v value) = ⊥
@@ -310,7 +310,7 @@ pub record ActSteps (me : Me) (now : ℕ) (shared : List Entry) (w : Readings) (
   pub raises : {x : Course} (c : Change) → MayRaise me came c → P Nothing x → P Nothing (change c x)
   pub learns : {h : InHand} {x : Course} (v : ℕ) (value : List Op) (values : List (List Op)) → MayLearn me came x h (value ∷ values) → v + length values ≤ 2 ^ 62 → P h x → P h (change (Last (v + length values)) (change_all (learn_changes v (value ∷ values)) x))
   pub proposes : {x : Course} (z : LeaderStage) (value : List Op) (o : Option Origin) → suc x.readings.last ≤ 2 ^ 62 → is_leading x.state.phase ≡ true → P (ValueOf value o) x → Q (begin_with me now z (suc x.readings.last) value o x)
-  -- what a leader tells its quorum
+  -- what a leader sends its quorum
   pub tells : {h : InHand} {x : Course} (sends : List Sent) → AllByRecursion (IsOwn me x (MayTell me h x)) sends → P h x → P h (say sends x)
   -- What is remembered. A leader may extend its lease, a leader that collects begins anew, and all requests are forgotten.
   pub leads : {h : InHand} {x : Course} (l : Leader) → P h x → P h (leader_is (record l { pn = x.state.leader.pn; found = x.state.leader.found; value = x.state.leader.value; origin = x.state.leader.origin }) x)

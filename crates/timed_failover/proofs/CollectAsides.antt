@@ -1,4 +1,4 @@
--- A new leader still asks after an event that is no part of its round comes to it, or to a member that follows it.
+-- A new leader still asks after an event that is no part of its round arrives at it, or to a member that follows it.
 use Rattle.law_names.proofs.Runs.{Envelope, Event, Monitors, messages_of}
 use Rattle.law_names.proofs.Table.{Clients, Course, Entry, Input, Me, Origin, Readings, Reply, Session, State, index_of, same_phase}
 use Rattle.log_model.proofs.Lists.{all_map}

@@ -1,4 +1,4 @@
--- What comes to a quorum whose new leader asks it, until all members answered.
+-- What arrives at a quorum whose new leader asks it, until all members answered.
 use Rattle.law_names.proofs.Runs.{Envelope, Event, Monitors, message_at, messages_of}
 use Rattle.law_names.proofs.Table.{AllByRecursion, Body, Course, Entry, Input, Me, Message, Op, Origin, Readings, Reply, Request, Session, State, Timer, at_rest, end_of, epoch_of, has, hear, hear_forward, hear_route, is_heard, quorum_of, react, readings_of, same_phase, shared_entries}
 use Rattle.log_model.proofs.Lists.{all_map}

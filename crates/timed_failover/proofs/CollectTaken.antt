@@ -310,7 +310,7 @@ module _ (ms : Monitors) (q : List Bool) (pace : Pace) (x : Query) (t : Timed) (
             | inr ne ↦ gives_other ms reigns g j _ (each_from me reigns.epoch b g (λ is. ne (sym is)) (members me q))
           ]))
 
-      -- what comes to member j then
+      -- what arrives at member j then
       comes_to : (j : ℕ) → has q j ≡ true → (j ≡ best → ⊥) → Carries ms reigns next.world.messages best j (next.time + pace.delay) (due_at (u + pace.delay) (caught j ++ b ∷ [])) (next.under_way best j)
       comes_to j qj nj = let A = answered_so j qj nj in gives_on ms q pace x t u later next e left went best came s up y how D best j [] (caught j ++ b ∷ []) A.there (gives_member j qj nj)
 

@@ -1,4 +1,4 @@
--- What comes to a quorum whose leader proposes the value that it found, until it is committed.
+-- What arrives at a quorum whose leader proposes the value that it found, until it is committed.
 use Rattle.law_names.proofs.Runs.{Arrives, Client, Deliver, Event, Monitors, Plain, Ring, arrival, message_at, messages_of, state_at}
 use Rattle.law_names.proofs.Table.{Change, Course, Input, Origin, Readings, Reply, Request, Session, State, Timer, are_within, end_of, has, index_of, is_alone, react, readings_of, same_phase, shared_entries, with_rank}
 use Rattle.mon_msg.specs.declared.input.Input.TheVariants as input

@@ -195,8 +195,8 @@ AreBetween q t = (f i : ℕ) → has q f ≡ true → has q i ≡ true
 -- ---- a victory
 
 -- A member of q, which has a second one, just won an election in time (`IsWon`). Of the election only calls and
--- acknowledgements are under way. No member lacks more than this version, whose value it has pending then. None promised
--- the winner's number, and each answer to it fits one message.
+-- acknowledgements are under way. No member lacks more than this version, for which it has some value pending then. None
+-- promised the winner's number, and each answer to it fits one message.
 pub record IsElected (ms : Monitors) (q : List Bool) (pace : Pace) (E : Election) (version : ℕ) (value : List Op)
     (t : Timed) : Type 0 where
   pub can : CanElect ms q E.best
