@@ -51,7 +51,7 @@ def leader_killed(q: Monitors):
 
 
 def behind(q: Monitors, versions: int, more: int = 0):
-    """mon.c is killed, and comes back after so many changes."""
+    """mon.c is killed, and is started again after this many changes."""
     begin(q, 6)
     q.kill('c')
     q.until_quorum(2)

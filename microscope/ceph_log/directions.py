@@ -9,7 +9,7 @@ from .lines import SECOND
 from .messages import MATCHED, Message
 from .quorum import Quorum
 
-# A direction is silent if so many messages, over this time, didn't arrive within LATE, while so many came from the other side.
+# A direction is silent if this many messages, sent over this time, did not arrive within LATE, while as many came from the other side.
 LEAST, SPAN, LATE, BACK = 4, 8 * SECOND, 5 * SECOND, 3
 
 
