@@ -18,6 +18,7 @@ unfoldable pub use Rattle.quorum_model.specs.Happens.{kept_only, lost, moved, un
 pub use Rattle.quorum_model.specs.Kept.{AcknowledgedOnce, DoneIsAnswered, IsKeptIn}
 pub use Rattle.quorum_model.specs.Meets.{Arrival, Down, Meeting, NoMessage, Reacts, arrival, meeting, meeting_at, meets, message_at, state_at}
 pub use Rattle.quorum_model.specs.Monitors.{Monitors, classic, me_if, me_of}
+pub use Rattle.quorum_model.specs.Reached.{Reached}
 pub use Rattle.quorum_model.specs.Runs.{Ran, goes_on, ran, run, run_from}
 unfoldable pub use Rattle.quorum_model.specs.Runs.{ran_from}
 pub use Rattle.quorum_model.specs.Safe.{Safe}

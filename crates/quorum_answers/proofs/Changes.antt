@@ -1,5 +1,5 @@
 -- Every run answers with the next change, if there is one.
-use Rattle.law_names.proofs.Runs.{Agrees, AllFit, Asked, Event, IsShown, Monitors, Plain, PlainFits, Replied, ShowsLog, World, first_read, first_world, happens, kept_only, last_of, lost, moved, plain_of, replies_of, run, service_from, unmoved, with_asked}
+use Rattle.law_names.proofs.Runs.{Agrees, AllFit, Asked, Event, IsShown, Monitors, Plain, PlainFits, Reached, Replied, ShowsLog, World, first_read, first_world, happens, kept_only, last_of, lost, moved, plain_of, replies_of, run, service_from, unmoved, with_asked}
 use Rattle.law_names.proofs.Table.{AllByRecursion, Asked as Waits, Me, Readings, Reply, Sent, Service, Session, State, Store, answer_to, booting, changes_after, epoch_of, fits_reply, incrementals, is_member, longest, map_of_log, readings_of, version_of_log}
 use Rattle.log_model.proofs.Committed.{shown_shared}
 use Rattle.log_model.proofs.Logs.{IsPrefixOf}
@@ -11,7 +11,7 @@ use Rattle.quorum_agreement.proofs.Answering.{IsRead, Outcome}
 use Rattle.quorum_agreement.proofs.Result.{there_marked}
 use Rattle.quorum_agreement.proofs.SafeWorlds.{safe}
 use Rattle.quorum_answers.proofs.Own.{AnyFrom, AnyLook, AnyVote, NoRoute, Onward, Quiet, member_votes, says}
-use Rattle.quorum_answers.proofs.Reached.{Reached, reached_first, runs_on, world_is}
+use Rattle.quorum_answers.proofs.Reached.{runs_on}
 use Rattle.quorum_answers.proofs.Refusals.{agreed, valued}
 use Rattle.quorum_answers.proofs.Sizes.{IsShort, all_short, takes_next}
 use Rattle.quorum_answers.proofs.Whole as whole
@@ -21,6 +21,7 @@ use Rattle.quorum_history.proofs.Phases.{no, votes_unmarked}
 use Rattle.quorum_laws.proofs.Events.{Does, Keeps, each_event, member_of}
 use Rattle.quorum_laws.proofs.Invariant.{InvOf, InvWith}
 use Rattle.quorum_laws.proofs.Reading.{state_holds}
+use Rattle.quorum_model.proofs.Reached.{reached_first, world_is}
 use Rattle.quorum_walk.proofs.Lists.{all_append, all_both, all_drop, all_map, all_of}
 use Rattle.quorum_walk.proofs.Sparing.{own_of}
 use Rattle.std.proofs.Common.{IfOk, IsTrue, List, Some, [], ap, arith, drop, eqb, false, filter, inl, inr, leb, length, subst, suc, sym, true, ℕ, ◌∙◌, ◌∷◌, ◌≡◌, ◌≤◌, ◌⊎◌}

@@ -1,5 +1,5 @@
 -- Each refusal is the service's, over the log.
-use Rattle.law_names.proofs.Runs.{Acknowledged, Agree, Agrees, AllFit, AllValues, Asked, Envelope, Event, IsKeptIn, Monitors, Plain, PlainFits, Replied, World, first_world, happens, is_marked, kept_only, last_of, lost, messages_of, moved, plain_of, replies_of, run, run_from, unmoved, with_asked}
+use Rattle.law_names.proofs.Runs.{Acknowledged, Agree, Agrees, AllFit, AllValues, Asked, Envelope, Event, IsKeptIn, Monitors, Plain, PlainFits, Reached, Replied, World, first_world, happens, is_marked, kept_only, last_of, lost, messages_of, moved, plain_of, replies_of, run, run_from, unmoved, with_asked}
 use Rattle.law_names.proofs.Table.{AllByRecursion, Body, Command, Contains, Me, Message, Origin, Readings, Reply, Sent, Session, State, Store, apply, encoded, epoch_of, joined, most_text, reaction_of, readings_of, same_phase, text_length, value, votes}
 use Rattle.log_model.proofs.Logs.{IsPrefixOf}
 use Rattle.mon_bytes.specs.declared.command.CommandRefused.TheVariants as because
@@ -16,7 +16,7 @@ use Rattle.quorum_agreement.proofs.Worlds.{still_among}
 use Rattle.quorum_answers.proofs.Event as event
 use Rattle.quorum_answers.proofs.Ordering.{Covered, all_there}
 use Rattle.quorum_answers.proofs.Over.{long_refused, value_stored, view_stays}
-use Rattle.quorum_answers.proofs.Reached.{Reached, log_prefix_next, reached_first, reached_next, runs_on, world_is}
+use Rattle.quorum_answers.proofs.Reached.{log_prefix_next, runs_on}
 use Rattle.quorum_answers.proofs.Saying as saying
 use Rattle.quorum_answers.proofs.Saying.{NoRefusal}
 use Rattle.quorum_answers.proofs.Whole as whole
@@ -31,6 +31,7 @@ use Rattle.quorum_laws.proofs.Reading.{state_holds}
 use Rattle.quorum_laws.specs.Accepting.{readings_at}
 use Rattle.quorum_laws.specs.Commands.{WasAsked}
 use Rattle.quorum_model.proofs.Happening.{of_next, runs_apart}
+use Rattle.quorum_model.proofs.Reached.{reached_first, reached_next, world_is}
 use Rattle.quorum_walk.proofs.Lists.{Among, all_among, all_append, all_map, among_left}
 use Rattle.quorum_walk.proofs.Sparing.{own_of}
 use Rattle.std.proofs.Common.{IfOk, List, Ok, Some, [], ap, arith, false, inl, inr, length, refl, subst, sym, true, ℕ, ◌++◌, ◌<◌, ◌^◌, ◌∙◌, ◌∷◌, ◌≡◌, ◌≤◌}

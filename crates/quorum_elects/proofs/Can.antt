@@ -1,10 +1,11 @@
 -- Further events of some monitors, one after the other, which lead to a world of some kind.
 use Rattle.calm_sizes.specs.Sizes.{AllShort, longest}
-use Rattle.law_names.proofs.Runs.{AllFit, Arrives, Deliver, Envelope, Event, Monitors, Ran, Stop, World, goes_on, happens, ran, ran_from, run_from}
+use Rattle.law_names.proofs.Runs.{Arrives, Deliver, Envelope, Event, Monitors, Ran, Reached, Stop, World, goes_on, happens, ran_from, run_from}
 use Rattle.law_names.proofs.Table.{Command, Message, Session, has}
 use Rattle.log_model.proofs.Logs.{IsPrefixOf, log_prefix_itself}
 use Rattle.quorum_elects.specs.Ways.{AreSteps, Clock, IsStep, OthersRest}
 use Rattle.quorum_model.proofs.Continuing.{at, ran_on}
+use Rattle.quorum_model.proofs.Reached.{world_is}
 use Rattle.quorum_near.proofs.Whole.{Holds, held}
 use Rattle.quorum_walk.proofs.Lists.{Among}
 use Rattle.std.proofs.Common.{Bool, Err, IsSomeAnd, List, None, Ok, Option, Result, Some, [], ap, arith, inl, inr, length, refl, slice_get, subst, suc, sym, true, zero, ℕ, ◌*◌, ◌++◌, ◌+◌, ◌<◌, ◌∙◌, ◌∷◌, ◌≡◌, ◌≤◌}
@@ -70,14 +71,8 @@ steps_append ms q sent asks clock w v (x ∷ xs) ys a e b = (a.0, steps_append m
 
 -- ---- worlds that a run reaches
 
--- world w is the end of a run that nothing stopped
-pub record Reached (ms : Monitors) (w : World) : Type 0 where
-  pub events : List Event
-  pub fit : AllFit ms.count events
-  pub is : ran ms events ≡ at w
-
 pub reached_holds : (ms : Monitors) (several : 1 < ms.count) (w : World) → Reached ms w → Holds ms several w
-reached_holds ms several w R = subst (Holds ms several) (ap (λ (r : Ran). r.world) R.is) (held ms several R.events R.fit)
+reached_holds ms several w R = subst (Holds ms several) (world_is ms w R) (held ms several R.events R.fit)
 
 -- The scope of further events: each is a step of the monitors of q after the first `sent` messages of a run of ms, and
 -- the only request is `asks`. They come at the times of a clock.

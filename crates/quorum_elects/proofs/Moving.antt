@@ -2,18 +2,19 @@
 use Rattle.calm_sizes.proofs.AnyRuns.{OnSomeLog, goes_on_then, goes_on_within, would_be}
 use Rattle.calm_sizes.proofs.Stores.{ChangeShort, short_behind}
 use Rattle.calm_sizes.specs.Sizes.{AllShort, OwnShort, longest}
-use Rattle.law_names.proofs.Runs.{Arrives, Envelope, Plain, PlainFits, Ran, Reacts, Replied, World, arrival, first_world, grown, happens, is_marked, last_of, meeting, meeting_at, meets, messages_of, most_size, moved, plain_of, records_after, replies_of, size_of, state_at}
+use Rattle.law_names.proofs.Runs.{Arrives, Envelope, Plain, PlainFits, Reached, Reacts, Replied, World, arrival, grown, happens, is_marked, last_of, meeting, meeting_at, meets, messages_of, most_size, moved, records_after, replies_of, size_of, state_at}
 use Rattle.law_names.proofs.Table.{AllByRecursion, Contains, Course, Fits, Input, Me, Message, Readings, Reply, Sent, Session, State, Store, Which, any_reaction, apply, encoded, epoch_of, has, joined, played, react, reaction_of, readings_of, shared_entries}
 use Rattle.log_model.proofs.Logs.{IsPrefixOf, log_prefix_itself}
 use Rattle.mon_msg.proofs.Changed.{readings-joined}
 use Rattle.mon_msg.specs.declared.plan.Sent.TheVariants as send
-use Rattle.quorum_elects.proofs.Can.{Can, New, Onward, Reached, Sane, Scope, new_added}
+use Rattle.quorum_elects.proofs.Can.{Can, New, Onward, Sane, Scope, new_added}
 use Rattle.quorum_elects.proofs.Walking.{Surely}
 use Rattle.quorum_elects.specs.Ways.{IsStep}
 use Rattle.quorum_laws.specs.Accepting.{readings_at}
-use Rattle.quorum_model.proofs.Continuing.{ran_on, ran_one}
+use Rattle.quorum_model.proofs.Continuing.{ran_one}
 use Rattle.quorum_model.proofs.Members.{me_is, member_of}
-use Rattle.quorum_walk.proofs.Lists.{Among, all_append}
+use Rattle.quorum_model.proofs.Reached.{reached_next, world_is}
+use Rattle.quorum_walk.proofs.Lists.{Among}
 use Rattle.std.proofs.Common.{Bool, Err, List, Ok, Option, Result, Some, [], ap, arith, cond, eqb, false, inl, inr, length, ltb, refl, subst, suc, sym, true, ℕ, ◌++◌, ◌-◌, ◌∙◌, ◌∷◌, ◌≡◌, ◌≤◌}
 use Rattle.std.proofs.lemmas.Bool.{cond_both, eq-eqb, false≢true, ne_eqb}
 use Rattle.std.proofs.lemmas.List.Elements.{Contains-append_right}
@@ -153,11 +154,7 @@ module _ (S : Scope) where
       }
 
       reached : Reached S.ms (moved w p i (reaction_of y))
-      reached = record {
-        events = R0.events ++ Arrives p ∷ [];
-        fit = all_append (λ e. PlainFits S.ms.count (plain_of e)) R0.events (Arrives p ∷ []) R0.fit (fits, tt);
-        is = ran_on S.ms first_world w R0.events (Arrives p ∷ []) R0.is ∙ ran_one S.ms w (moved w p i (reaction_of y)) (Arrives p) happened;
-      }
+      reached = reached_next S.ms w (moved w p i (reaction_of y)) (Arrives p) fits happened R0
 
       stores : (j : ℕ) → has S.q j ≡ true → AllShort longest ((moved w p i (reaction_of y)).store j)
       unfolding moved
@@ -207,7 +204,7 @@ module _ (S : Scope) where
       happened : happens S.ms w (Arrives p) ≡ Ok (moved w p i (reaction_of y))
       happened =
           (subst (λ (v : World). meets S.ms v p ≡ Reacts i came (Ok (reaction_of y)) → (readings_of (apply (joined (encoded y.changes)) (v.store i))).marked ≡ false → OwnShort longest (apply (joined (encoded y.changes)) (v.store i)) → happens S.ms v (Arrives p) ≡ Ok (moved v p i (reaction_of y)))
-          (ap (λ (r : Ran). r.world) R0.is)
+          (world_is S.ms w R0)
           (goes_on_then S.ms R0.events R0.fit p fits i came (reaction_of y)))
           (met ∙ ap (λ (r : Result Course Which). Reacts i came (any_reaction r)) e) (ap (λ (r : Readings). r.marked) read ∙ A.unmarked) own
 
@@ -234,7 +231,7 @@ module _ (S : Scope) where
       happened_so : happens S.ms w (Arrives p) ≡ Ok (moved w p i (reaction_of y))
       happened_so =
           (subst (λ (v : World). meets S.ms v p ≡ Reacts i came (Ok (reaction_of y)) → (OnSomeLog (apply (joined (encoded y.changes)) (v.store i)) y.state → size_of (apply (joined (encoded y.changes)) (v.store i)) ≤ most_size) → happens S.ms v (Arrives p) ≡ Ok (moved v p i (reaction_of y)))
-          (ap (λ (r : Ran). r.world) R0.is)
+          (world_is S.ms w R0)
           (λ m small. goes_on_within S.ms R0.events R0.fit p fits i came (reaction_of y) m (small (would_be S.ms R0.events R0.fit p fits i came (reaction_of y) m))))
           (met ∙ ap (λ (r : Result Course Which). Reacts i came (any_reaction r)) e) (A.small short_so)
 

@@ -4,5 +4,6 @@ pub mod Fitting
 pub mod Happening
 pub mod Made
 pub mod Members
+pub mod Reached
 pub mod Values
 pub mod Writing

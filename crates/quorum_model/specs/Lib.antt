@@ -11,6 +11,7 @@ pub mod Happens
 pub mod Kept
 pub mod Meets
 pub mod Monitors
+pub mod Reached
 pub mod Runs
 pub mod Safe
 pub mod Scenes

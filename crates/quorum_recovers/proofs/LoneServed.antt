@@ -1,6 +1,6 @@
 -- A map of one monitor serves, in every run.
 use Rattle.calm_sizes.specs.Sizes.{AllShort, longest}
-use Rattle.law_names.proofs.Runs.{AllFit, Event, IsAsked, IsCommand, Keeps, Monitors, Ran, World, first_world, ran, request_of, run}
+use Rattle.law_names.proofs.Runs.{AllFit, Event, IsAsked, IsCommand, Keeps, Monitors, Ran, Reached, World, first_world, ran, request_of, run}
 use Rattle.law_names.proofs.Table.{AllByRecursion, Command, Course, Learn, Readings, Rule, Session, allows, are_within, entry, has, is_too_long, number, only, play, refusal, service_of, shared_entries, text, value}
 use Rattle.log_copies.proofs.Matching.{record_there}
 use Rattle.log_copies.specs.Versions.{HasVersions}
@@ -11,7 +11,7 @@ use Rattle.mon_wire.specs.declared.reply.Reply.TheVariants as reply
 use Rattle.quorum_agreement.proofs.Grown.{first_is}
 use Rattle.quorum_agreement.proofs.LoneWorlds.{IsWhole, LoneHolds, OfLone}
 use Rattle.quorum_agreement.proofs.Runs.{lone_run}
-use Rattle.quorum_elects.proofs.Can.{Can, Onward, Reached, Sane, Scope, onward_on}
+use Rattle.quorum_elects.proofs.Can.{Can, Onward, Sane, Scope, onward_on}
 use Rattle.quorum_elects.proofs.Moving.{Did}
 use Rattle.quorum_elects.proofs.Planning.{Does, Plays, idle, plays_then, plays_weaker, step}
 use Rattle.quorum_elects.proofs.Ranks.{highest_of, lowest_of}
@@ -27,6 +27,7 @@ use Rattle.quorum_elects.specs.Ready.{AllNear, IsReady}
 use Rattle.quorum_elects.specs.Ways.{Clock, OthersRest}
 use Rattle.quorum_laws.specs.Accepting.{IsMajorityOf, readings_at}
 use Rattle.quorum_model.proofs.Continuing.{at, ran_on}
+use Rattle.quorum_model.proofs.Reached.{world_is}
 use Rattle.quorum_near.proofs.Low.{first_low}
 use Rattle.quorum_recovers.proofs.Asked.{asked_at, asked_is, keeps, last_is, learned_is, request_fits, service_room, value_val}
 use Rattle.quorum_recovers.proofs.Known.{record_read}
@@ -68,7 +69,7 @@ module _ (most : 1 ≤ 15) (rule : Rule) (events : List Event) (F : AllFit 1 eve
   -- ---- what every run says of it
 
   lone_holds : (v : World) → Reached (lone most rule) v → LoneHolds (lone most rule) v
-  lone_holds v R = subst (LoneHolds (lone most rule)) (ap (λ (r : Ran). r.world) R.is) (lone_run (lone most rule) refl R.events R.fit)
+  lone_holds v R = subst (LoneHolds (lone most rule)) (world_is (lone most rule) v R) (lone_run (lone most rule) refl R.events R.fit)
 
   first_reached : Reached (lone most rule) (run (lone most rule) events)
   first_reached = record { events = events; fit = F; is = there }

@@ -1,5 +1,5 @@
 -- A quorum that is led and loses its leader: its others are deserted.
-use Rattle.law_names.proofs.Runs.{Envelope, Monitors, message_at}
+use Rattle.law_names.proofs.Runs.{Envelope, Monitors, Reached, message_at}
 use Rattle.law_names.proofs.Table.{AllByRecursion, Body, Me, Message, Phase, State, end_of, epoch_of, has, is_armed, lag, readings_of}
 use Rattle.mon_wire.specs.declared.body.Body.TheVariants as body
 use Rattle.mon_wire.specs.declared.phase.Phase.TheVariants as phase
@@ -19,7 +19,6 @@ use Rattle.timed_election.proofs.Lists.{closed, opened}
 use Rattle.timed_election.specs.Joining.{Deserted, FollowsLost, IsNear, IsOld, IsOther}
 use Rattle.timed_failover.proofs.Led.{near_holds, of_quorum, peon_last, peon_unmarked, sent_epoch, several}
 use Rattle.timed_failover.specs.Failover.{IsWithout, NobodyCalls, from_time}
-use Rattle.timed_failover.specs.Reached.{Reached}
 
 module _ (ms : Monitors) (full q : List Bool) (pace : Pace) (earlier : ℕ) (reign : Reign) (r : Round) (t : Timed) (R : Reached ms t.world) (S : Steady ms full (from_time earlier pace) reign r t)
     (W : IsWithout full q reign.leader) (B : Begins ms q pace t) (quiet : NobodyCalls q t) where

@@ -1,5 +1,5 @@
 -- What every run says of a quorum that is led in it: its log, and how far its members are.
-use Rattle.law_names.proofs.Runs.{Envelope, Monitors, last_of, message_at}
+use Rattle.law_names.proofs.Runs.{Envelope, Monitors, Reached, last_of, message_at}
 use Rattle.law_names.proofs.Table.{Phase, State, epoch_of, has, is_leading, is_member, is_peon, no_ranks, promise_of, readings_of}
 use Rattle.mon_wire.specs.declared.phase.Phase.TheVariants as phase
 use Rattle.quorum_elects.specs.Ready.{LacksAtMost}
@@ -10,6 +10,7 @@ use Rattle.quorum_laws.proofs.Invariant.{EnvelopeHolds, InvOf}
 use Rattle.quorum_laws.proofs.Reading.{at_least, state_holds}
 use Rattle.quorum_laws.specs.Accepting.{readings_at}
 use Rattle.quorum_laws.specs.Elections.{IsMember, IsQuorum}
+use Rattle.quorum_model.proofs.Reached.{world_is}
 use Rattle.quorum_near.proofs.Whole.{Holds, held, last_read, mark_read}
 use Rattle.quorum_recovers.proofs.Known.{within_log}
 use Rattle.quorum_stays.specs.Steady.{Begun, Follower, FollowsSince, Keeps, Leads, Reign, Round, Steady, leased}
@@ -21,7 +22,7 @@ use Rattle.table_walk.proofs.Lists.{all_get}
 use Rattle.timed_election.proofs.Lists.{opened}
 use Rattle.timed_failover.proofs.Owned.{Owns, owned}
 use Rattle.timed_failover.proofs.WholeLog.{leads, whole}
-use Rattle.timed_failover.specs.Reached.{IsAsLed, Reached}
+use Rattle.timed_failover.specs.Reached.{IsAsLed}
 
 -- ---- the leader
 
@@ -40,13 +41,13 @@ module _ (ms : Monitors) (q : List Bool) (pace : Pace) (reign : Reign) (r : Roun
   several = let a = S.members reign.leader S.leads in let b = S.members S.second S.second_in in let ne = S.second_is in omega arith
 
   pub near_holds : Holds ms several t.world
-  near_holds = subst (Holds ms several) (sym R.is) (held ms several R.events R.fit)
+  near_holds = subst (Holds ms several) (world_is ms t.world R) (held ms several R.events R.fit)
 
   abbrev pub I : InvOf ms t.world
   I = near_holds.0.0
 
   owns : Owns ms several t.world
-  owns = subst (Owns ms several) (sym R.is) (owned ms several R.events R.fit)
+  owns = subst (Owns ms several) (world_is ms t.world R) (owned ms several R.events R.fit)
 
   lead : (s : State) × (t.world.state reign.leader ≡ Some s) × IsLeader q reign s
   lead = let o = opened (Leads ms.count q pace reign r r.next) (t.world.state reign.leader) S.lead in (o.0, o.1, is_leader ms.count q pace reign r r.next o.0 o.2)

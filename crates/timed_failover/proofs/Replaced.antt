@@ -1,5 +1,5 @@
 -- A lost leader is replaced: the members that it deserted join an election, and one of them wins it.
-use Rattle.law_names.proofs.Runs.{Event, Monitors}
+use Rattle.law_names.proofs.Runs.{Event, Monitors, Reached}
 use Rattle.quorum_stays.specs.Reading.{ClocksGoOn}
 use Rattle.quorum_stays.specs.Steady.{Reign, Round, Steady}
 use Rattle.quorum_timed.specs.Begins.{Begins, IsQuick}
@@ -14,7 +14,6 @@ use Rattle.timed_election.specs.Joining.{JoinBy}
 use Rattle.timed_election.specs.Keeping.{IsWonWithin}
 use Rattle.timed_failover.proofs.Deserting.{deserted}
 use Rattle.timed_failover.specs.Failover.{IsReplacedBy, IsWithout, NobodyCalls, from_time}
-use Rattle.timed_failover.specs.Reached.{Reached}
 
 module _ (ms : Monitors) (full q : List Bool) (pace : Pace) (earlier best : ℕ) (reign : Reign) (r : Round) (t last : Timed) (more : List (ℕ × Event)) (quick : IsQuick pace) (short : pace.delay < 1000)
     (R : Reached ms t.world) (S : Steady ms full (from_time earlier pace) reign r t) (W : IsWithout full q reign.leader) (C : CanElect ms q best) (B : Begins ms q pace t) (quiet : NobodyCalls q t)

@@ -4,6 +4,7 @@ ghost use Rattle.mon_tx.specs.declared.op.Op.{Op};
 ghost use Rattle.quorum_laws.specs.Accepting.{readings_at};
 ghost use Rattle.quorum_model.specs.Events.{AllFit};
 ghost use Rattle.quorum_model.specs.Monitors.{Monitors};
+ghost use Rattle.quorum_model.specs.Reached.{Reached};
 ghost use Rattle.quorum_model.specs.Runs.{run};
 ghost use Rattle.quorum_model.specs.World.{Event};
 ghost use Rattle.quorum_stays.specs.Reading.{ClocksGoOn};
@@ -15,7 +16,7 @@ ghost use Rattle.timed_election.specs.Joining.{Deserted};
 ghost use Rattle.timed_failover.specs.Collecting.{AreBetween, IsAsked, IsElected, IsHeardBy, Query};
 ghost use Rattle.timed_failover.specs.Failover.{IsReplacedBy, IsWithout, NobodyCalls, SteadyBy, from_time};
 ghost use Rattle.timed_failover.specs.Newest.{IsNewest};
-ghost use Rattle.timed_failover.specs.Reached.{IsAsLed, Reached};
+ghost use Rattle.timed_failover.specs.Reached.{IsAsLed};
 ghost use Rattle.timed_failover.specs.Settling.{IsSettledBy, Opens, Settles, Settling, opening};
 
 /// A leader that serves under the newest number has the whole log. Its number is the newest if a majority of which all
