@@ -16,6 +16,7 @@ use Rattle.quorum_answers.specs.Linear.{Linearizable, Read, Write}
 use Rattle.quorum_answers.specs.Reads.{EachOnward, NoOlder, Shows}
 use Rattle.quorum_answers.specs.Refused as model
 use Rattle.quorum_answers.specs.Refused.{AllRefused, CoversAll, IsRefusalReply}
+use Rattle.quorum_model.proofs.Reached.{world_is}
 use Rattle.quorum_model.specs.Kept.{IsAnswered}
 use Rattle.quorum_model.specs.Shown.{AskedFor}
 use Rattle.quorum_network.proofs.Adding.{IsBy, IsLater, IsRepliedBy, given}
@@ -25,7 +26,7 @@ use Rattle.quorum_network.proofs.Invariant.{IsSaid}
 use Rattle.quorum_network.proofs.Joined.{letters_answer}
 use Rattle.quorum_network.proofs.Letters.{Letter}
 use Rattle.quorum_network.proofs.Names.{AreAnswers, Client, IsLogOf, Leadership, Network, Peer, answer_of}
-use Rattle.quorum_network.proofs.Promised.{acks_are, asked_so, some_letters, stands_log, world, world_is}
+use Rattle.quorum_network.proofs.Promised.{acks_are, asked_so, some_letters, stands_log, world}
 use Rattle.quorum_network.proofs.Whole.{Stands, asked_among, given_more}
 use Rattle.quorum_network.specs.History.{Extends}
 use Rattle.std.proofs.Common.{List, ap, arith, inl, inr, length, map, subst, sym, ℕ, ◌++◌, ◌<◌, ◌∙◌, ◌≡◌, ◌≤◌, ◌⊎◌}
@@ -81,7 +82,7 @@ module _ (n : ℕ) (asks : List Asked) (w : World) (asked : AllByRecursion (λ a
 module _ (ms : Monitors) (asks : List Asked) (acks : List Acknowledgement) (leads : List Leadership) (net : Network) (S : Stands assembly ms asks acks leads net) where
   -- what holds of the run's world
   of_world : (P : World → Type 0) → P (run ms S.reach.events) → P S.w
-  of_world P h = subst P (world_is ms asks acks leads net S) h
+  of_world P h = subst P (world_is ms S.w S.reach) h
 
   pub is_log : IsLogOf ms asks acks net S.w.log
   is_log = of_world (λ w. IsLogOf ms asks acks net w.log) (stands_log ms asks acks leads net S)
@@ -89,10 +90,10 @@ module _ (ms : Monitors) (asks : List Asked) (acks : List Acknowledgement) (lead
   in_run : (r : Replied) → Contains (world ms asks acks leads net S).replied r → IsOfThisLog asks acks (world ms asks acks leads net S).log (answer r)
   in_run r c =
       let w : World = run ms S.reach.events in
-      let K = safe ms S.reach.events S.reach.fits in
+      let K = safe ms S.reach.events S.reach.fit in
       let shown = of_all (IsShown w) w.replied K.shown r c in
       let answered = of_all (λ (q : Replied). DoneIsAnswered w q q.reply) w.replied K.kept.answered r c in
-      let next = of_all (λ (q : Replied). NamesNext w q q.reply) w.replied (name_next ms S.reach.events S.reach.fits) r c in
+      let next = of_all (λ (q : Replied). NamesNext w q q.reply) w.replied (name_next ms S.reach.events S.reach.fit) r c in
       let is = reply_of_log ms.count asks w (asked_so ms asks acks leads net S) r r.reply K.kept.each shown.shows shown.asked answered next in
       record { within = shown.within; of_log = subst (λ (xs : List Acknowledgement). IsOfLog asks xs w.log r.rank r.session r.last r.reply) (acks_are ms asks acks leads net S) is }
 
@@ -121,8 +122,8 @@ module _ (ms : Monitors) (old_asks asks : List Asked) (old_acks acks : List Ackn
     (S : Stands assembly ms old_asks old_acks old_leads earlier) (T : Stands assembly ms asks acks leads later) (G : GoesOn assembly ms old_asks asks old_acks acks old_leads leads earlier later S T) where
   pub extends : Extends T.w.log S.w.log
   extends =
-      subst (λ (w : World). Extends w.log S.w.log) (world_is ms asks acks leads later T)
-      (subst (λ (w : World). Extends (run ms T.reach.events).log w.log) (world_is ms old_asks old_acks old_leads earlier S)
+      subst (λ (w : World). Extends w.log S.w.log) (world_is ms T.w T.reach)
+      (subst (λ (w : World). Extends (run ms T.reach.events).log w.log) (world_is ms S.w S.reach)
       (grown_log assembly ms old_asks asks old_acks acks old_leads leads earlier later S T G))
 
   pub acknowledged : acks ≡ old_acks ++ map given G.writes
@@ -151,10 +152,10 @@ module _ (ms : Monitors) (old_asks asks : List Asked) (old_acks acks : List Ackn
   -- ---- in order
 
   linear : Linearizable ms.count T.w
-  linear = of_world ms asks acks leads later T (Linearizable ms.count) (linearizable ms T.reach.events T.reach.fits)
+  linear = of_world ms asks acks leads later T (Linearizable ms.count) (linearizable ms T.reach.events T.reach.fit)
 
   each : EachOnward T.w
-  each = of_world ms asks acks leads later T EachOnward (each_onward ms T.reach.events T.reach.fits)
+  each = of_world ms asks acks leads later T EachOnward (each_onward ms T.reach.events T.reach.fit)
 
   -- what was there before
   record OldWrite (a : Acknowledgement) : Type 0 where
@@ -258,10 +259,10 @@ module _ (ms : Monitors) (old_asks asks : List Asked) (old_acks acks : List Ackn
 
   refused_world : AllRefused S.w T.w
   refused_world =
-      subst (λ (w : World). AllRefused w T.w) (world_is ms old_asks old_acks old_leads earlier S)
+      subst (λ (w : World). AllRefused w T.w) (world_is ms S.w S.reach)
       (of_world ms asks acks leads later T (AllRefused (run ms S.reach.events))
       (subst (λ (es : List Event). AllRefused (run ms S.reach.events) (run ms es)) (sym G.is)
-      (all_refused ms S.reach.events G.more (subst (AllFit ms.count) G.is T.reach.fits))))
+      (all_refused ms S.reach.events G.more (subst (AllFit ms.count) G.is T.reach.fit))))
 
   was : (i : ℕ) (t : Session) (xs olds : List Asked) → AllByRecursion (λ a. Contains olds a) xs → (a : Asked) → a.rank ≡ i → a.session ≡ t → Contains xs a → Requested olds i t a.request
   was i t xs olds all a rank session c =

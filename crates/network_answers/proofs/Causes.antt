@@ -1,5 +1,5 @@
 -- Each answer that doesn't serve has its cause in a step.
-use Rattle.law_names.proofs.Runs.{Acknowledgement, Arrival, Asked, Client, Deliver, Envelope, Monitors, Plain, Replied, Ring, Start, World, arrival, last_of, map_after, me_of, message_at, messages_of, replies_of, state_at}
+use Rattle.law_names.proofs.Runs.{Acknowledgement, Arrival, Asked, Client, Deliver, Envelope, Monitors, Plain, Reached, Replied, Ring, Start, World, arrival, last_of, map_after, me_of, message_at, messages_of, replies_of, state_at}
 use Rattle.law_names.proofs.Table.{AllByRecursion, Body, Contains, Course, Input, Me, Message, Reaction, Readings, Reply, Sent, Session, State, Store, Which, any_reaction, apply, booting, epoch_of, played, react, reaction_of, readings_of, shared_entries}
 use Rattle.log_model.proofs.Lists.{all_append, all_map, of_all}
 use Rattle.mon_msg.proofs.Changed.{readings-joined}
@@ -13,7 +13,6 @@ use Rattle.network_answers.specs.Causes.{IsCaused, Reacted, Routes}
 use Rattle.quorum_network.proofs.Acts.{Act, Does, DoesSo, act_at, act_by, act_in, act_in_iteration}
 use Rattle.quorum_network.proofs.Assembled.{assembly, contains_first, contains_later}
 use Rattle.quorum_network.proofs.Events.{known}
-use Rattle.quorum_network.proofs.Facts.{Reach}
 use Rattle.quorum_network.proofs.Invariant.{Moved, Next, Still}
 use Rattle.quorum_network.proofs.Names.{AllMay, Iteration, Leadership, Network, Node, NodeEnd, Posted, Step, TimedInput, acknowledged_at, acknowledgements, after_step, asked_by, iteration_of, kept_by, leaderships, led_at, network, requests}
 use Rattle.quorum_network.proofs.Senders.{started, went}
@@ -98,7 +97,7 @@ of_react me at came m s base from (Ok y) T E r e =
     subst (λ (q : Reaction). AllByRecursion (IsForCause me.member.monitors at came (readings_of (apply q.transaction m)) q.state) q.sends) same
     (subst (λ (w : Readings). AllByRecursion (IsForCause me.member.monitors at came w y.state) y.out) (sym reads) T.holds)
 
-module _ (ms : Monitors) (w next : World) (R : Reach ms w) (a : Act) (D : Does ms w next a) where
+module _ (ms : Monitors) (w next : World) (R : Reached ms w) (a : Act) (D : Does ms w next a) where
   abbrev m : Store
   m = w.store a.rank
 
@@ -169,7 +168,7 @@ all_on ms s steps w K = record {
   routes = all_map (λ (e : Envelope). IfRoute ms steps e.to e.message.body) (λ (e : Envelope). IfRoute ms (s ∷ steps) e.to e.message.body) (λ e k. route_on ms s steps e.to e.message.body k) w.messages K.routes;
 }
 
-module _ (ms : Monitors) (s : Step) (earlier : List Step) (w next : World) (R : Reach ms w) (K : AllCaused ms earlier w) (a : Act) (D : Does ms w next a) (F : IsAct ms (network ms earlier) s a) where
+module _ (ms : Monitors) (s : Step) (earlier : List Step) (w next : World) (R : Reached ms w) (K : AllCaused ms earlier w) (a : Act) (D : Does ms w next a) (F : IsAct ms (network ms earlier) s a) where
   abbrev steps : List Step
   steps = s ∷ earlier
 
@@ -241,7 +240,7 @@ module _ (ms : Monitors) (s : Step) (earlier : List Step) (w next : World) (R : 
       }
 
 -- what an event does, by the act of its step
-by_act : (ms : Monitors) (s : Step) (earlier : List Step) (w next : World) → Reach ms w → AllCaused ms earlier w → (act : Option Act) → act_at (network ms earlier) s (me_of ms s.rank) ≡ act → DoesSo ms w next act → AllCaused ms (s ∷ earlier) next
+by_act : (ms : Monitors) (s : Step) (earlier : List Step) (w next : World) → Reached ms w → AllCaused ms earlier w → (act : Option Act) → act_at (network ms earlier) s (me_of ms s.rank) ≡ act → DoesSo ms w next act → AllCaused ms (s ∷ earlier) next
 by_act ms s earlier w next R K None is D =
     let old = all_on ms s earlier w K in
     record {

@@ -1,12 +1,12 @@
 -- A network whose disks keep their maps meets the premise of networks on any disks: its monitors send only entries with
 -- a valid prefix and a valid key.
-use Rattle.law_names.proofs.Runs.{Monitors, World, me_of, most_size, put_at, size_of}
+use Rattle.law_names.proofs.Runs.{Monitors, Reached, World, me_of, most_size, put_at, size_of}
 use Rattle.law_names.proofs.Table.{AllByRecursion, Contains, Me, Reaction, Which}
 use Rattle.quorum_network.proofs.Assembled.{assembly}
 use Rattle.quorum_network.proofs.Assembling.{Assembly}
 use Rattle.quorum_network.proofs.Elected.{is_played, plays}
 use Rattle.quorum_network.proofs.Events.{known}
-use Rattle.quorum_network.proofs.Facts.{Facts, Reach}
+use Rattle.quorum_network.proofs.Facts.{Facts}
 use Rattle.quorum_network.proofs.Invariant.{IfUp, Inv, IsAlive}
 use Rattle.quorum_network.proofs.Kept.{named}
 use Rattle.quorum_network.proofs.Letters.{Letter}
@@ -22,7 +22,7 @@ use Rattle.std.proofs.lemmas.Bool.{eq-eqb}
 abbrev AllNamed : Reaction → Type 0
 AllNamed r = AllByRecursion SendsNamed r.sends
 
-module _ (A : Assembly) (ms : Monitors) (F : Facts ms) (net : Network) (w : World) (R : Reach ms w) (I : Inv A ms net w) (i : ℕ) (me : Me) (is : me_of ms i ≡ Some me) where
+module _ (A : Assembly) (ms : Monitors) (F : Facts ms) (net : Network) (w : World) (R : Reached ms w) (I : Inv A ms net w) (i : ℕ) (me : Me) (is : me_of ms i ≡ Some me) where
   -- an iteration with an input
   module _ (s : Serving) (it : TimedInput) (T : IterationFine A ms F net w R I i me is (Ok (Some it)) s) where
     abbrev t : Iteration
@@ -55,7 +55,7 @@ module _ (A : Assembly) (ms : Monitors) (F : Facts ms) (net : Network) (w : Worl
   iteration_named (Ok (Some it)) s Whole T = kept_named s it T (reaction_to me s.node it) refl
   iteration_named (Ok (Some it)) s (Kept k) T = kept_named s it T (reaction_to me s.node it) refl
 
-module _ (A : Assembly) (ms : Monitors) (F : Facts ms) (net : Network) (w : World) (R : Reach ms w) (I : Inv A ms net w) where
+module _ (A : Assembly) (ms : Monitors) (F : Facts ms) (net : Network) (w : World) (R : Reached ms w) (I : Inv A ms net w) where
   made_named : (i : ℕ) (me : Me) → me_of ms i ≡ Some me → (p : Process) (doing : Doing) (u : Until) → net.process i ≡ p → May net i p doing → IfUp A ms I.ls (number_of net.lives i) i (w.state i) p → IsAlive (net.lives i) p
       → AreNamed me u (iteration_of me p doing)
   made_named i me is p (Begins life store_view clock link first) u e may up alive =

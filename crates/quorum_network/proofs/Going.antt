@@ -12,7 +12,7 @@ use Rattle.quorum_network.proofs.Letters.{IsPosted, Letter}
 use Rattle.quorum_network.proofs.Names.{AllMay, Client, Leadership, Monitor, Network, Peer, Posted, Step, acknowledged_at, acknowledgements, after_step, asked_by, leaderships, led_at, may_before, network, requests}
 use Rattle.quorum_network.proofs.Sends.{posted_behind, posted_more}
 use Rattle.quorum_network.proofs.Steps.{step_next}
-use Rattle.quorum_network.proofs.Whole.{Stands, reach_more, stands, stands_next}
+use Rattle.quorum_network.proofs.Whole.{Stands, stands, stands_next}
 use Rattle.quorum_network.specs.History.{Extends}
 use Rattle.std.proofs.Common.{List, Option, [], ap, append_assoc, arith, inl, inr, subst, suc, sym, ℕ, ◌++◌, ◌<◌, ◌∙◌, ◌∷◌, ◌≡◌, ◌≤◌}
 use Rattle.std.proofs.lemmas.List.Elements.{Contains-append_cases, Contains-append_left}
@@ -46,7 +46,7 @@ module _ (A : Assembly) (ms : Monitors) (old_asks bs asks : List Asked) (old_ack
     (S : Stands A ms old_asks old_acks old_leads old) (T : Stands A ms bs acks leads between) (G : GoesOn A ms old_asks bs old_acks acks old_leads leads old between S T) where
   one_more : {act : Option Act} (N : Next A ms asks added led act between.sent T.inv.ls net T.w)
       → GoesOn A ms old_asks (bs ++ asks) old_acks (acks ++ added) old_leads (leads ++ led) old net S (stands_next A ms bs asks acks added leads led between.sent between net T N)
-  unfolding reach_more stands_next
+  unfolding stands_next
   one_more (Still same unasked none nobody idle I letters) = record {
     more = G.more;
     is = G.is;
@@ -95,7 +95,7 @@ pub grown_log : (A : Assembly) (ms : Monitors) (old_asks asks : List Asked) (old
     (S : Stands A ms old_asks old_acks old_leads earlier) (T : Stands A ms asks acks leads later) → GoesOn A ms old_asks asks old_acks acks old_leads leads earlier later S T
     → Extends (run ms T.reach.events).log (run ms S.reach.events).log
 grown_log A ms old_asks asks old_acks acks old_leads leads earlier later S T G =
-    let up = grows ms S.reach.events G.more (subst (AllFit ms.count) G.is T.reach.fits) in
+    let up = grows ms S.reach.events G.more (subst (AllFit ms.count) G.is T.reach.fit) in
     record { more = up.more; is = ap (λ (es : List Event). (run ms es).log) G.is ∙ up.is }
 
 -- nothing is added

@@ -1,5 +1,5 @@
 -- A reaction whose transaction is kept: the network with some of its datagrams, and the world of its event.
-use Rattle.law_names.proofs.Runs.{Arrives, Asked, Envelope, Event, Monitors, Plain, PlainFits, Reacts, Replied, World, acknowledgements_of, arrival, epoch, first_world, happens, is_active, me_of, meets, messages_of, most_size, moved, plain_of, replies_of, size_of, state_at}
+use Rattle.law_names.proofs.Runs.{Arrives, Asked, Envelope, Monitors, Plain, PlainFits, Reached, Reacts, Replied, World, acknowledgements_of, arrival, epoch, happens, is_active, me_of, meets, messages_of, most_size, moved, replies_of, size_of, state_at}
 use Rattle.law_names.proofs.Table.{AllByRecursion, Cell, Contains, Input, Me, Reaction, Sent, State, Store, Which, apply, cell, epoch_of, number_in, reaction, readings_of}
 use Rattle.log_model.proofs.Lists.{of_all}
 use Rattle.mon_bounds.proofs.Table.{reaction_ok}
@@ -10,11 +10,12 @@ use Rattle.mon_msg.specs.declared.plan.Sent.TheVariants as sent
 use Rattle.mon_tx.proofs.Places.{number_in-low}
 use Rattle.mon_tx.specs.declared.key.Area.TheVariants as area
 use Rattle.mon_tx.specs.declared.key.Key.TheVariants as key
+use Rattle.quorum_model.proofs.Reached.{reached_next}
 use Rattle.quorum_model.specs.Happens as model
 use Rattle.quorum_network.proofs.Adding.{AllLater, IsLater, IsRepliedAt, all_numbered, all_replied, given_same, noted_as, noted_same}
 use Rattle.quorum_network.proofs.Assembling.{Assembly, IsLabelled}
-use Rattle.quorum_network.proofs.Events.{IsMe, known, meets_it, ran_more, reacts_moves}
-use Rattle.quorum_network.proofs.Facts.{Facts, Reach}
+use Rattle.quorum_network.proofs.Events.{IsMe, known, meets_it, reacts_moves}
+use Rattle.quorum_network.proofs.Facts.{Facts}
 use Rattle.quorum_network.proofs.Invariant.{IfUp, Inv, IsAlive, IsSaid, Mine, Moves, Says}
 use Rattle.quorum_network.proofs.Letters.{CanBeCut, IsLong, IsPosted, Letter, Numbered, labelled}
 use Rattle.quorum_network.proofs.Names.{Client, Down, IsNamed, IsValidInput, MayRemember, Monitor, Network, Node, Outgoing, Peer, Posted, Process, SendsNamed, Up, boot_in, datagrams, entries_in, letters, map_after, map_of, next_after, number_of, posted, under, with_outcome}
@@ -83,7 +84,7 @@ module _ (A : Assembly) (ms : Monitors) (i : ℕ) (ls ks : List Letter) (by : (l
   mine_more : (life j : ℕ) (p : Process) (m : Store) (st : Option State) → (j ≡ i → ⊥) → Mine A ms ls life j p m st → Mine A ms (ls ++ ks) life j p m st
   mine_more life j p m st ne k = record { map = k.map; up = if_up_more life j st p ne k.up }
 
-module _ (A : Assembly) (ms : Monitors) (F : Facts ms) (net : Network) (w : World) (R : Reach ms w) (I : Inv A ms net w) (i : ℕ) (me : Me) (is : me_of ms i ≡ Some me)
+module _ (A : Assembly) (ms : Monitors) (F : Facts ms) (net : Network) (w : World) (R : Reached ms w) (I : Inv A ms net w) (i : ℕ) (me : Me) (is : me_of ms i ≡ Some me)
     (n : Node) (at : ℕ) (came : Input) (p : Plain) (fits : PlainFits ms.count p) (there : arrival w p ≡ Some (record { rank = i; at = at; input = came }))
     (kv : n.store.kv ≡ w.store i) (up : state_at i (w.state i) came ≡ Some n.state) (may : IsValidInput came) (remembers : MayRemember me n.state)
     (r : Reaction) (reacts : reaction me at n.store.kv n.state came ≡ Ok r) (own : AllByRecursion (IsOwn me) r.sends) where
@@ -101,12 +102,8 @@ module _ (A : Assembly) (ms : Monitors) (F : Facts ms) (net : Network) (w : Worl
     pub happens_so : happens ms w (Arrives p) ≡ Ok (moved w p i r)
     happens_so = reacts_moves ms w p i came r met (subst (λ (m : Store). nat_lt most_size (size_of m) ≡ false) same_map small)
 
-    pub reach : Reach ms (moved w p i r)
-    reach = record {
-      events = R.events ++ Arrives p ∷ [];
-      fits = all_append (λ (e : Event). PlainFits ms.count (plain_of e)) R.events (Arrives p ∷ []) R.fits (fits, tt);
-      ran = ran_more ms first_world w (moved w p i r) R.events (Arrives p) R.ran happens_so;
-    }
+    pub reach : Reached ms (moved w p i r)
+    reach = reached_next ms w (moved w p i r) (Arrives p) fits happens_so R
 
     pub bounded : IsBounded me r
     bounded = subst (λ (x : Result Reaction Which). IfOk x (IsBounded me)) reacts (reaction_ok me at n.store.kv n.state came remembers may)

@@ -1,10 +1,11 @@
 -- One log, of which all maps of a network are, now and later, and who leads.
-use Rattle.law_names.proofs.Runs.{Acknowledged, AcknowledgedOnce, Acknowledgement, Agrees, AllFit, Asked, Event, IsAsked, IsKeptIn, Monitors, Ran, Safe, World, is_marked, last_of, me_of, run}
+use Rattle.law_names.proofs.Runs.{Acknowledged, AcknowledgedOnce, Acknowledgement, Agrees, AllFit, Asked, Event, IsAsked, IsKeptIn, Monitors, Safe, World, is_marked, last_of, me_of, run}
 use Rattle.law_names.proofs.Table.{AllByRecursion, Contains, State, Store, epoch_of, fold, readings_of}
 use Rattle.log_model.proofs.Lists.{of_all}
 use Rattle.log_model.proofs.Logs.{IsPrefixOf, entry_stays, fold_stays}
 use Rattle.quorum_agreement.proofs.Every.{agrees}
 use Rattle.quorum_agreement.proofs.SafeWorlds.{safe}
+use Rattle.quorum_model.proofs.Reached.{world_is}
 use Rattle.quorum_model.specs.Kept.{LeaderHas}
 use Rattle.quorum_model.specs.Safe.{OneActive}
 use Rattle.quorum_network.proofs.Adding.{given, noted_as}
@@ -80,21 +81,18 @@ module _ (ms : Monitors) (asks : List Asked) (acks : List Acknowledgement) (lead
   abbrev pub world : World
   world = run ms S.reach.events
 
-  pub world_is : world ≡ S.w
-  world_is = ap (λ (r : Ran). r.world) S.reach.ran
-
   pub acks_are : map given world.acknowledged ≡ acks
-  acks_are = ap (λ (w : World). map given w.acknowledged) world_is ∙ S.given_are
+  acks_are = ap (λ (w : World). map given w.acknowledged) (world_is ms S.w S.reach) ∙ S.given_are
 
   runs_so : IsOfRun ms net world
-  runs_so = subst (IsOfRun ms net) (sym world_is) (of_run assembly ms net S.w S.inv)
+  runs_so = subst (IsOfRun ms net) (sym (world_is ms S.w S.reach)) (of_run assembly ms net S.w S.inv)
 
   pub asked_so : AllByRecursion (λ a. Contains asks a) world.asked
-  asked_so = asked_among asks world.asked (ap (λ (w : World). w.asked) world_is ∙ S.asked)
+  asked_so = asked_among asks world.asked (ap (λ (w : World). w.asked) (world_is ms S.w S.reach) ∙ S.asked)
 
   pub stands_log : IsLogOf ms asks acks net world.log
   stands_log = subst (λ (xs : List Acknowledgement). IsLogOf ms asks xs net world.log) acks_are
-      (is_log ms asks net S.reach.events S.reach.fits runs_so asked_so)
+      (is_log ms asks net S.reach.events S.reach.fit runs_so asked_so)
 
   -- some of the letters
   pub some_letters : (ls : List Letter) → ((l : Letter) → Contains ls l → Contains S.inv.ls l) → AreLetters ls
@@ -153,7 +151,7 @@ module _ (ms : Monitors) (asks : List Asked) (acks : List Acknowledgement) (lead
   leads_among i e lt L = led_as leads i e (subst (λ (xs : List (ℕ × ℕ)). Contains xs (e, i)) S.active (noted_leads i e lt L))
 
   one_active : OneActive S.w
-  one_active = subst OneActive (ap (λ (r : Ran). r.world) S.reach.ran) (safe ms S.reach.events S.reach.fits).one_active
+  one_active = subst OneActive (world_is ms S.w S.reach) (safe ms S.reach.events S.reach.fit).one_active
 
   one_leader : (a b : Leadership) → Contains leads a → Contains leads b → a.epoch ≡ b.epoch → a.rank ≡ b.rank
   one_leader a b c d e =

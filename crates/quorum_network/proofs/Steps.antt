@@ -1,5 +1,5 @@
 -- Each step of a network keeps what holds, with at most one event.
-use Rattle.law_names.proofs.Runs.{Acknowledgement, Arrival, Asked, Client, Crash, Deliver, Envelope, Monitors, Plain, PlainFits, Ring, Start, World, after_meeting, arrival, lost, me_of, message_at, most_size, moved, put_at, size_of, state_at, with_asked}
+use Rattle.law_names.proofs.Runs.{Acknowledgement, Arrival, Asked, Client, Crash, Deliver, Envelope, Monitors, Plain, PlainFits, Reached, Ring, Start, World, after_meeting, arrival, lost, me_of, message_at, most_size, moved, put_at, size_of, state_at, with_asked}
 use Rattle.law_names.proofs.Table.{AllByRecursion, Contains, Input, Me, Op, Reaction, State, Store, Which, apply, booting, due, reaction}
 use Rattle.mon_bounds.proofs.Table.{boot_ok}
 use Rattle.mon_frag.proofs.Lists.{all_append}
@@ -14,7 +14,7 @@ use Rattle.quorum_network.proofs.Acts.{Act, act_at, act_by, act_in, act_in_itera
 use Rattle.quorum_network.proofs.Assembled.{contains_first, contains_later}
 use Rattle.quorum_network.proofs.Assembling.{Assembly}
 use Rattle.quorum_network.proofs.Events.{IsMe, known, meets_it}
-use Rattle.quorum_network.proofs.Facts.{Facts, Reach}
+use Rattle.quorum_network.proofs.Facts.{Facts}
 use Rattle.quorum_network.proofs.Inputs.{CameFine, HeardFine, heard_fine}
 use Rattle.quorum_network.proofs.Invariant.{IfUp, Inv, IsAlive, IsUp, Mine, Moved, Next, Still}
 use Rattle.quorum_network.proofs.Kept.{bounded, moves, new, next_now}
@@ -60,7 +60,7 @@ lost_asked w p i at came there = brings w p w.asked (record { rank = i; at = at;
 asked_so : (w : World) (p : Plain) (i at : ℕ) (came : Input) (r : Reaction) → arrival w p ≡ Some (record { rank = i; at = at; input = came }) → (moved w p i r).asked ≡ w.asked ++ asks_in i came
 asked_so w p i at came r there = moved_asked w p i r ∙ brings w p w.asked (record { rank = i; at = at; input = came }) there
 
-module _ (A : Assembly) (ms : Monitors) (F : Facts ms) (net : Network) (w : World) (R : Reach ms w) (I : Inv A ms net w) (i : ℕ) (me : Me) (is : me_of ms i ≡ Some me) where
+module _ (A : Assembly) (ms : Monitors) (F : Facts ms) (net : Network) (w : World) (R : Reached ms w) (I : Inv A ms net w) (i : ℕ) (me : Me) (is : me_of ms i ≡ Some me) where
   abbrev M : IsMe ms i me
   M = known ms i me is
 
@@ -391,7 +391,7 @@ module _ (A : Assembly) (ms : Monitors) (net : Network) (w : World) (I : Inv A m
 
 -- ---- a step
 
-module _ (A : Assembly) (ms : Monitors) (F : Facts ms) (net : Network) (w : World) (R : Reach ms w) (I : Inv A ms net w) where
+module _ (A : Assembly) (ms : Monitors) (F : Facts ms) (net : Network) (w : World) (R : Reached ms w) (I : Inv A ms net w) where
   pub newest_here : (i life : ℕ) (b : Bool) → b ≡ true → newest (cond b (life ∷ net.lives i) (net.lives i)) ≡ life
   newest_here i life true e = refl
   newest_here i life false e = absurd cc

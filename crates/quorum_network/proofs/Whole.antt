@@ -1,14 +1,14 @@
 -- Every list of steps makes a network that does what a run does.
-use Rattle.law_names.proofs.Runs.{Acknowledged, Acknowledgement, Asked, Event, Monitors, PlainFits, Ran, Replied, World, first_world, happens, me_of, plain_of, ran_from, run}
+use Rattle.law_names.proofs.Runs.{Acknowledged, Acknowledgement, Asked, Monitors, Reached, Replied, World, first_world, me_of}
 use Rattle.law_names.proofs.Table.{AllByRecursion, Contains}
 use Rattle.mon_frag.proofs.Lists.{all_append}
 use Rattle.quorum_agreement.proofs.SafeWorlds.{safe}
+use Rattle.quorum_model.proofs.Reached.{reached_first, reached_next, world_is}
 use Rattle.quorum_network.proofs.Acts.{Act}
 use Rattle.quorum_network.proofs.Adding.{Adds, IsAt, IsBy, IsRepliedAt, IsRepliedBy, given, noted_as}
 use Rattle.quorum_network.proofs.Assembled.{all_self, all_through, assembly}
 use Rattle.quorum_network.proofs.Assembling.{Assembly}
-use Rattle.quorum_network.proofs.Events.{ran_more}
-use Rattle.quorum_network.proofs.Facts.{Facts, Reach}
+use Rattle.quorum_network.proofs.Facts.{Facts}
 use Rattle.quorum_network.proofs.Invariant.{IfUp, Inv, Moved, Next, Says, Still}
 use Rattle.quorum_network.proofs.Letters.{IsPosted, Letter}
 use Rattle.quorum_network.proofs.Named.{named}
@@ -16,25 +16,18 @@ use Rattle.quorum_network.proofs.Names.{AllMay, Client, Leadership, Monitor, Net
 use Rattle.quorum_network.proofs.Senders.{running_own, started_own}
 use Rattle.quorum_network.proofs.Steps.{step_next}
 use Rattle.quorum_network.specs.Running.{DoesARun, IsOfRun, IsSentInRun}
-use Rattle.std.proofs.Common.{List, Ok, Option, [], ap, arith, map, refl, subst, suc, sym, ℕ, ◌++◌, ◌∙◌, ◌∷◌, ◌≡◌, ◌≤◌}
+use Rattle.std.proofs.Common.{List, Option, [], ap, arith, map, refl, subst, suc, sym, ℕ, ◌++◌, ◌∙◌, ◌∷◌, ◌≡◌, ◌≤◌}
 use Rattle.std.proofs.lemmas.List.{append-nil}
 
 pub record Stands (A : Assembly) (ms : Monitors) (asks : List Asked) (acks : List Acknowledgement) (leads : List Leadership) (net : Network) : Type 0 where
   pub w : World
-  pub reach : Reach ms w
+  pub reach : Reached ms w
   pub inv : Inv A ms net w
   pub asked : w.asked ≡ asks
   pub given_are : map given w.acknowledged ≡ acks
   pub numbered : AllByRecursion (IsBy w.events) w.acknowledged
   pub dated : AllByRecursion (IsRepliedBy w.events) w.replied
   pub active : w.active ≡ map noted_as leads
-
-unfoldable pub reach_more : (ms : Monitors) (w v : World) (e : Event) → Reach ms w → PlainFits ms.count (plain_of e) → happens ms w e ≡ Ok v → Reach ms v
-reach_more ms w v e R fits next = record {
-  events = R.events ++ e ∷ [];
-  fits = all_append (λ (x : Event). PlainFits ms.count (plain_of x)) R.events (e ∷ []) R.fits (fits, tt);
-  ran = ran_more ms first_world w v R.events e R.ran next;
-}
 
 all_there : {X : Type 0} (xs : List X) → AllByRecursion (λ x. Contains xs x) xs
 all_there xs = all_self (λ x. Contains xs x) xs (λ x c. c)
@@ -95,7 +88,7 @@ module _ (A : Assembly) (ms : Monitors) (olds more : List Asked) (acks added : L
   }
   stands_next (Moved M) = record {
     w = M.world;
-    reach = reach_more ms S.w M.world M.event S.reach M.fits M.next;
+    reach = reached_next ms S.w M.world M.event M.fits M.next S.reach;
     inv = M.inv;
     asked = M.adds.asked ∙ ap (λ (xs : List Asked). xs ++ more) S.asked;
     given_are = given_now M.world M.sent M.adds;
@@ -105,10 +98,9 @@ module _ (A : Assembly) (ms : Monitors) (olds more : List Asked) (acks added : L
   }
 
 unfoldable pub stands_first : (A : Assembly) (ms : Monitors) → Stands A ms [] [] [] first_network
-unfolding ran_from
 stands_first A ms = record {
   w = first_world;
-  reach = record { events = []; fits = tt; ran = refl };
+  reach = reached_first ms;
   inv = record {
     ls = [];
     mine = λ j lt. record { map = refl; up = tt };
@@ -168,11 +160,11 @@ pub network_runs : (ms : Monitors) (steps : List Step) → AllMay ms steps → D
 network_runs ms steps may =
     let S = stands assembly ms (facts ms) steps may in
     let R = S.reach in
-    let is : run ms R.events ≡ S.w = ap (λ (r : Ran). r.world) R.ran in
+    let is = world_is ms S.w R in
     record {
       events = R.events;
-      fit = R.fits;
+      fit = R.fit;
       of_run = subst (IsOfRun ms (network ms steps)) (sym is) (of_run assembly ms (network ms steps) S.w S.inv);
       asked = ap (λ (w : World). w.asked) is ∙ S.asked;
-      safe = safe ms R.events R.fits;
+      safe = safe ms R.events R.fit;
     }

@@ -1,5 +1,5 @@
 -- What the datagrams of a process show of it, after any steps of a network.
-use Rattle.law_names.proofs.Runs.{Arrives, Meeting, Monitors, Plain, PlainFits, Ran, Reacts, Stop, World, after_meeting, epoch, happens, me_of, meets, most_size, moved, put_at, size_of}
+use Rattle.law_names.proofs.Runs.{Arrives, Meeting, Monitors, Plain, PlainFits, Reached, Reacts, Stop, World, after_meeting, epoch, happens, me_of, meets, most_size, moved, put_at, size_of}
 use Rattle.law_names.proofs.Table.{AllByRecursion, Contains, Input, Me, Reaction, Sent, State, Store, Which, apply, due, epoch_of, readings_of}
 use Rattle.mon_bounds.specs.Fitting.{answer_in}
 use Rattle.mon_frag.specs.Pieces.{u64_bytes}
@@ -16,10 +16,10 @@ use Rattle.mon_wire.specs.declared.kind.Kind.{Kind}
 use Rattle.quorum_laws.proofs.Events.{all_runs}
 use Rattle.quorum_laws.proofs.Invariant.{InvOf}
 use Rattle.quorum_laws.proofs.Meetings.{member_of}
+use Rattle.quorum_model.proofs.Reached.{world_is}
 use Rattle.quorum_model.specs.Happens as model
 use Rattle.quorum_network.proofs.Assembled.{assembly}
 use Rattle.quorum_network.proofs.Events.{IsMe, known}
-use Rattle.quorum_network.proofs.Facts.{Reach}
 use Rattle.quorum_network.proofs.Inputs.{CameFine, HeardFine, heard_fine}
 use Rattle.quorum_network.proofs.Invariant.{IfUp, Inv, IsAlive, IsUp}
 use Rattle.quorum_network.proofs.Kept.{bounded, epoch_short, happens_so, met, named}
@@ -162,10 +162,10 @@ module _ (ms : Monitors) (several : 1 < ms.count) (i : ℕ) (me : Me) (is : me_o
 
   -- ---- an event of the run
 
-  module _ (w : World) (R : Reach ms w) (p : Plain) (fits : PlainFits ms.count p) (came : Input) (r : Reaction) (meeting : meets ms w p ≡ Reacts i came (Ok r))
+  module _ (w : World) (R : Reached ms w) (p : Plain) (fits : PlainFits ms.count p) (came : Input) (r : Reaction) (meeting : meets ms w p ≡ Reacts i came (Ok r))
       (moves : happens ms w (Arrives p) ≡ Ok (moved w p i r)) (z : Seen) (G : Good w z) where
     invariant : InvOf ms w
-    invariant = subst (InvOf ms) (ap (λ (x : Ran). x.world) R.ran) (all_runs ms R.events R.fits)
+    invariant = subst (InvOf ms) (world_is ms w R) (all_runs ms R.events R.fit)
 
     abbrev Next : Meeting → Type 0
     Next m = IfOk (after_meeting w (Arrives p) m) (λ next. Good next (seen_at i is_short (Arrives p) m z))
@@ -200,7 +200,7 @@ module _ (ms : Monitors) (several : 1 < ms.count) (i : ℕ) (me : Me) (is : me_o
 
   -- ---- an iteration
 
-  module _ (net : Network) (w : World) (R : Reach ms w) (I : Inv assembly ms net w) where
+  module _ (net : Network) (w : World) (R : Reached ms w) (I : Inv assembly ms net w) where
     module _ (s : Serving) (it : TimedInput) (T : IterationFine assembly ms (facts ms) net w R I i me is (Ok (Some it)) s) (z : Seen) (G : Good w z) where
       abbrev t : Iteration
       t = record { came = Ok (Some it); serving = s }
@@ -329,7 +329,7 @@ module _ (ms : Monitors) (several : 1 < ms.count) (i : ℕ) (me : Me) (is : me_o
 
   -- ---- a start
 
-  begins : (net : Network) (w : World) (R : Reach ms w) (I : Inv assembly ms net w) (number : ℕ) (store_view : StoreView) (clock : Option Readings) (link : Option Observed) (first : ℕ) (u : Until)
+  begins : (net : Network) (w : World) (R : Reached ms w) (I : Inv assembly ms net w) (number : ℕ) (store_view : StoreView) (clock : Option Readings) (link : Option Observed) (first : ℕ) (u : Until)
       → May net i (net.process i) (Begins number store_view clock link first)
       → OfProcess (outcome_of me (start first (unstarted me.member.rank store_view clock link)) u).process (all i (outcome_of me (start first (unstarted me.member.rank store_view clock link)) u).sends nothing_seen)
   begins net w R I number store_view clock link first u may =
