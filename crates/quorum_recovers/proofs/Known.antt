@@ -71,34 +71,40 @@ module _ (ms : Monitors) (several : 1 < ms.count) (w : World) (H : Holds ms seve
       let C = E.chosen in
       (E.x, E.encodes, I.glob.triples.fine s.0 (suc v) C.pn E.x s.1)
 
+  -- ---- records
+
   -- a monitor has its last version
-  pub value_there : (i : ℕ) → i < ms.count → (readings_at w i).marked ≡ false → (l : ℕ) → (readings_at w i).last ≡ suc l → IsThere (readings_at w i).record_of (suc l)
-  value_there i lt u l last =
+  pub last_cell : (i : ℕ) → i < ms.count → (readings_at w i).marked ≡ false → (l : ℕ) → (readings_at w i).last ≡ suc l → (readings_at w i).record_of (suc l) ≡ Some (entry w.log (suc l))
+  last_cell i lt u l last =
       let V = on_log i lt u in
-      let h = V.versions in
       let r = read_last w.log O.short O.values V.last (w.store i) V.versions in
-      let inside = h.within in
-      let x = entry_value l (omega arith) in
       let f = first_is (w.store i) in
       let low : max 1 (number (w.store i) area.Paxos key.FirstCommitted) ≤ suc l = elim (low_of i lt u) [ inl few ↦ (omega arith) | inr far ↦ (omega arith) ] in
-      record {
-        value = x.0;
-        is = at_cell (readings_at w i).record_of (suc l) (entry w.log (suc l)) x.0 (record_read (w.store i) (suc l) ∙ record_there w.log O.short O.values V.last (w.store i) V.versions (suc l) low (omega arith)) x.1 x.2;
-        fine = x.2;
-      }
+      record_read (w.store i) (suc l) ∙ record_there w.log O.short O.values V.last (w.store i) V.versions (suc l) low (omega arith)
+
+  pub value_there : (i : ℕ) → i < ms.count → (readings_at w i).marked ≡ false → (l : ℕ) → (readings_at w i).last ≡ suc l → IsThere (readings_at w i).record_of (suc l)
+  value_there i lt u l last =
+      let inside = within_log i lt u in
+      let x = entry_value l (omega arith) in
+      record { value = x.0; is = at_cell (readings_at w i).record_of (suc l) (entry w.log (suc l)) x.0 (last_cell i lt u l last) x.1 x.2; fine = x.2 }
 
   -- and the next one, once it is learned
-  pub learned_there : (i : ℕ) → i < ms.count → (readings_at w i).marked ≡ false → (l : ℕ) → (readings_at w i).last ≡ l → (x : List Op) → IsVersion w.log (suc l) x → suc l ≤ length w.log → IsThere (play (Learn (suc l) x) (readings_at w i)).record_of (suc l)
-  learned_there i lt u l last x V le =
+  pub learned_cell : (i : ℕ) → i < ms.count → (readings_at w i).marked ≡ false → (l : ℕ) → (readings_at w i).last ≡ l → (x : List Op) → IsVersion w.log (suc l) x → suc l ≤ length w.log
+      → (play (Learn (suc l) x) (readings_at w i)).record_of (suc l) ≡ Some (entry w.log (suc l))
+  learned_cell i lt u l last x V le =
       let L = on_log i lt u in
       let r = read_last w.log O.short O.values L.last (w.store i) L.versions in
       let K : Keeps w.log l (readings_at w i) = subst (λ (c : ℕ). Keeps w.log c (readings_at w i)) (sym r ∙ last) (monitor_keeps w.log O.short O.values L.last (w.store i) L.versions) in
       let N = keeps_noted w.log O.short O.values (x ∷ []) l (suc l) (omega arith) le (V, tt) (readings_at w i) K in
-      let y = entry_value l le in
-      record { value = y.0; is = at_cell (play (Learn (suc l) x) (readings_at w i)).record_of (suc l) (entry w.log (suc l)) y.0 (N.records (suc l) (omega arith) ∙ here) y.1 y.2; fine = y.2 }
+      N.records (suc l) (omega arith) ∙ here
     where
       here : cond (within (log_from (suc l)) (suc (suc l)) (suc l)) (Some (entry w.log (suc l))) None ≡ Some (entry w.log (suc l))
       here = rw (le-leb (log_from (suc l)) (suc l) (let h = log_high (suc l) (omega arith) in omega arith), lt-ltb (suc l) (suc (suc l)) (omega arith)) refl
+
+  pub learned_there : (i : ℕ) → i < ms.count → (readings_at w i).marked ≡ false → (l : ℕ) → (readings_at w i).last ≡ l → (x : List Op) → IsVersion w.log (suc l) x → suc l ≤ length w.log → IsThere (play (Learn (suc l) x) (readings_at w i)).record_of (suc l)
+  learned_there i lt u l last x V le =
+      let y = entry_value l le in
+      record { value = y.0; is = at_cell (play (Learn (suc l) x) (readings_at w i)).record_of (suc l) (entry w.log (suc l)) y.0 (learned_cell i lt u l last x V le) y.1 y.2; fine = y.2 }
 
   -- ---- what waits
 

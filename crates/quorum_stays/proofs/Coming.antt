@@ -6,9 +6,9 @@ use Rattle.mon_wire.specs.declared.phase.Phase.TheVariants as phase
 use Rattle.mon_wire.specs.declared.phase.Timer.TheVariants as timer
 use Rattle.quorum_model.proofs.Members.{member_of}
 use Rattle.quorum_stays.proofs.Bounds.{by_renewal, inside, leading, waits}
-use Rattle.quorum_stays.proofs.Onward.{here_left, list_left, one_state, other_left, unpack}
+use Rattle.quorum_stays.proofs.Onward.{one_state, unpack}
 use Rattle.quorum_stays.proofs.Outcomes.{AsksAs, Begins, BringsNone, BringsRoute, Fate, NobodyAsks, Outcome, aside_row, client_row, messages_for_clients, propose_row}
-use Rattle.quorum_stays.proofs.Peering.{PeonIn, replaced_other, replaced_peon}
+use Rattle.quorum_stays.proofs.Peering.{PeonIn, pop_down, pop_other, pop_up, popped}
 use Rattle.quorum_stays.proofs.Quiets.{stays_quiet}
 use Rattle.quorum_stays.proofs.Sending.{not_alone}
 use Rattle.quorum_stays.proofs.Serving.{Goes, Marking, Served, Turn, aside, messages_carry}
@@ -233,7 +233,7 @@ module _ (ms : Monitors) (q : List Bool) (pace : Pace) (reign : Reign) (r : Roun
             let E : Did t.world next.world i (record (m1.state) { clients = Q.clients; timers = Q.timers }) [] (messages_of Y.0.out) =
             subst (λ (cs : List Change). Did t.world next.world i (record (m1.state) { clients = Q.clients; timers = Q.timers }) cs (messages_of Y.0.out)) Q.unwritten
             (subst (λ (z : State). Did t.world next.world i z Y.0.changes (messages_of Y.0.out)) Q.state D) in
-            inl (stays_quiet ms q pace reign r t S next u later (Arrives p) went i m1.state Q.clients Q.timers Q.tidy (messages_of Y.0.out) m1.up E (messages_for_clients Y.0.out Q.about), served k)
+            inl (stays_quiet ms q pace reign r t next u later (Arrives p) went i m1.state Q.clients Q.timers Q.tidy (messages_of Y.0.out) m1.up E (messages_for_clients Y.0.out Q.about) S, served k)
           where
             tie : Ties ms reign t.world p i (readings_of (t.world.store i)) m1.state Asks (Brings m1.state)
             tie = ties m1.state m1.up
@@ -300,52 +300,6 @@ module _ (ms : Monitors) (q : List Bool) (pace : Pace) (reign : Reign) (r : Roun
         }))
         by (inr B) (inr ne) = absurd (false≢true (sym (m1.peon ne) ∙ B.active))
 
-  -- ---- a message about a client's command is taken
-
-  pub pop_down : (i : ℕ) (qi : has q i ≡ true) (ni : i ≡ reign.leader → ⊥) (others : List Owed) → (F : PeonIn ms q pace reign r t i t.under_way)
-      → Carries ms reign t.world.messages reign.leader i (t.time + pace.delay) (drop F.heard (to_peon reign pace r)) others → Steady ms q pace reign r (record t { under_way = without_first reign.leader i others t.under_way })
-  pop_down i qi ni others F C = replaced_peon ms q pace reign r t S (without_first reign.leader i others t.under_way) i (record {
-    heard = F.heard;
-    taken = F.taken;
-    sent = F.sent;
-    answered = F.answered;
-    follows = F.follows;
-    lease = F.lease;
-    epoch = F.epoch;
-    promise = F.promise;
-    keeps = F.keeps;
-    noted = F.noted;
-    to_come = subst (Carries ms reign t.world.messages reign.leader i (t.time + pace.delay) (drop F.heard (to_peon reign pace r))) (sym (here_left reign.leader i others t.under_way)) C;
-    to_take = subst (Carries ms reign t.world.messages i reign.leader (t.time + pace.delay) (drop F.taken (take (said F.heard) (to_leader reign pace r)))) (sym (other_left reign.leader i others t.under_way i reign.leader (λ a _. ni a))) F.to_take;
-  })
-      (λ j ne nj. (other_left reign.leader i others t.under_way reign.leader j (λ _ b. ne b), other_left reign.leader i others t.under_way j reign.leader (λ a _. nj a)))
-      (λ f j a. other_left reign.leader i others t.under_way f j (λ y z. ni (sym z ∙ a.0 y)))
-
-  pub pop_up : (f : ℕ) (qf : has q f ≡ true) (nf : f ≡ reign.leader → ⊥) (others : List Owed) → (F : PeonIn ms q pace reign r t f t.under_way)
-      → Carries ms reign t.world.messages f reign.leader (t.time + pace.delay) (drop F.taken (take (said F.heard) (to_leader reign pace r))) others → Steady ms q pace reign r (record t { under_way = without_first f reign.leader others t.under_way })
-  pop_up f qf nf others F C = replaced_peon ms q pace reign r t S (without_first f reign.leader others t.under_way) f (record {
-    heard = F.heard;
-    taken = F.taken;
-    sent = F.sent;
-    answered = F.answered;
-    follows = F.follows;
-    lease = F.lease;
-    epoch = F.epoch;
-    promise = F.promise;
-    keeps = F.keeps;
-    noted = F.noted;
-    to_come = subst (Carries ms reign t.world.messages reign.leader f (t.time + pace.delay) (drop F.heard (to_peon reign pace r))) (sym (other_left f reign.leader others t.under_way reign.leader f (λ a _. nf (sym a)))) F.to_come;
-    to_take = subst (Carries ms reign t.world.messages f reign.leader (t.time + pace.delay) (drop F.taken (take (said F.heard) (to_leader reign pace r)))) (sym (here_left f reign.leader others t.under_way)) C;
-  })
-      (λ j ne nj. (other_left f reign.leader others t.under_way reign.leader j (λ _ b. nj b), other_left f reign.leader others t.under_way j reign.leader (λ a _. ne a)))
-      (λ g j a. other_left f reign.leader others t.under_way g j (λ y z. nf (sym y ∙ a.1 z)))
-
-  pub pop_other : (f i : ℕ) → AreApart reign.leader f i → (others : List Owed) → Carries ms reign t.world.messages f i (t.time + pace.delay) [] others
-      → Steady ms q pace reign r (record t { under_way = without_first f i others t.under_way })
-  pop_other f i apart others C = replaced_other ms q pace reign r t S (without_first f i others t.under_way)
-      (λ j nj. (other_left f i others t.under_way reign.leader j (λ a b. nj (b ∙ apart.0 (sym a))), other_left f i others t.under_way j reign.leader (λ a b. nj (a ∙ apart.1 (sym b)))))
-      (λ g j qg qj a. list_left f i others t.under_way (λ g j os. Carries ms reign t.world.messages g j (t.time + pace.delay) [] os) g j C (S.others g j qg qj a))
-
 -- ---- what comes
 
 module _ (ms : Monitors) (q : List Bool) (pace : Pace) (reign : Reign) where
@@ -409,7 +363,7 @@ module _ (ms : Monitors) (q : List Bool) (pace : Pace) (reign : Reign) where
     down i qi ni o others first went = by (S.peons i qi ni) (subst (Carries ms reign t.world.messages reign.leader i (t.time + pace.delay) (drop (S.peons i qi ni).heard (to_peon reign pace r))) first (S.peons i qi ni).to_come)
       where
         by : (F : PeonIn ms q pace reign r t i t.under_way) → Carries ms reign t.world.messages reign.leader i (t.time + pace.delay) (drop F.heard (to_peon reign pace r)) (o ∷ others) → Stays t.world u (Arrives (Deliver o.number (u + pace.clock i))) r next
-        by F (le, inl k) = comes_aside reign.leader i S.leads qi o others (pop_down ms q pace reign r t S i qi ni others F k.2) k.0 went
+        by F (le, inl k) = comes_aside reign.leader i S.leads qi o others (popped ms q pace reign r t S (without_first reign.leader i others t.under_way) (pop_down ms q pace reign r t q S.peons S.others i ni others F k.2)) k.0 went
         by F (le, inr k) = H.down i qi ni F o others k.0 k.1 k.2 k.3 k.4 went
 
     up : (f : ℕ) → has q f ≡ true → (f ≡ reign.leader → ⊥) → (o : Owed) (others : List Owed) → t.under_way f reign.leader ≡ o ∷ others
@@ -417,7 +371,7 @@ module _ (ms : Monitors) (q : List Bool) (pace : Pace) (reign : Reign) where
     up f qf nf o others first went = by (S.peons f qf nf) (subst (Carries ms reign t.world.messages f reign.leader (t.time + pace.delay) (drop (S.peons f qf nf).taken (take (said (S.peons f qf nf).heard) (to_leader reign pace r)))) first (S.peons f qf nf).to_take)
       where
         by : (F : PeonIn ms q pace reign r t f t.under_way) → Carries ms reign t.world.messages f reign.leader (t.time + pace.delay) (drop F.taken (take (said F.heard) (to_leader reign pace r))) (o ∷ others) → Stays t.world u (Arrives (Deliver o.number (u + pace.clock reign.leader))) r next
-        by F (le, inl k) = comes_aside f reign.leader qf S.leads o others (pop_up ms q pace reign r t S f qf nf others F k.2) k.0 went
+        by F (le, inl k) = comes_aside f reign.leader qf S.leads o others (popped ms q pace reign r t S (without_first f reign.leader others t.under_way) (pop_up ms q pace reign r t q S.peons S.others f nf others F k.2)) k.0 went
         by F (le, inr k) = H.up f qf nf F o others k.0 k.1 k.2 k.3 k.4 went
 
     apart : (f i : ℕ) → has q f ≡ true → has q i ≡ true → AreApart reign.leader f i → (o : Owed) (others : List Owed) → t.under_way f i ≡ o ∷ others
@@ -425,7 +379,7 @@ module _ (ms : Monitors) (q : List Bool) (pace : Pace) (reign : Reign) where
     apart f i qf qi a o others first went = by (subst (Carries ms reign t.world.messages f i (t.time + pace.delay) []) first (S.others f i qf qi a))
       where
         by : Carries ms reign t.world.messages f i (t.time + pace.delay) [] (o ∷ others) → Stays t.world u (Arrives (Deliver o.number (u + pace.clock i))) r next
-        by (le, inl k) = comes_aside f i qf qi o others (pop_other ms q pace reign r t S f i a others k.2) k.0 went
+        by (le, inl k) = comes_aside f i qf qi o others (popped ms q pace reign r t S (without_first f i others t.under_way) (pop_other ms q pace reign r t q S.peons S.others f i a others k.2)) k.0 went
         by (le, inr k) = absurd (no_item k.0 k.1 k.2)
           where
             no_item : (x : Item) (rest : List Item) → [] ≡ x ∷ rest → ⊥

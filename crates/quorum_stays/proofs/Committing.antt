@@ -187,7 +187,7 @@ module _ (ms : Monitors) (q : List Bool) (pace : Pace) (reign : Reign) (K : IsQu
         by : (j ≡ f) ⊎ (j ≡ f → ⊥) → PeonIn ms q pace reign new next j next.under_way
         by (inl e) = subst (λ (z : ℕ). PeonIn ms q pace reign new next z next.under_way) (sym e)
             (committed_peon f qf nf F all (subst (λ (z : List Item). Carries ms reign t.world.messages f reign.leader (t.time + pace.delay) z (without_first f reign.leader others t.under_way f reign.leader)) list
-            (took ms q pace reign r t S u later next f qf nf F o others x rest it C went)))
+            (took ms q q pace reign r t u later next f nf F o others rest C went)))
         by (inr ne) =
             let G = S.peons j qj nj in
             let two = accepted_all j qj ne G in

@@ -242,21 +242,70 @@ module _ (ms : Monitors) (q : List Bool) (pace : Pace) (reign : Reign) (r : Roun
 
 -- ---- the leases are renewed
 
+-- The leader of this quorum, of which the members of q take steps, gives new leases.
+module _ (ms : Monitors) (full q : List Bool) (pace : Pace) (reign : Reign) (r : Round) (t : Timed) (u : ℕ) (later : t.time ≤ u) (next : Timed) (here : ltb reign.leader ms.count ≡ true)
+    (s : State) (up : t.world.state reign.leader ≡ Some s) (leads : s.phase ≡ phase.Active) (quorum : s.leader.quorum ≡ full) (on : is_some (end_of timer.Renew s.timers) ≡ true)
+    (epoch : epoch_of (readings_of (t.world.store reign.leader)) ≡ reign.epoch) (last : (readings_of (t.world.store reign.leader)).last ≡ r.version)
+    (went : Went ms q pace (at_time ms q pace u t) (Arrives (Ring reign.leader timer.Renew (u + pace.clock reign.leader))) t.under_way next) where
+  abbrev now1 : ℕ
+  now1 = u + pace.clock reign.leader
+
+  abbrev w1 : Readings
+  w1 = readings_of (t.world.store reign.leader)
+
+  abbrev me1 : Me
+  me1 = member_of ms reign.leader here
+
+  abbrev pub renewer : State
+  renewer = record s {
+    leader = record s.leader { lease = lease.extended (u + pace.clock reign.leader); acks = only reign.leader };
+    timers = maybe_armed (not (is_empty s.clients.queue)) (u + pace.clock reign.leader)
+        (extended_timers (u + pace.clock reign.leader) (is_empty (members (member_of ms reign.leader here) s.leader.quorum)) (disarmed timer.Renew s.timers));
+  }
+
+  abbrev pub new_leases : List Envelope
+  new_leases = to_all ms full reign here (body.Lease r.version)
+
+  pub renewed : Did t.world next.world reign.leader renewer [] new_leases
+  renewed =
+      let said : messages_of (map (message_to me1 (epoch_of w1) (body.Lease w1.last)) (members me1 s.leader.quorum)) ≡ new_leases = (λ i. each me1 (epoch i) (body.Lease (last i)) (members me1 (quorum i))) in
+      subst (Did t.world next.world reign.leader renewer []) said
+      (did ms t.world next.world (Ring reign.leader timer.Renew now1) reign.leader here now1 (input.Timer timer.Renew) s refl up went.happened _
+      (renew_row ms reign.leader here (shared_entries (t.world.store reign.leader)) now1 w1 s leads on))
+
+  -- a peon that had the last lease, and whose acknowledgement arrived
+  pub renewed_peon : (j : ℕ) → has full j ≡ true → j < ms.count → (j ≡ reign.leader → ⊥) → (F : PeonIn ms full pace reign (record r { next = None }) t j t.under_way) → F.heard ≡ suc (suc zero) → F.taken ≡ suc zero
+      → PeonIn ms full pace reign (record r { latest = u; before = r.latest; next = None }) next j next.under_way
+  renewed_peon j qj lt nj F h g = record {
+    heard = suc zero;
+    taken = zero;
+    sent = omega arith;
+    answered = omega arith;
+    follows = other_state ms q pace reign t next u later _ t.under_way went reign.leader s renewer [] new_leases up renewed (FollowsSince reign.leader full (r.latest + pace.clock j)) j nj
+        (subst (λ (z : ℕ). IsSomeAnd (t.world.state j) (FollowsSince reign.leader full (leased (record r { next = None }) z + pace.clock j))) h F.follows);
+    lease = (let k : IsSomeAnd (t.world.state j) (LeasedSince (r.latest + pace.clock j)) = subst (λ (z : ℕ). IsSomeAnd (t.world.state j) (HasLease (pace.clock j) (record r { next = None }) z)) h F.lease in
+        let l = unpack (LeasedSince (r.latest + pace.clock j)) (next.world.state j) (other_state ms q pace reign t next u later _ t.under_way went reign.leader s renewer [] new_leases up renewed (LeasedSince (r.latest + pace.clock j)) j nj k) in
+        pack (HasLease (pace.clock j) (record r { latest = u; before = r.latest; next = None }) (suc zero)) (next.world.state j) l.0 l.1 (λ _. l.2));
+    epoch = other_store ms q pace reign t next u later _ t.under_way went reign.leader s renewer [] new_leases up renewed (λ z. epoch_of z ≡ reign.epoch) j nj F.epoch;
+    promise = other_store ms q pace reign t next u later _ t.under_way went reign.leader s renewer [] new_leases up renewed (λ z. promise_of z ≡ reign.pn) j nj F.promise;
+    keeps = other_store ms q pace reign t next u later _ t.under_way went reign.leader s renewer [] new_leases up renewed (Keeps (record r { latest = u; before = r.latest; next = None }) (suc zero)) j nj (subst (λ (z : ℕ). Keeps (record r { next = None }) z (readings_of (t.world.store j))) h F.keeps);
+    noted = pack (Noted j zero None) (next.world.state reign.leader) renewer renewed.up (λ z. absurd (omega arith));
+    to_come = lands ms q pace reign (at_time ms q pace u t) next _ t.under_way went reign.leader renewer [] new_leases renewed reign.leader j (t.time + pace.delay) (u + pace.delay) [] (body.Lease r.version ∷ [])
+        (let a = later in omega arith) (omega arith)
+        (subst (λ (z : ℕ). Carries ms reign t.world.messages reign.leader j (t.time + pace.delay) (drop z (to_peon reign pace (record r { next = None }))) (t.under_way reign.leader j)) h F.to_come)
+        (gives_each ms full reign here _ j qj nj lt);
+    to_take = same_carried ms q pace reign t next u later _ t.under_way went reign.leader s renewer [] new_leases up renewed j reign.leader []
+        (subst (λ (z : ℕ). Carries ms reign t.world.messages j reign.leader (t.time + pace.delay) (drop (suc zero) (take (said z) (to_leader reign pace (record r { next = None })))) (t.under_way j reign.leader)) h
+        (subst (λ (z : ℕ). Carries ms reign t.world.messages j reign.leader (t.time + pace.delay) (drop z (take (said F.heard) (to_leader reign pace (record r { next = None })))) (t.under_way j reign.leader)) g F.to_take))
+        (gives_no_leader ms full reign here _ j reign.leader nj);
+  }
+
 module _ (ms : Monitors) (q : List Bool) (pace : Pace) (reign : Reign) (K : IsQuick pace) (r : Round) (t : Timed) (S : Steady ms q pace reign (record r { next = None }) t) (u : ℕ)
     (M : MayBe ms q pace t u) (room : ClocksGoOn q pace u) (next : Timed) (s : State) (up : t.world.state reign.leader ≡ Some s)
     (end : ℕ) (set : end_of timer.Renew s.timers ≡ Some end) (due : end ≤ u + pace.clock reign.leader)
     (went : Went ms q pace (at_time ms q pace u t) (Arrives (Ring reign.leader timer.Renew (u + pace.clock reign.leader))) t.under_way next) where
-  abbrev now2 : ℕ
-  now2 = u + pace.clock reign.leader
-
-  abbrev w2 : Readings
-  w2 = readings_of (t.world.store reign.leader)
-
   abbrev calm2 : Round
   calm2 = record r { next = None }
-
-  abbrev new2 : Round
-  new2 = record r { latest = u; before = r.latest; next = None }
 
   L : LeadsSince reign q (r.latest + pace.clock reign.leader) s
   L = subst (λ (o : Option State). IsSomeAnd o (LeadsSince reign q (r.latest + pace.clock reign.leader))) up S.lead
@@ -300,52 +349,20 @@ module _ (ms : Monitors) (q : List Bool) (pace : Pace) (reign : Reign) (K : IsQu
   abbrev bare : Timers
   bare = disarmed timer.Renew s.timers
 
+  on2 : is_some (end_of timer.Renew s.timers) ≡ true
+  on2 = ap is_some L.renews
+
+  abbrev now2 : ℕ
+  now2 = u + pace.clock reign.leader
+
   abbrev after2 : State
-  after2 = record s {
-    leader = record s.leader { lease = lease.extended now2; acks = only reign.leader };
-    timers = maybe_armed (not (is_empty s.clients.queue)) now2 (extended_timers now2 (is_empty (members me2 s.leader.quorum)) (disarmed timer.Renew s.timers));
-  }
+  after2 = renewer ms q q pace reign r t u M.later next here2 s up L.leads L.quorum on2 S.epoch S.last went
 
   abbrev es2 : List Envelope
   es2 = to_all ms q reign here2 (body.Lease r.version)
 
   E : Did t.world next.world reign.leader after2 [] es2
-  E =
-      let a = S.epoch in
-      let l = S.last in
-      let g = L.quorum in
-      let said : messages_of (map (message_to me2 (epoch_of w2) (body.Lease w2.last)) (members me2 s.leader.quorum)) ≡ es2 = (λ i. each me2 (a i) (body.Lease (l i)) (members me2 (g i))) in
-      subst (Did t.world next.world reign.leader after2 []) said
-      (did ms t.world next.world (Ring reign.leader timer.Renew now2) reign.leader here2 now2 (input.Timer timer.Renew) s refl up went.happened _
-      (renew_row ms reign.leader here2 (shared_entries (t.world.store reign.leader)) now2 w2 s L.leads (ap is_some L.renews)))
-
-  renewed_peon : (j : ℕ) → has q j ≡ true → (j ≡ reign.leader → ⊥) → (F : PeonIn ms q pace reign (record r { next = None }) t j t.under_way)
-      → PeonIn ms q pace reign (record r { latest = u; before = r.latest; next = None }) next j next.under_way
-  renewed_peon j qj nj F =
-      let h : F.heard ≡ suc (suc zero) = (arrived j qj F).0 in
-      let g : F.taken ≡ suc zero = (arrived j qj F).1 in record {
-        heard = suc zero;
-        taken = zero;
-        sent = omega arith;
-        answered = omega arith;
-        follows = other_state ms q pace reign t next u M.later _ t.under_way went reign.leader s after2 [] es2 up E (FollowsSince reign.leader q (r.latest + pace.clock j)) j nj
-            (subst (λ (z : ℕ). IsSomeAnd (t.world.state j) (FollowsSince reign.leader q (leased calm2 z + pace.clock j))) h F.follows);
-        lease = (let k : IsSomeAnd (t.world.state j) (LeasedSince (r.latest + pace.clock j)) = subst (λ (z : ℕ). IsSomeAnd (t.world.state j) (HasLease (pace.clock j) calm2 z)) h F.lease in
-            let l = unpack (LeasedSince (r.latest + pace.clock j)) (next.world.state j) (other_state ms q pace reign t next u M.later _ t.under_way went reign.leader s after2 [] es2 up E (LeasedSince (r.latest + pace.clock j)) j nj k) in
-            pack (HasLease (pace.clock j) new2 (suc zero)) (next.world.state j) l.0 l.1 (λ _. l.2));
-        epoch = other_store ms q pace reign t next u M.later _ t.under_way went reign.leader s after2 [] es2 up E (λ z. epoch_of z ≡ reign.epoch) j nj F.epoch;
-        promise = other_store ms q pace reign t next u M.later _ t.under_way went reign.leader s after2 [] es2 up E (λ z. promise_of z ≡ reign.pn) j nj F.promise;
-        keeps = other_store ms q pace reign t next u M.later _ t.under_way went reign.leader s after2 [] es2 up E (Keeps new2 (suc zero)) j nj (subst (λ (z : ℕ). Keeps calm2 z (readings_of (t.world.store j))) h F.keeps);
-        noted = pack (Noted j zero None) (next.world.state reign.leader) after2 E.up (λ z. absurd (omega arith));
-        to_come = lands ms q pace reign (at_time ms q pace u t) next _ t.under_way went reign.leader after2 [] es2 E reign.leader j (t.time + pace.delay) (u + pace.delay) [] (body.Lease r.version ∷ [])
-            (let a = M.later in omega arith) (omega arith)
-            (subst (λ (z : ℕ). Carries ms reign t.world.messages reign.leader j (t.time + pace.delay) (drop z (to_peon reign pace calm2)) (t.under_way reign.leader j)) h F.to_come)
-            (gives_each ms q reign here2 _ j qj nj (S.members j qj));
-        to_take = same_carried ms q pace reign t next u M.later _ t.under_way went reign.leader s after2 [] es2 up E j reign.leader []
-            (subst (λ (z : ℕ). Carries ms reign t.world.messages j reign.leader (t.time + pace.delay) (drop (suc zero) (take (said z) (to_leader reign pace calm2))) (t.under_way j reign.leader)) h
-            (subst (λ (z : ℕ). Carries ms reign t.world.messages j reign.leader (t.time + pace.delay) (drop z (take (said F.heard) (to_leader reign pace calm2))) (t.under_way j reign.leader)) g F.to_take))
-            (gives_no_leader ms q reign here2 _ j reign.leader nj);
-      }
+  E = renewed ms q q pace reign r t u M.later next here2 s up L.leads L.quorum on2 S.epoch S.last went
 
   renewal_stays : Steady ms q pace reign (record r { latest = u; before = r.latest; next = None }) next
   renewal_stays = record {
@@ -368,14 +385,14 @@ module _ (ms : Monitors) (q : List Bool) (pace : Pace) (reign : Reign) (K : IsQu
         (extends reign q S.second now2 after2 (few ms q pace reign calm2 t S) S.second_in S.second_is L.leads L.quorum L.number refl refl (room reign.leader S.leads)
         bare (disarmed_size timer.Renew s.timers L.kinds) (bare_renewing reign q (r.latest + pace.clock reign.leader) s L (L.heard all_acked)) (room reign.leader S.leads)
         (all_extended now2 (room reign.leader S.leads) bare (disarmed_size timer.Renew s.timers L.kinds) (bare_renewing reign q (r.latest + pace.clock reign.leader) s L (L.heard all_acked)) (not (is_empty s.clients.queue)) (is_empty (members me2 s.leader.quorum))));
-    peons = λ j qj nj. renewed_peon j qj nj (S.peons j qj nj);
+    peons = λ j qj nj. (let F = S.peons j qj nj in let k = arrived j qj F in renewed_peon ms q q pace reign r t u M.later next here2 s up L.leads L.quorum on2 S.epoch S.last went j qj (S.members j qj) nj F k.0 k.1);
     others = λ f j qf qj a. same_carried ms q pace reign t next u M.later _ t.under_way went reign.leader s after2 [] es2 up E f j [] (S.others f j qf qj a) (gives_apart ms q reign here2 _ f j a);
   }
 
   all_extended_size : length (extended_timers now2 (is_empty (members me2 s.leader.quorum)) bare) ≡ 11
   all_extended_size =
-      let E = all_extended now2 (room reign.leader S.leads) bare (disarmed_size timer.Renew s.timers L.kinds) (bare_renewing reign q (r.latest + pace.clock reign.leader) s L (L.heard all_acked)) false (is_empty (members me2 s.leader.quorum)) in
-      E.kinds
+      let X = all_extended now2 (room reign.leader S.leads) bare (disarmed_size timer.Renew s.timers L.kinds) (bare_renewing reign q (r.latest + pace.clock reign.leader) s L (L.heard all_acked)) false (is_empty (members me2 s.leader.quorum)) in
+      X.kinds
 
   pub renews : Goes ms q pace reign t.world u (Arrives (Ring reign.leader timer.Renew (u + pace.clock reign.leader))) (record r { next = None }) (record r { latest = u; before = r.latest; next = None }) next
   renews = (

@@ -26,7 +26,7 @@ use Rattle.std.proofs.Common.{Bool, IsSomeAnd, List, None, Option, Some, [], ap,
 -- ---- which answer comes
 
 -- nothing is left of one answer after it
-one_answer : (x y : Item) (rest : List Item) (h g : ℕ) → drop g (take (said h) (y ∷ [])) ≡ x ∷ rest → (g ≡ 0) × (2 ≤ h) × (y ≡ x) × (rest ≡ [])
+pub one_answer : (x y : Item) (rest : List Item) (h g : ℕ) → drop g (take (said h) (y ∷ [])) ≡ x ∷ rest → (g ≡ 0) × (2 ≤ h) × (y ≡ x) × (rest ≡ [])
 one_answer x y rest zero zero e = absurd cc
 one_answer x y rest zero (suc g) e = absurd cc
 one_answer x y rest (suc zero) zero e = absurd cc
@@ -56,6 +56,35 @@ two_answers x y z rest (suc (suc (suc (suc h)))) g le e = absurd (omega arith)
 
 -- ---- an answer comes
 
+-- The leader of this quorum, of which the members of q take steps, took an answer of peon f. It wrote and sent nothing.
+module _ (ms : Monitors) (full q : List Bool) (pace : Pace) (reign : Reign) (r : Round) (t : Timed) (u : ℕ) (later : t.time ≤ u) (next : Timed) (f : ℕ) (nf : f ≡ reign.leader → ⊥)
+    (F : PeonIn ms full pace reign r t f t.under_way) (o : Owed) (others : List Owed) (rest : List Item) (C : Carries ms reign t.world.messages f reign.leader (t.time + pace.delay) rest others)
+    (went : Went ms q pace (at_time ms q pace u t) (Arrives (Deliver o.number (u + pace.clock reign.leader))) (without_first f reign.leader others t.under_way) next) where
+  pub took : Carries ms reign t.world.messages f reign.leader (t.time + pace.delay) rest (without_first f reign.leader others t.under_way f reign.leader)
+  took = subst (Carries ms reign t.world.messages f reign.leader (t.time + pace.delay) rest) (sym (here_left f reign.leader others t.under_way)) C
+
+  kept_down : without_first f reign.leader others t.under_way reign.leader f ≡ t.under_way reign.leader f
+  kept_down = other_left f reign.leader others t.under_way reign.leader f (λ a _. nf (sym a))
+
+  module _ (s after : State) (up : t.world.state reign.leader ≡ Some s) (D : Did t.world next.world reign.leader after [] []) where
+    pub answered_peon : (more : ℕ) → more ≤ said F.heard → Noted f more r.next after → rest ≡ drop more (take (said F.heard) (to_leader reign pace r)) → PeonIn ms full pace reign r next f next.under_way
+    answered_peon more few noted is = record {
+      heard = F.heard;
+      taken = more;
+      sent = F.sent;
+      answered = few;
+      follows = other_state ms q pace reign t next u later _ _ went reign.leader s after [] [] up D (FollowsSince reign.leader full (leased r F.heard + pace.clock f)) f nf F.follows;
+      lease = other_state ms q pace reign t next u later _ _ went reign.leader s after [] [] up D (HasLease (pace.clock f) r F.heard) f nf F.lease;
+      epoch = other_store ms q pace reign t next u later _ _ went reign.leader s after [] [] up D (λ z. epoch_of z ≡ reign.epoch) f nf F.epoch;
+      promise = other_store ms q pace reign t next u later _ _ went reign.leader s after [] [] up D (λ z. promise_of z ≡ reign.pn) f nf F.promise;
+      keeps = other_store ms q pace reign t next u later _ _ went reign.leader s after [] [] up D (Keeps r F.heard) f nf F.keeps;
+      noted = pack (Noted f more r.next) (next.world.state reign.leader) after D.up noted;
+      to_come = same_carried ms q pace reign t next u later _ _ went reign.leader s after [] [] up D reign.leader f (drop F.heard (to_peon reign pace r))
+          (subst (Carries ms reign t.world.messages reign.leader f (t.time + pace.delay) (drop F.heard (to_peon reign pace r))) (sym kept_down) F.to_come) refl;
+      to_take = same_carried ms q pace reign t next u later _ _ went reign.leader s after [] [] up D f reign.leader (drop more (take (said F.heard) (to_leader reign pace r)))
+          (subst (λ (z : List Item). Carries ms reign t.world.messages f reign.leader (t.time + pace.delay) z (without_first f reign.leader others t.under_way f reign.leader)) is took) refl;
+    }
+
 module _ (ms : Monitors) (q : List Bool) (pace : Pace) (reign : Reign) (r : Round) (t : Timed) (S : Steady ms q pace reign r t) (u : ℕ) (later : t.time ≤ u)
     (next : Timed) (f : ℕ) (qf : has q f ≡ true) (nf : f ≡ reign.leader → ⊥) (F : PeonIn ms q pace reign r t f t.under_way) (o : Owed) (others : List Owed)
     (x : Item) (rest : List Item) (it : IsItem ms reign t.world.messages f reign.leader (t.time + pace.delay) x o)
@@ -74,12 +103,6 @@ module _ (ms : Monitors) (q : List Bool) (pace : Pace) (reign : Reign) (r : Roun
       ≡ Some (record { rank = reign.leader; at = now; input = input.Deliver (in_reign ms reign f reign.leader b).message })
   comes b is = ap (option_map (brought now)) (it.there ∙ ap (λ (z : Body). Some (in_reign ms reign f reign.leader z)) is)
 
-  pub took : Carries ms reign t.world.messages f reign.leader (t.time + pace.delay) rest (left f reign.leader)
-  took = subst (Carries ms reign t.world.messages f reign.leader (t.time + pace.delay) rest) (sym (here_left f reign.leader others t.under_way)) C
-
-  pub kept_down : left reign.leader f ≡ t.under_way reign.leader f
-  kept_down = other_left f reign.leader others t.under_way reign.leader f (λ a _. nf (sym a))
-
   -- the leader remembers this then, and wrote and sent nothing
   module _ (s after : State) (up : t.world.state reign.leader ≡ Some s) (D : Did t.world next.world reign.leader after [] []) where
     pub store_on : (P : Readings → Type 0) → P (readings_of (t.world.store reign.leader)) → P (readings_of (next.world.store reign.leader))
@@ -97,30 +120,12 @@ module _ (ms : Monitors) (q : List Bool) (pace : Pace) (reign : Reign) (r : Roun
     pub answered : (more : ℕ) → more ≤ said F.heard → Noted f more r.next after → rest ≡ drop more (take (said F.heard) (to_leader reign pace r))
         → ((j taken : ℕ) → (j ≡ f → ⊥) → Noted j taken r.next s → Noted j taken r.next after) → Leads ms.count q pace reign r r.next after → Steady ms q pace reign r next
     answered more few noted is on leads =
-        one_peon ms q pace reign r t S next u later _ left went reign.leader s after [] [] up D f nf (inr refl) new
+        one_peon ms q pace reign r t S next u later _ left went reign.leader s after [] [] up D f nf (inr refl) (answered_peon ms q q pace reign r t u later next f nf F o others rest C went s after up D more few noted is)
         (λ j ne nj. (other_left f reign.leader others t.under_way reign.leader j (λ _ b. nj b), other_left f reign.leader others t.under_way j reign.leader (λ a _. ne a)))
         (λ g j a. other_left f reign.leader others t.under_way g j (λ y z. nf (sym y ∙ a.1 z)))
         (store_on (λ z. epoch_of z ≡ reign.epoch) S.epoch, store_on (λ z. z.last ≡ r.version) S.last)
         (pack (Leads ms.count q pace reign r r.next) (next.world.state reign.leader) after D.up leads)
         (λ j ne taken k. noted_on j taken (on j taken ne) k) (λ g j _ _. refl)
-      where
-        new : PeonIn ms q pace reign r next f next.under_way
-        new = record {
-          heard = F.heard;
-          taken = more;
-          sent = F.sent;
-          answered = few;
-          follows = other_state ms q pace reign t next u later _ left went reign.leader s after [] [] up D (FollowsSince reign.leader q (leased r F.heard + pace.clock f)) f nf F.follows;
-          lease = other_state ms q pace reign t next u later _ left went reign.leader s after [] [] up D (HasLease (pace.clock f) r F.heard) f nf F.lease;
-          epoch = other_store ms q pace reign t next u later _ left went reign.leader s after [] [] up D (λ z. epoch_of z ≡ reign.epoch) f nf F.epoch;
-          promise = other_store ms q pace reign t next u later _ left went reign.leader s after [] [] up D (λ z. promise_of z ≡ reign.pn) f nf F.promise;
-          keeps = other_store ms q pace reign t next u later _ left went reign.leader s after [] [] up D (Keeps r F.heard) f nf F.keeps;
-          noted = pack (Noted f more r.next) (next.world.state reign.leader) after D.up noted;
-          to_come = same_carried ms q pace reign t next u later _ left went reign.leader s after [] [] up D reign.leader f (drop F.heard (to_peon reign pace r))
-              (subst (Carries ms reign t.world.messages reign.leader f (t.time + pace.delay) (drop F.heard (to_peon reign pace r))) (sym kept_down) F.to_come) refl;
-          to_take = same_carried ms q pace reign t next u later _ left went reign.leader s after [] [] up D f reign.leader (drop more (take (said F.heard) (to_leader reign pace r)))
-              (subst (λ (z : List Item). Carries ms reign t.world.messages f reign.leader (t.time + pace.delay) z (left f reign.leader)) is took) refl;
-        }
 
 -- ---- no value is in progress
 

@@ -52,6 +52,32 @@ new_nothing f i top messages es all =
         let at : message_at (messages ++ es) (suc (length messages) + d) ≡ Some m = ap (message_at (messages ++ es)) number ∙ new_there messages es d m there in
         subst (λ (o : Option Envelope). IfSome o (λ m. IsForward m.message.body → ⊥)) (sym at) (one_of es d m there all)
 
+module _ (ms : Monitors) (q : List Bool) (pace : Pace) (reign : Reign) where
+  -- if no message that is sent hands on a command, none that is under way does
+  module _ (t : Timed) (u : ℕ) (next : Timed) (es : List Envelope) (messages : next.world.messages ≡ t.world.messages ++ es) (all : AllByRecursion (λ (m : Envelope). IsForward m.message.body → ⊥) es) where
+    pub sent_nothing : (e : Event) (left : ℕ → ℕ → List Owed) → Went ms q pace (at_time ms q pace u t) e left next → (i : ℕ) → HandsOnNothing t.world.messages (left i reign.leader) → HandsOnNothing next.world.messages (next.under_way i reign.leader)
+    sent_nothing e left went i old =
+        let list : next.under_way i reign.leader ≡ left i reign.leader ++ owed_by (u + pace.delay) (numbers i reign.leader (suc (length t.world.messages)) es) =
+        went.sent i reign.leader
+        ∙ ap (λ (z : List Envelope). left i reign.leader ++ owed_by (u + pace.delay) (new_between (length t.world.messages) i reign.leader z)) messages
+        ∙ ap (λ (z : List ℕ). left i reign.leader ++ owed_by (u + pace.delay) z) (new_are i reign.leader t.world.messages es) in
+        subst (HandsOnNothing next.world.messages) (sym list)
+        (subst (λ (z : List Envelope). HandsOnNothing z (left i reign.leader ++ owed_by (u + pace.delay) (numbers i reign.leader (suc (length t.world.messages)) es))) (sym messages)
+        (all_append (λ (o : Owed). IfSome (message_at (t.world.messages ++ es) o.number) (λ m. IsForward m.message.body → ⊥)) (left i reign.leader) (owed_by (u + pace.delay) (numbers i reign.leader (suc (length t.world.messages)) es))
+        (still_nothing t.world.messages es (left i reign.leader) old all) (new_nothing i reign.leader (u + pace.delay) t.world.messages es all)))
+
+  -- the same without the first message from f to j
+  pub popped_nothing : (messages : List Envelope) (all : ℕ → ℕ → List Owed) → ((i : ℕ) → has q i ≡ true → HandsOnNothing messages (all i reign.leader)) → (f j : ℕ) → has q f ≡ true → (o : Owed) (others : List Owed) → all f j ≡ o ∷ others
+      → (i : ℕ) → has q i ≡ true → HandsOnNothing messages (without_first f j others all i reign.leader)
+  popped_nothing messages all nothing f j qf o others first i qi = by (cases_eq j reign.leader)
+    where
+      by : (j ≡ reign.leader) ⊎ (j ≡ reign.leader → ⊥) → HandsOnNothing messages (without_first f j others all i reign.leader)
+      by (inl b) =
+          let list : all f reign.leader ≡ o ∷ others = subst (λ (z : ℕ). all f z ≡ o ∷ others) b first in
+          let few : HandsOnNothing messages (o ∷ others) = subst (HandsOnNothing messages) list (nothing f qf) in
+          all_left f j others all (λ g k o. IfSome (message_at messages o.number) (λ m. IsForward m.message.body → ⊥)) i reign.leader few.1 (nothing i qi)
+      by (inr ne) = subst (HandsOnNothing messages) (sym (other_left f j others all i reign.leader (λ _ b. ne (sym b)))) (nothing i qi)
+
 module _ (ms : Monitors) (q : List Bool) (pace : Pace) (reign : Reign) (K : IsQuick pace) where
   -- the first message of a list goes to its receiver
   goes_to : (messages : List Envelope) (f i top : ℕ) (xs : List Item) (o : Owed) (os : List Owed) → Carries ms reign messages f i top xs (o ∷ os) → (m : Envelope) × (message_at messages o.number ≡ Some m) × (m.to ≡ i)
@@ -103,31 +129,12 @@ module _ (ms : Monitors) (q : List Bool) (pace : Pace) (reign : Reign) (K : IsQu
           ap (taken_by me t.world reign.leader s) is
           ∙ taken_nowhere me t.world reign.leader s _ (record { rank = i; at = u + pace.clock i; input = input.Client session x }) refl (request_none session x (subst (λ (z : Event). Writes z → ⊥) is quiet))
 
-    -- nothing that hands on a command is under way then
-    module _ (next : Timed) (es : List Envelope) (messages : next.world.messages ≡ t.world.messages ++ es) (all : AllByRecursion (λ (m : Envelope). IsForward m.message.body → ⊥) es) where
-      sent_nothing : (e : Event) (left : ℕ → ℕ → List Owed) → Went ms q pace (at_time ms q pace u t) e left next → (i : ℕ) → HandsOnNothing t.world.messages (left i reign.leader) → HandsOnNothing next.world.messages (next.under_way i reign.leader)
-      sent_nothing e left went i old =
-          let list : next.under_way i reign.leader ≡ left i reign.leader ++ owed_by (u + pace.delay) (numbers i reign.leader (suc (length t.world.messages)) es) =
-          went.sent i reign.leader
-          ∙ ap (λ (z : List Envelope). left i reign.leader ++ owed_by (u + pace.delay) (new_between (length t.world.messages) i reign.leader z)) messages
-          ∙ ap (λ (z : List ℕ). left i reign.leader ++ owed_by (u + pace.delay) z) (new_are i reign.leader t.world.messages es) in
-          subst (HandsOnNothing next.world.messages) (sym list)
-          (subst (λ (z : List Envelope). HandsOnNothing z (left i reign.leader ++ owed_by (u + pace.delay) (numbers i reign.leader (suc (length t.world.messages)) es))) (sym messages)
-          (all_append (λ (o : Owed). IfSome (message_at (t.world.messages ++ es) o.number) (λ m. IsForward m.message.body → ⊥)) (left i reign.leader) (owed_by (u + pace.delay) (numbers i reign.leader (suc (length t.world.messages)) es))
-          (still_nothing t.world.messages es (left i reign.leader) old all) (new_nothing i reign.leader (u + pace.delay) t.world.messages es all)))
-
-      pub hands_on_nothing : (e : Event) → Comes ms q pace (at_time ms q pace u t) next e → (i : ℕ) → has q i ≡ true → HandsOnNothing next.world.messages (next.under_way i reign.leader)
-      hands_on_nothing e (Arriving f j qf qj o others first is went) i qi = sent_nothing e _ went i (by (cases_eq j reign.leader))
-        where
-          by : (j ≡ reign.leader) ⊎ (j ≡ reign.leader → ⊥) → HandsOnNothing t.world.messages (without_first f j others t.under_way i reign.leader)
-          by (inl b) =
-              let list : t.under_way f reign.leader ≡ o ∷ others = subst (λ (z : ℕ). t.under_way f z ≡ o ∷ others) b first in
-              let all : HandsOnNothing t.world.messages (o ∷ others) = subst (HandsOnNothing t.world.messages) list (N.under_way f qf) in
-              all_left f j others t.under_way (λ g k o. IfSome (message_at t.world.messages o.number) (λ m. IsForward m.message.body → ⊥)) i reign.leader all.1 (N.under_way i qi)
-          by (inr ne) = subst (HandsOnNothing t.world.messages) (sym (other_left f j others t.under_way i reign.leader (λ _ b. ne (sym b)))) (N.under_way i qi)
-      hands_on_nothing e (Again f j qf qj n calls is went) i qi = absurd (no_call ms q pace reign r t S n f j qf calls)
-      hands_on_nothing e (Firing j qj x up kind end set due is went) i qi = sent_nothing e _ went i (N.under_way i qi)
-      hands_on_nothing e (Asking j qj session x is went) i qi = sent_nothing e _ went i (N.under_way i qi)
+    hands_on_nothing : (next : Timed) (es : List Envelope) → next.world.messages ≡ t.world.messages ++ es → AllByRecursion (λ (m : Envelope). IsForward m.message.body → ⊥) es → (e : Event) → Comes ms q pace (at_time ms q pace u t) next e
+        → (i : ℕ) → has q i ≡ true → HandsOnNothing next.world.messages (next.under_way i reign.leader)
+    hands_on_nothing next es messages all e (Arriving f j qf qj o others first is went) i qi = sent_nothing ms q pace reign t u next es messages all e _ went i (popped_nothing ms q pace reign t.world.messages t.under_way N.under_way f j qf o others first i qi)
+    hands_on_nothing next es messages all e (Again f j qf qj n calls is went) i qi = absurd (no_call ms q pace reign r t S n f j qf calls)
+    hands_on_nothing next es messages all e (Firing j qj x up kind end set due is went) i qi = sent_nothing ms q pace reign t u next es messages all e _ went i (N.under_way i qi)
+    hands_on_nothing next es messages all e (Asking j qj session x is went) i qi = sent_nothing ms q pace reign t u next es messages all e _ went i (N.under_way i qi)
 
   -- ---- an event
 

@@ -92,7 +92,7 @@ module _ (ms : Monitors) (q : List Bool) (pace : Pace) (many : 1 < ms.count) (wi
       by true e = absurd (false≢true (sym (alone_lacks b (me_at i qi) 0 (other_rank i qi) in_map s.leader.quorum e) ∙ among))
 
   -- while it serves so, time doesn't go on beyond the last end of its timers
-  aged : (t : Timed) (u : ℕ) → MayBe ms q pace t u → Holds i qi t.world t.time → (u + pace.clock i ≤ b.third + b.late) × Holds i qi t.world u
+  pub aged : (t : Timed) (u : ℕ) → MayBe ms q pace t u → Holds i qi t.world t.time → (u + pace.clock i ≤ b.third + b.late) × Holds i qi t.world u
   aged t u M H = by H.serves.awaits
     where
       s : State
@@ -143,7 +143,7 @@ module _ (ms : Monitors) (q : List Bool) (pace : Pace) (many : 1 < ms.count) (wi
   -- ---- an event
 
   -- it doesn't serve with the lost monitor any more
-  abbrev Stopped : ℕ → Timed → Type 0
+  abbrev pub Stopped : ℕ → Timed → Type 0
   Stopped j t = IsSomeAnd (t.world.state j) (λ s. ServesWith b.lost s → ⊥)
 
   fits : (w : World) (e : Event) → E w e → (j at : ℕ) → j ≡ i → (came : Input) → Brought ms q pace within w j at e came → Fits b came
@@ -194,7 +194,7 @@ module _ (ms : Monitors) (q : List Bool) (pace : Pace) (many : 1 < ms.count) (wi
         by false f y g = inr (stopped (λ S. false≢true (sym f ∙ S.serves)))
         by true f false g = inr (stopped (λ S. false≢true (sym g ∙ S.among)))
 
-    stepped : Holds i qi t.world t.time → Holds i qi next.world next.time ⊎ Stopped i next
+    pub stepped : Holds i qi t.world t.time → Holds i qi next.world next.time ⊎ Stopped i next
     stepped H = elim (cases_eq i M.i) [
       | inl same ↦ subst (λ (z : ℕ). (qz : has q z ≡ true) → Holds z qz next.world next.time ⊎ Stopped z next) (sym same) (λ qz.
           subst (λ (h : has q M.i ≡ true). Holds M.i h next.world next.time ⊎ Stopped M.i next) (Bool-set _ _ M.member qz)
@@ -203,7 +203,7 @@ module _ (ms : Monitors) (q : List Bool) (pace : Pace) (many : 1 < ms.count) (wi
     ]
 
     -- all members are still up
-    still_up : ((j : ℕ) → has q j ≡ true → IsSomeAnd (t.world.state j) (λ s. Unit {0})) → (j : ℕ) → has q j ≡ true → IsSomeAnd (next.world.state j) (λ s. Unit {0})
+    pub still_up : ((j : ℕ) → has q j ≡ true → IsSomeAnd (t.world.state j) (λ s. Unit {0})) → (j : ℕ) → has q j ≡ true → IsSomeAnd (next.world.state j) (λ s. Unit {0})
     still_up ups j qj = elim (cases_eq j M.i) [
       | inl same ↦ subst (λ (z : ℕ). IsSomeAnd (next.world.state z) (λ s. Unit {0})) (sym same) (pack (λ s. Unit {0}) (next.world.state M.i) M.course.state M.now tt)
       | inr ne ↦ subst (λ (o : Option State). IsSomeAnd o (λ s. Unit {0})) (sym (M.others j ne)) (ups j qj)
@@ -279,26 +279,26 @@ module _ (ms : Monitors) (q : List Bool) (pace : Pace) (t last : Timed) (more : 
   abbrev me : Me
   me = member_of ms i (lt ms q pace within i qi)
 
-  ups : (j : ℕ) → has q j ≡ true → IsSomeAnd (t.world.state j) (λ s. Unit {0})
+  pub ups : (j : ℕ) → has q j ≡ true → IsSomeAnd (t.world.state j) (λ s. Unit {0})
   ups j qj =
       let k = lt ms q pace within j qj in
       let F = unpack (Waits (member_of ms j k) (pace.since + pace.clock j)) (t.world.state j) (B.wait j (member_of ms j k) qj (me_is ms j k)) in
       pack (λ s. Unit {0}) (t.world.state j) F.0 F.1 tt
 
-  waiting : (s : State) × (t.world.state i ≡ Some s) × Waits me (pace.since + pace.clock i) s
+  pub waiting : (s : State) × (t.world.state i ≡ Some s) × Waits me (pace.since + pace.clock i) s
   waiting = let k = lt ms q pace within i qi in unpack (Waits me (pace.since + pace.clock i)) (t.world.state i) (B.wait i me qi (me_is ms i k))
 
-  go : AllGo ms q pace within t
+  pub go : AllGo ms q pace within t
   go f j qf qj = parts t.world f j (pace.since + pace.delay) 0 (t.under_way f j) (B.earlier f j qf qj)
 
   -- the leases are renewed by `first`, and its lease ends at most `longer` after the time that follows from that
-  abbrev terms : (first third longer : ℕ) → Terms
+  abbrev pub terms : (first third longer : ℕ) → Terms
   terms first third longer = record { lost = m; first = pace.since + pace.clock i + first; second = pace.since + pace.clock i + first + pace.late + 10000; third = pace.since + pace.clock i + third; late = pace.late; acknowledged = omega arith; shown = pace.since + pace.clock i + first + pace.late + 10000 + pace.late + 5000 + longer; leased = omega arith }
 
-  abbrev From : (first third longer : ℕ) → State → Type 0
+  abbrev pub From : (first third longer : ℕ) → State → Type 0
   From first third longer s = Serves (terms first third longer) (pace.since + pace.clock i) s.phase s.leader s.clients.queue s.timers
 
-  active_from : (first third longer : ℕ) (s : State) → 3000 ≤ first → s.phase ≡ phase.Active → has s.leader.quorum m ≡ true → (s.clients.queue ≡ []) ⊎ MayBegin (terms first third longer) → LeaseBy s.leader (terms first third longer).shown → Waits me (pace.since + pace.clock i) s → From first third longer s
+  pub active_from : (first third longer : ℕ) (s : State) → 3000 ≤ first → s.phase ≡ phase.Active → has s.leader.quorum m ≡ true → (s.clients.queue ≡ []) ⊎ MayBegin (terms first third longer) → LeaseBy s.leader (terms first third longer).shown → Waits me (pace.since + pace.clock i) s → From first third longer s
   active_from first third longer s long is among commands lease W = record {
     among = among;
     size = W.kinds;
@@ -315,6 +315,19 @@ module _ (ms : Monitors) (q : List Bool) (pace : Pace) (t last : Timed) (more : 
     commands = commands;
     lease = lease;
   }
+
+  -- what holds at first of one that serves with the monitor
+  module _ (E : World → Event → Type 0) (first third longer : ℕ) (early : pace.since + pace.clock i ≤ (terms first third longer).first) (in_order : (terms first third longer).second ≤ (terms first third longer).third)
+      (asks : (w : World) (at : ℕ) (session : Session) (r : Request) → E w (Arrives (Client i at session r)) → Reads r ⊎ MayBegin (terms first third longer))
+      (forwards : (w : World) (k at : ℕ) (m : Message) → E w (Arrives (Deliver k at)) → IsSent ms q pace within w k i m → IsForward m.body → MayBegin (terms first third longer)) where
+    pub from_first : From first third longer waiting.0 → Holds ms q pace many within (terms first third longer) refl outside in_map i qi early in_order E asks forwards i qi t.world t.time
+    from_first from =
+        let time = B.time in record {
+          state = waiting.0;
+          up = waiting.1;
+          waits = subst (λ (n : ℕ). Waits me (n + pace.clock i) waiting.0) (sym time) waiting.2;
+          serves = subst (λ (n : ℕ). Serves (terms first third longer) (n + pace.clock i) (waiting.0).phase (waiting.0).leader (waiting.0).clients.queue (waiting.0).timers) (sym time) from;
+        }
 
   module _ (E : World → Event → Type 0) (fine : EachIs ms q pace E t more last L) (first third longer u : ℕ) (ordered : first + pace.late + 10000 ≤ third) (is : pace.since + third + pace.late ≡ u)
       (asks : (w : World) (at : ℕ) (session : Session) (r : Request) → E w (Arrives (Client i at session r)) → Reads r ⊎ MayBegin (terms first third longer))
@@ -348,13 +361,9 @@ module _ (ms : Monitors) (q : List Bool) (pace : Pace) (t last : Timed) (more : 
         by true f false g = at_once (λ S. false≢true (sym g ∙ S.among))
         by true f true g =
             let b = terms first third longer in
-            goes ms q pace many within b refl outside in_map i qi (omega arith) (omega arith) E asks forwards u (omega (arith, is)) more t last
-            (record {
-              state = s;
-              up = waiting.1;
-              waits = subst (λ (n : ℕ). Waits me (n + pace.clock i) s) (sym time) waiting.2;
-              serves = subst (λ (n : ℕ). Serves b (n + pace.clock i) s.phase s.leader s.clients.queue s.timers) (sym time) (from g f);
-            }) go ups L fine
+            let early : pace.since + pace.clock i ≤ b.first = omega arith in
+            let in_order : b.second ≤ b.third = omega arith in
+            goes ms q pace many within b refl outside in_map i qi early in_order E asks forwards u (omega (arith, is)) more t last (from_first E first third longer early in_order asks forwards (from g f)) go ups L fine
 
     -- the run goes on for longer than it serves
     ends : u < last.time → StepsDown ms q pace t more i m u ⊎ Served → StepsDown ms q pace t more i m u
@@ -371,10 +380,10 @@ module _ (ms : Monitors) (q : List Bool) (pace : Pace) (t last : Timed) (more : 
   any_event ((u, e) ∷ more) t last L = (tt, any_event more L.1.0 last L.1.2)
 
   -- the end of its lease at first
-  abbrev longest : ℕ
+  abbrev pub longest : ℕ
   longest = or_zero (waiting.0).leader.lease
 
-  leased_at_first : (u : ℕ) → longest ≤ u → LeaseBy (waiting.0).leader u
+  pub leased_at_first : (u : ℕ) → longest ≤ u → LeaseBy (waiting.0).leader u
   leased_at_first u le end e = let same : longest ≡ end = ap or_zero e in omega arith
 
   pub serving_steps_down : pace.since + 30000 + 3 * pace.late < last.time → StepsDown ms q pace t more i m (pace.since + 30000 + 3 * pace.late)
@@ -439,6 +448,9 @@ module _ (ms : Monitors) (q : List Bool) (pace : Pace) (t last : Timed) (more : 
 
   -- ---- if no command comes
 
+  pub none_forwarded : (w : World) (k : ℕ) (z : Message) → IfSome (message_at w.messages k) (λ m. m.to ≡ i → IsForward m.message.body → ⊥) → IsSent ms q pace within w k i z → IsForward z.body → ⊥
+  none_forwarded w k z c d f = subst (λ (o : Option Envelope). IfSome o (λ m. m.to ≡ i → IsForward m.message.body → ⊥)) d.there c refl f
+
   pub idle_steps_down : IsSomeAnd (t.world.state i) (λ s. (s.phase ≡ phase.Active) × (s.clients.queue ≡ [])) → EachIs ms q pace (BringsNone i) t more last L → pace.since + 13000 + 2 * pace.late < last.time
       → StepsDown ms q pace t more i m (pace.since + 13000 + 2 * pace.late)
   idle_steps_down active quiet late =
@@ -448,9 +460,6 @@ module _ (ms : Monitors) (q : List Bool) (pace : Pace) (t last : Timed) (more : 
       let ordered : 3000 + pace.late + 10000 ≤ third = omega arith in
       let A = at_first (λ s. (s.phase ≡ phase.Active) × (s.clients.queue ≡ [])) active in
       let lease = leased_at_first (terms 3000 third longest).shown (omega arith) in
-      ends (BringsNone i) quiet 3000 third longest u ordered is (λ w at session r k. inl (k refl)) (λ w k at z c d f. absurd (by w k z c d f)) late
-      (begun (BringsNone i) quiet 3000 third longest u ordered is (λ w at session r k. inl (k refl)) (λ w k at z c d f. absurd (by w k z c d f))
+      ends (BringsNone i) quiet 3000 third longest u ordered is (λ w at session r k. inl (k refl)) (λ w k at z c d f. absurd (none_forwarded w k z c d f)) late
+      (begun (BringsNone i) quiet 3000 third longest u ordered is (λ w at session r k. inl (k refl)) (λ w k at z c d f. absurd (none_forwarded w k z c d f))
       (λ g f. active_from 3000 third longest waiting.0 (omega arith) A.0 g (inl A.1) lease waiting.2))
-    where
-      by : (w : World) (k : ℕ) (z : Message) → IfSome (message_at w.messages k) (λ m. m.to ≡ i → IsForward m.message.body → ⊥) → IsSent ms q pace within w k i z → IsForward z.body → ⊥
-      by w k z c d f = subst (λ (o : Option Envelope). IfSome o (λ m. m.to ≡ i → IsForward m.message.body → ⊥)) d.there c refl f
