@@ -17,7 +17,8 @@ use Rattle.timed_election.proofs.Lists.{closed, opened}
 use Rattle.timed_election.proofs.Outcomes.{VotesOrAnswers}
 use Rattle.timed_election.proofs.Parts.{joined}
 use Rattle.timed_election.proofs.Times.{over_by}
-use Rattle.timed_election.proofs.Turning.{is_raised, is_won, sent_away, turned}
+use Rattle.timed_election.proofs.Turning.{turned}
+use Rattle.timed_election.proofs.Winning.{is_raised, is_won, sent_away}
 use Rattle.timed_election.specs.Election.{CanElect, Election, Elects, IsOfElection, IsRaised, IsWon, IsWonBy, TakesPart}
 
 module _ (ms : Monitors) (q : List Bool) (pace : Pace) (quick : IsQuick pace) (E : Election) where

@@ -20,17 +20,18 @@ use Rattle.std.proofs.lemmas.Bool.{and_from, and_parts, cases_eq, eq-eqb, false�
 use Rattle.std.proofs.lemmas.List.{get_or-set_same, length-set}
 use Rattle.timed_election.proofs.Coming.{Handled, How, again, asks, came_or_left, fires, first as first_, left_same, new_at}
 use Rattle.timed_election.proofs.Counting.{not_whole, several}
-use Rattle.timed_election.proofs.Joining.{Beginning, First, Goes, HeardIn, IsIn, Joining, Missed, Stock, Takes, election, joined}
+use Rattle.timed_election.proofs.Joining.{Beginning, First, Goes, HeardIn, IsIn, Joining, Missed, Raised, Takes, election, joined}
+use Rattle.timed_election.proofs.JoiningComes.{Known, known}
 use Rattle.timed_election.proofs.JoiningFrame.{IsMute, Said, Turned, acks_on, all_left, missed_on, others_same, under}
-use Rattle.timed_election.proofs.JoiningTurns.{Known, begun_on, called_on, calls_mute, calls_said, heard_on, known, quiet_mute, quiet_said, takes_on}
+use Rattle.timed_election.proofs.JoiningTurns.{begun_on, called_on, calls_mute, calls_said, heard_on, quiet_mute, quiet_said, takes_on}
 use Rattle.timed_election.proofs.Lists.{arrives_last, at_place, closed, letter_is, message_in, one, opened}
 use Rattle.timed_election.proofs.Outcomes.{Heard as Came, IsLow, Outcome, Stays, ack_taken, calls, calls_again, counts, defers, reacted, rests, wins}
 use Rattle.timed_election.proofs.Ranking.{nobody_better, not_itself}
 use Rattle.timed_election.specs.Election.{ArrivesBy, CanElect, Defers, Election, Heard, IsAck, Stands, TakesPart, in_election}
 use Rattle.timed_election.specs.Joining.{IsNear}
 
-module _ (ms : Monitors) (q : List Bool) (pace : Pace) (short : 2 * pace.delay < 2000) (B : Beginning) (C : CanElect ms q B.best) (early : pace.since ≤ B.by)
-    (near : (i j : ℕ) → has q i ≡ true → has q j ≡ true → IsNear (B.last i) (B.first j) (B.last j)) where
+module _ (ms : Monitors) (q : List Bool) (pace : Pace) (short : 2 * pace.delay < 2000) (B : Beginning) (C : CanElect ms q B.best) (enough : B.top + 2 * pace.delay ≤ B.end)
+    (near : (i j : ℕ) → has q i ≡ true → has q j ≡ true → IsNear (B.stores i).last (B.stores j).first (B.stores j).last) where
   abbrev F : Type 0
   F = First ms q pace B
 
@@ -75,18 +76,18 @@ module _ (ms : Monitors) (q : List Bool) (pace : Pace) (short : 2 * pace.delay <
     sh = shared_entries (t.world.store i)
 
     abbrev T : Type 0
-    T = Turned ms q pace short B C early c t X u M next e H c
+    T = Turned ms q pace short B C enough c t X u M next e H c
 
     abbrev S : ℕ → Envelope → Type 0
-    S after m = Said ms q pace short B C early c t X u M next e H after m
+    S after m = Said ms q pace short B C enough c t X u M next e H after m
 
     abbrev Mute : Envelope → Type 0
-    Mute m = IsMute ms q pace short B C early c t X u M next e H m
+    Mute m = IsMute ms q pace short B C enough c t X u M next e H m
 
     abbrev Ack : Timed → ℕ → Owed → Type 0
     Ack v j = IsAck ms pace E q v j
 
-    module _ (ranks : scores_count ms.rule ≡ false) (odd : is_even (suc B.epoch) ≡ false) (room : now + 10000 ≤ 2 ^ 62) (Z : Stock ms q pace B (suc B.epoch) i w)
+    module _ (ranks : scores_count ms.rule ≡ false) (odd : is_even (suc B.epoch) ≡ false) (room : now + 10000 ≤ 2 ^ 62) (Z : Raised ms q pace B i w)
         (K : Takes ms q pace B c t i) (soon : u ≤ E.by) (on_time : u < from + 5000) where
       begun : from ≤ u
       begun = let k = X.begun in let z = k.0 in let m = M.later in omega arith
@@ -100,8 +101,8 @@ module _ (ms : Monitors) (q : List Bool) (pace : Pace) (short : 2 * pace.delay <
       odd_here : is_even (epoch_of w) ≡ false
       odd_here = ap is_even Z.epoch ∙ odd
 
-      know : (m : Message) → H.came ≡ input.Deliver m → Known ms q pace short B C early near c t X u M next e H m
-      know = known ms q pace short B C early near c t X u M next e H
+      know : (m : Message) → H.came ≡ input.Deliver m → Known ms q pace B C c t X u next e H m
+      know = known ms q pace B C c t X u next e H
 
       few : (f : ℕ) (m : Message) → H.came ≡ input.Deliver m → m.from ≡ f → is_whole me (with_rank s.elector.acked f) ≡ false
       few f m is from_f = not_whole ms q b C (with_rank s.elector.acked f) (λ k h. elim (has_with_is s.elector.acked f k h) [
@@ -142,8 +143,8 @@ module _ (ms : Monitors) (q : List Bool) (pace : Pace) (short : 2 * pace.delay <
         kept : readings_of (next.world.store i) ≡ w
         kept = (subst (λ (cs : List Change). AllByRecursion Fits cs → readings_of (next.world.store i) ≡ played cs w) same H.did.kept) tt
 
-        stock_kept : Stock ms q pace B (suc B.epoch) i (readings_of (next.world.store i))
-        stock_kept = subst (Stock ms q pace B (suc B.epoch) i) (sym kept) Z
+        stock_kept : Raised ms q pace B i (readings_of (next.world.store i))
+        stock_kept = subst (Raised ms q pace B i) (sym kept) Z
 
         in_next : IsIn ms q pace B next i
         in_next = ap epoch_of kept ∙ Z.epoch
@@ -206,7 +207,7 @@ module _ (ms : Monitors) (q : List Bool) (pace : Pace) (short : 2 * pace.delay <
               elim (subst (Defers q pace E t.time j) (one_state (t.world.state j) o.0 v o.1 up) o.2) [ inl d ↦ d | inr l ↦ absurd (let z = l.0 in let m = M.later in omega arith) ]
 
           at_best : i ≡ b → (j : ℕ) → has q j ≡ true → (j ≡ b → ⊥) → Missed ms q pace B t j ⊎ HeardIn ms q pace B c t j → Missed ms q pace B next j ⊎ HeardIn ms q pace B c next j
-          at_best best j qj nj (inl N) = inl (missed_on ms q pace short B C early c t X u M next e H j qj (λ n m there from_j to _. nj (sym from_j ∙ own n m there ∙ best)) (λ _ inside. none (has H.course.state.elector.acked j) refl) N)
+          at_best best j qj nj (inl N) = inl (missed_on ms q pace short B C enough c t X u M next e H j qj (λ n m there from_j to _. nj (sym from_j ∙ own n m there ∙ best)) (λ _ inside. none (has H.course.state.elector.acked j) refl) N)
             where
               none : (z : Bool) → has H.course.state.elector.acked j ≡ z → z ≡ false
               none false h = refl
@@ -218,12 +219,12 @@ module _ (ms : Monitors) (q : List Bool) (pace : Pace) (short : 2 * pace.delay <
             subst (IsIn ms q pace B next) best in_next,
             subst (λ (m : _). epoch_of (readings_of m) ≡ suc B.epoch) (sym (H.did.stores j ne)) k.1,
             record {
-              defers = others_same ms q pace short B C early c t X u M next e H (Defers q pace E next.time j) j ne
+              defers = others_same ms q pace short B C enough c t X u M next e H (Defers q pace E next.time j) j ne
                   (let o = opened (Defers q pace E t.time j) (t.world.state j) R.defers in closed (Defers q pace E next.time j) (t.world.state j) o.0 o.1 (inl (defers_of j R o.0 o.1)));
               acks = elim R.acks [
                 | inl h ↦ inl (acked (kept_acks best j (before best j true h)))
                 | inr h ↦ elim (came_or_left ms q pace t u next e H.left H.went i H.came H.state H.course H.how H.did (E.by + pace.again + pace.delay) (Ack t j) j b (sym best) h) [
-                  | inr rest ↦ inr (acks_on ms q pace short B C early c t X u M next e H (E.by + pace.again + pace.delay) j rest)
+                  | inr rest ↦ inr (acks_on ms q pace short B C enough c t X u M next e H (E.by + pace.again + pace.delay) j rest)
                   | inl y ↦ inl (acked (counted best j qj nj y.1 y.5 (let two : Some (record { to = i; message = y.1 }) ≡ Some (in_election ms E j b body.Ack) = sym y.4 ∙ y.2 in ap (message_in y.1) two)))
                 ]
               ];
@@ -242,8 +243,8 @@ module _ (ms : Monitors) (q : List Bool) (pace : Pace) (short : 2 * pace.delay <
           elsewhere : (i ≡ b → ⊥) → (j : ℕ) → has q j ≡ true → (j ≡ b → ⊥) → Missed ms q pace B t j ⊎ HeardIn ms q pace B c t j → Missed ms q pace B next j ⊎ HeardIn ms q pace B c next j
           elsewhere nb j qj nj k = elim (cases_eq j i) [
             | inr ne ↦ elim k [
-              | inl N ↦ inl (missed_on ms q pace short B C early c t X u M next e H j qj (λ n m there from_j to _. ne (sym from_j ∙ own n m there)) (λ is. absurd (nb is)) N)
-              | inr h ↦ inr (heard_on ms q pace short B C early near c t X u M next e H j ne (λ is. nb (sym is)) c h)
+              | inl N ↦ inl (missed_on ms q pace short B C enough c t X u M next e H j qj (λ n m there from_j to _. ne (sym from_j ∙ own n m there)) (λ is. absurd (nb is)) N)
+              | inr h ↦ inr (heard_on ms q pace short B C enough near c t X u M next e H j ne (λ is. nb (sym is)) c h)
             ]
             | inl same ↦ subst (λ (z : ℕ). Missed ms q pace B next z ⊎ HeardIn ms q pace B c next z) (sym same) (mine (subst (λ (z : ℕ). Missed ms q pace B t z ⊎ HeardIn ms q pace B c t z) same k))
           ]
@@ -256,19 +257,20 @@ module _ (ms : Monitors) (q : List Bool) (pace : Pace) (short : 2 * pace.delay <
                 (let R : Heard ms pace E q t i = h.2 in record {
                   defers = closed (Defers q pace E next.time i) (next.world.state i) H.course.state H.did.up (inl (deferring nb (defers_of i R s H.up)));
                   acks = elim R.acks [
-                    | inl z ↦ inl (others_same ms q pace short B C early c t X u M next e H (λ v. has v.elector.acked i ≡ true) b (λ is. nb (sym is)) z)
-                    | inr z ↦ inr (acks_on ms q pace short B C early c t X u M next e H (E.by + pace.again + pace.delay) i (subst (ArrivesBy (E.by + pace.again + pace.delay) (Ack t i)) (sym (left_same ms q pace t u next e H.left H.went i H.came H.state H.course H.how H.did i b (λ is. nb (sym is)))) z))
+                    | inl z ↦ inl (others_same ms q pace short B C enough c t X u M next e H (λ v. has v.elector.acked i ≡ true) b (λ is. nb (sym is)) z)
+                    | inr z ↦ inr (acks_on ms q pace short B C enough c t X u M next e H (E.by + pace.again + pace.delay) i (subst (ArrivesBy (E.by + pace.again + pace.delay) (Ack t i)) (sym (left_same ms q pace t u next e H.left H.went i H.came H.state H.course H.how H.did i b (λ is. nb (sym is)))) z))
                   ];
                 }),
               )
 
           turn : T
           turn = record {
-            begun = begun_on ms q pace short B C early near c t X u M next e H c X.begun;
+            begun = begun_on ms q pace short B C enough near c t X u M next e H c X.begun;
             standing = joined stock_kept (closed (λ (z : State). TakesPart q pace E i z × (i ≡ b → Stands q pace E z)) (next.world.state i) H.course.state H.did.up (part_then, stands_then));
-            called = λ j qj ne k. called_on ms q pace short B C early near c t X u M next e H j ne c k;
+            former = λ none. absurd (let clash : Some (a, from) ≡ None = none in cc);
+            called = λ j qj ne k. called_on ms q pace short B C enough near c t X u M next e H j ne c k;
             since = λ at le k. k;
-            takes = λ j ne k. takes_on ms q pace short B C early near c t X u M next e H j ne c k;
+            takes = λ j ne k. takes_on ms q pace short B C enough near c t X u M next e H j ne c k;
             inside = λ _. in_next;
             said = said;
             calls = λ _. inl Z.epoch;
@@ -304,7 +306,7 @@ module _ (ms : Monitors) (q : List Bool) (pace : Pace) (short : 2 * pace.delay <
       ]
 
       mute_missed : AllByRecursion Mute es → (i ≡ b → ⊥) → Missed ms q pace B t i → Missed ms q pace B next i
-      mute_missed mute nb N = missed_on ms q pace short B C early c t X u M next e H i H.member (λ n m there from_i to. at_place Mute es n m mute there to) (λ is. absurd (nb is)) N
+      mute_missed mute nb N = missed_on ms q pace short B C enough c t X u M next e H i H.member (λ n m there from_i to. at_place Mute es n m mute there to) (λ is. absurd (nb is)) N
 
       low_here : epoch_of w ≤ suc B.epoch
       low_here = let z = Z.epoch in omega arith
@@ -317,9 +319,9 @@ module _ (ms : Monitors) (q : List Bool) (pace : Pace) (short : 2 * pace.delay <
           of (wins is candidate most P) = not_due is
           of (rests P quiet _) = turn P.changes (remains P.changes s.elector.candidate s.elector.acked s.elector.deferred s.timers P part.kinds part.only part.ends part.acks part.defers)
               (λ best. (let Y = stands best in still_stands P.changes best s.elector.acked s.elector.deferred (subst (λ (z : Bool). Stays z s.elector.acked s.elector.deferred s.timers H.course) Y.candidate P) Y.ranks Y.own))
-              (quiet_said ms q pace short B C early near c t X u M next e H (epoch_of (readings_of (next.world.store i))) H.course.out Z.first_is Z.last_is low_here quiet)
+              (quiet_said ms q pace short B C enough near c t X u M next e H (epoch_of (readings_of (next.world.store i))) H.course.out (ap (λ (z : Readings). z.first) Z.same) (ap (λ (z : Readings). z.last) Z.same) low_here quiet)
               (λ best j h. ap (λ (z : List Bool). has z j) P.acked ∙ h) (λ best j h. inl (sym (ap (λ (z : List Bool). has z j) P.acked) ∙ h))
-              (λ nb N. inl (mute_missed (quiet_mute ms q pace short B C early near c t X u M next e H H.course.out quiet) nb N)) (λ nb d. (P.candidate ∙ d.0, P.deferred ∙ d.1))
+              (λ nb N. inl (mute_missed (quiet_mute ms q pace short B C enough near c t X u M next e H H.course.out quiet) nb N)) (λ nb d. (P.candidate ∙ d.0, P.deferred ∙ d.1))
           of (counts f A candidate P out) = turn P.changes (remains P.changes true (with_rank s.elector.acked f) s.elector.deferred s.timers P part.kinds part.only part.ends acks part.defers)
               (λ best. (let Y = stands best in still_stands P.changes best (with_rank s.elector.acked f) s.elector.deferred P (length-set s.elector.acked f true ∙ Y.ranks) (has_with s.elector.acked f b Y.own)))
               (subst (λ (z : List Sent). AllByRecursion (S (epoch_of (readings_of (next.world.store i)))) (messages_of z)) (sym out) tt)
@@ -338,9 +340,9 @@ module _ (ms : Monitors) (q : List Bool) (pace : Pace) (short : 2 * pace.delay <
           of (calls idle free P out) = turn P.changes
               (remains P.changes true (only i) None (armed now timer.Election s.timers) P (armed_size now timer.Election s.timers part.kinds) only_one after (λ j h. subst (λ (z : ℕ). has q z ≡ true) (sym (has_only_is i j h)) H.member) (λ j h. absurd (let clash : None ≡ Some j = h in cc)))
               (λ best. idle_not best)
-              (subst (λ (z : List Sent). AllByRecursion (S (epoch_of (readings_of (next.world.store i)))) (messages_of z)) (sym out_is) (calls_said ms q pace short B C early near c t X u M next e H (epoch_of (readings_of (next.world.store i))) (in_next P.changes) (others me)))
+              (subst (λ (z : List Sent). AllByRecursion (S (epoch_of (readings_of (next.world.store i)))) (messages_of z)) (sym out_is) (calls_said ms q pace short B C enough near c t X u M next e H (epoch_of (readings_of (next.world.store i))) (in_next P.changes) (others me)))
               (λ best. idle_not best) (λ best. idle_not best)
-              (λ nb N. inl (mute_missed (subst (λ (z : List Sent). AllByRecursion Mute (messages_of z)) (sym out_is) (calls_mute ms q pace short B C early near c t X u M next e H (others me))) nb N))
+              (λ nb N. inl (mute_missed (subst (λ (z : List Sent). AllByRecursion Mute (messages_of z)) (sym out_is) (calls_mute ms q pace short B C enough near c t X u M next e H (others me))) nb N))
               (λ nb d. absurd (let clash : None ≡ Some b = sym free ∙ d.1 in cc))
             where
               idle_not : {A : Type 0} → i ≡ b → A
@@ -360,10 +362,10 @@ module _ (ms : Monitors) (q : List Bool) (pace : Pace) (short : 2 * pace.delay <
           of (defers f tb table A better may P out) = turn P.changes
               (remains P.changes false no_ranks (Some f) s.timers P part.kinds part.only part.ends (λ j h. absurd (false≢true (sym (nobody j) ∙ h))) (λ j h. subst (λ (z : ℕ). has q z ≡ true) (let two : Some f ≡ Some j = h in cc) qf))
               (λ best. not_deferring f table best qf better)
-              (subst (λ (z : List Sent). AllByRecursion (S (epoch_of (readings_of (next.world.store i)))) (messages_of z)) (sym out) (record { from = refl; epoch = low_here; call_is = λ k. absurd k; near = λ j qj. tt }, tt))
+              (subst (λ (z : List Sent). AllByRecursion (S (epoch_of (readings_of (next.world.store i)))) (messages_of z)) (sym out) (record { from = refl; epoch = low_here; call_is = λ k. absurd k; near = λ j qj. tt; leaves = tt }, tt))
               (λ best. not_deferring f table best qf better) (λ best. not_deferring f table best qf better) missed (λ nb d. deferring nb d)
             where
-              N : Known ms q pace short B C early near c t X u M next e H A.message
+              N : Known ms q pace B C c t X u next e H A.message
               N = know A.message A.is
 
               qf : has q f ≡ true
@@ -398,9 +400,9 @@ module _ (ms : Monitors) (q : List Bool) (pace : Pace) (short : 2 * pace.delay <
               ]
                 where
                   ack_goes : f ≡ b → ArrivesBy (E.by + pace.again + pace.delay) (Ack next i) (next.under_way i b)
-                  ack_goes same = subst (ArrivesBy (E.by + pace.again + pace.delay) (Ack next i)) (sym (under ms q pace short B C early c t X u M next e H i b ∙ ap (λ (ns : List ℕ). H.left i b ++ owed_by due ns) sends))
+                  ack_goes same = subst (ArrivesBy (E.by + pace.again + pace.delay) (Ack next i)) (sym (under ms q pace short B C enough c t X u M next e H i b ∙ ap (λ (ns : List ℕ). H.left i b ++ owed_by due ns) sends))
                       (arrives_last (E.by + pace.again + pace.delay) (Ack next i) (H.left i b) (record { number = suc count; by = due })
-                      (all_left ms q pace short B C early c t X u M next e H (λ o. o.by ≤ (E.by + pace.again + pace.delay)) i b
+                      (all_left ms q pace short B C enough c t X u M next e H (λ o. o.by ≤ (E.by + pace.again + pace.delay)) i b
                       (all_map (Goes ms q pace B t.world i b (t.time + pace.delay)) (λ o. o.by ≤ (E.by + pace.again + pace.delay)) (λ o G. (let l = G.in_time in let m = M.later in let k = soon in omega arith)) (t.under_way i b) (X.under_way i b H.member C.member)))
                       (let k = soon in omega arith) ack)
                     where

@@ -1,26 +1,27 @@
 -- What an event at one member leaves of the others, while they join an election.
 use Rattle.law_names.proofs.Runs.{Envelope, Event, Monitors, message_at, messages_of}
-use Rattle.law_names.proofs.Table.{AllByRecursion, Phase, State, Store, end_of, epoch_of, has, readings_of, same_phase}
+use Rattle.law_names.proofs.Table.{AllByRecursion, Epoch, Phase, Readings, State, Store, end_of, epoch_of, has, played, readings_of, same_phase}
 use Rattle.log_model.proofs.Lists.{all_both, all_map}
 use Rattle.mon_wire.specs.declared.body.Body.TheVariants as body
 use Rattle.mon_wire.specs.declared.phase.Phase.TheVariants as phase
 use Rattle.mon_wire.specs.declared.phase.Timer.TheVariants as timer
 use Rattle.quorum_stays.proofs.Onward.{one_state}
 use Rattle.quorum_stays.proofs.UnderWay.{numbers}
+use Rattle.quorum_stays.specs.Steady.{FollowsSince}
 use Rattle.quorum_timed.specs.Begins.{IsBetween}
 use Rattle.quorum_timed.specs.Calls.{IsCall}
 use Rattle.quorum_timed.specs.Timed.{MayBe, Owed, Pace, Timed, owed_by}
-use Rattle.std.proofs.Common.{Bool, IsSomeAnd, List, None, Some, ap, arith, false, inl, inr, length, refl, slice_get, subst, suc, sym, true, ℕ, ◌*◌, ◌++◌, ◌+◌, ◌<◌, ◌∙◌, ◌≡◌, ◌≤◌, ◌⊎◌}
+use Rattle.std.proofs.Common.{Bool, IsSomeAnd, List, None, Some, [], ap, arith, false, inl, inr, length, refl, slice_get, subst, suc, sym, true, ℕ, ◌*◌, ◌++◌, ◌+◌, ◌<◌, ◌∙◌, ◌∷◌, ◌≡◌, ◌≤◌, ◌⊎◌}
 use Rattle.std.proofs.lemmas.Bool.{cases_eq, false≢true}
 use Rattle.timed_election.proofs.Coming.{Handled, left_all, left_same, new_at, next_all, on_state, same_there, still, time_is, under_now}
-use Rattle.timed_election.proofs.Joining.{Beginning, Begun, Called, First, Goes, HeardIn, IsIn, Joining, Missed, Prober, Since, Standing, Stock, Takes, arrives_by, call, election, joined, peon, prober, top}
+use Rattle.timed_election.proofs.Joining.{Beginning, Begun, Called, First, Goes, HeardIn, IsIn, Joining, Lost, Loyal, Missed, Prober, Since, Standing, Stock, Takes, arrives_by, call, election, joined, loyal, peon, prober}
 use Rattle.timed_election.proofs.Lists.{arrives_more, at_place, closed, old_or_new, opened}
 use Rattle.timed_election.proofs.Probing.{goes, still_by}
 use Rattle.timed_election.specs.Election.{ArrivesBy, CanElect, IsAck, in_election}
-use Rattle.timed_election.specs.Joining.{FollowsLost, IsNearIn}
+use Rattle.timed_election.specs.Joining.{FollowsLost, IsNearIn, LeavesStores}
 use Rattle.timed_election.specs.Probing.{CanAnswer, IsProbing, Probes}
 
-module _ (ms : Monitors) (q : List Bool) (pace : Pace) (short : 2 * pace.delay < 2000) (B : Beginning) (C : CanElect ms q B.best) (early : pace.since ≤ B.by) where
+module _ (ms : Monitors) (q : List Bool) (pace : Pace) (short : 2 * pace.delay < 2000) (B : Beginning) (C : CanElect ms q B.best) (enough : B.top + 2 * pace.delay ≤ B.end) where
   abbrev F : Type 0
   F = First ms q pace B
 
@@ -43,7 +44,8 @@ module _ (ms : Monitors) (q : List Bool) (pace : Pace) (short : 2 * pace.delay <
         takes (Some (a, from)) k = so _ phase.Electing refl (λ s P. (P.0).elects) k
 
         by : Standing ms q pace B c t i → IsSomeAnd (t.world.state i) (λ s. same_phase s.phase phase.Booting ≡ false)
-        by (peon S k d) = so (FollowsLost q (B.by + pace.clock i)) phase.Peon refl (λ s P. P.follows) k
+        by (peon S k d) = so (FollowsLost q (k.by + pace.clock i)) phase.Peon refl (λ s P. P.follows) k.follows
+        by (loyal S k d) = so (FollowsSince k.leader k.quorum (k.leased + pace.clock i)) phase.Peon refl (λ s P. P.follows) k.follows
         by (prober S P) = so (IsProbing ms pace i P.at) phase.Probing refl (λ s Z. Z.probes) P.probing
         by (joined S k) = takes c k
 
@@ -55,18 +57,21 @@ module _ (ms : Monitors) (q : List Bool) (pace : Pace) (short : 2 * pace.delay <
       where
         by : Standing ms q pace B c t i → (readings_of (t.world.store i)).marked ≡ false
         by (peon S k d) = S.unmarked
+        by (loyal S k d) = S.unmarked
         by (prober S P) = S.unmarked
         by (joined S k) = S.unmarked
 
     -- ---- how far time went
 
-    pub peon_by : (i : ℕ) → has q i ≡ true → IsSomeAnd (t.world.state i) (FollowsLost q (B.by + pace.clock i)) → u ≤ top ms q pace B
+    pub peon_by : (i : ℕ) → has q i ≡ true → Lost ms q pace B t i → u ≤ B.top
     peon_by i qi k =
-        let o = opened (FollowsLost q (B.by + pace.clock i)) (t.world.state i) k in
-        let P : FollowsLost q (B.by + pace.clock i) o.0 = o.2 in
-        let end = opened (λ (end : ℕ). end ≤ B.by + pace.clock i) (end_of timer.Lease (o.0).timers) P.waits in
+        let o = opened (FollowsLost q (k.by + pace.clock i)) (t.world.state i) k.follows in
+        let P : FollowsLost q (k.by + pace.clock i) o.0 = o.2 in
+        let end = opened (λ (end : ℕ). end ≤ k.by + pace.clock i) (end_of timer.Lease (o.0).timers) P.waits in
         let due = M.timers i qi o.0 o.1 timer.Lease end.0 end.1 in
         let le = end.2 in
+        let since = k.since in
+        let early = k.early in
         omega arith
 
     abbrev pub probes : (i : ℕ) → has q i ≡ true → (P : Prober ms q pace B c t i) → Probes ms pace i P.at q t
@@ -84,30 +89,56 @@ module _ (ms : Monitors) (q : List Bool) (pace : Pace) (short : 2 * pace.delay <
     pub prober_by : (i : ℕ) → has q i ≡ true → (P : Prober ms q pace B c t i) → u ≤ P.at + 2 * pace.delay
     prober_by i qi P = still_by ms q pace i P.at short t (probes i qi P) u M
 
-    -- the first call reached no later
+    -- the first call was made no later, if it was
     abbrev pub Soon : F → ℕ → Type 0
-    Soon None n = Unit {0}
+    Soon None n = u ≤ B.top + 2 * pace.delay
     Soon (Some (k, from)) n = u ≤ from + n * pace.delay
 
-    pub called_by : (i : ℕ) → has q i ≡ true → (d : F) → Called ms q pace B d t i → Soon d 1
+    pub called_by : (i : ℕ) → has q i ≡ true → (d : F) → Called ms q pace B d t i → Since ms q pace B d u
     called_by i qi None k = tt
-    called_by i qi (Some (a, from)) k = let l = arrives_by (from + pace.delay) _ ms q pace t u M a i k.0 qi k.2 in omega arith
+    called_by i qi (Some (a, from)) k = arrives_by (from + pace.delay) _ ms q pace t u M a i k.0 qi k.2
+
+    -- as long as nobody called, the former leader probes
+    former_by : (l : ℕ) → has q l ≡ true → IsSomeAnd (t.world.state l) (λ s. s.phase ≡ phase.Probing) → c ≡ None → u ≤ B.top + 2 * pace.delay
+    former_by l ql probing none = by (X.stands l ql)
+      where
+        away : (P : State → Type 0) → ((s : State) → P s → s.phase ≡ phase.Peon) → IsSomeAnd (t.world.state l) P → ⊥
+        away P f k =
+            let a = opened P (t.world.state l) k in
+            let b = opened (λ (s : State). s.phase ≡ phase.Probing) (t.world.state l) probing in
+            let clash : phase.Peon ≡ phase.Probing = sym (f a.0 a.2) ∙ ap (λ (s : State). s.phase) (one_state (t.world.state l) a.0 b.0 a.1 b.1) ∙ b.2 in
+            cc
+
+        nobody_takes : (d : F) → d ≡ None → Takes ms q pace B d t l → ⊥
+        nobody_takes None is k = k
+        nobody_takes (Some x) is k = cc
+
+        by : Standing ms q pace B c t l → u ≤ B.top + 2 * pace.delay
+        by (peon S k d) = absurd (away (FollowsLost q (k.by + pace.clock l)) (λ s P. P.follows) k.follows)
+        by (loyal S k d) = absurd (away (FollowsSince k.leader k.quorum (k.leased + pace.clock l)) (λ s P. P.follows) k.follows)
+        by (prober S P) = let n = prober_by l ql P in let a = P.early in omega arith
+        by (joined S k) = absurd (nobody_takes c none k)
 
     -- who isn't in the election yet joins it soon
-    pub out_by : (i : ℕ) → has q i ≡ true → epoch_of (readings_of (t.world.store i)) ≡ B.epoch → (u ≤ top ms q pace B + 2 * pace.delay) × Soon c 3
+    pub out_by : (i : ℕ) → has q i ≡ true → epoch_of (readings_of (t.world.store i)) ≡ B.epoch → (u ≤ B.end) × Soon c 3
     out_by i qi out = by (X.stands i qi)
       where
-        later : (d : F) → Called ms q pace B d t i → Soon d 3
-        later None k = tt
-        later (Some (a, from)) k = let l = called_by i qi (Some (a, from)) k in omega arith
+        later : u ≤ B.top + 2 * pace.delay → (d : F) → Called ms q pace B d t i → Soon d 3
+        later le None k = le
+        later le (Some (a, from)) k = let l = called_by i qi (Some (a, from)) k in omega arith
 
-        probing : (at : ℕ) → u ≤ at + 2 * pace.delay → (d : F) → Since ms q pace B d at → Soon d 3
-        probing at le None k = tt
-        probing at le (Some (a, from)) k = omega arith
+        probing : (at : ℕ) → at ≤ B.top → u ≤ at + 2 * pace.delay → (d : F) → Since ms q pace B d at → Soon d 3
+        probing at early le None k = omega arith
+        probing at early le (Some (a, from)) k = omega arith
 
-        by : Standing ms q pace B c t i → (u ≤ top ms q pace B + 2 * pace.delay) × Soon c 3
-        by (peon S k d) = ((let l = peon_by i qi k in omega arith), later c d)
-        by (prober S P) = ((let l = prober_by i qi P in let a = P.early in omega arith), probing P.at (prober_by i qi P) c P.since)
+        waits : (k : Loyal ms q pace B t i) → (d : F) → c ≡ d → Begun ms q pace B d t → Called ms q pace B d t i → (u ≤ B.end) × Soon d 3
+        waits k None is b a = let f = X.former is k.leader k.former in let le = former_by k.leader f.0 f.1 is in ((omega arith), le)
+        waits k (Some (a, from)) is b call_comes = let l = called_by i qi (Some (a, from)) call_comes in let late = k.late in let n = b.2 in ((omega arith), (omega arith))
+
+        by : Standing ms q pace B c t i → (u ≤ B.end) × Soon c 3
+        by (peon S k d) = let l = peon_by i qi k in ((omega arith), later (omega arith) c d)
+        by (loyal S k d) = waits k c refl X.begun d
+        by (prober S P) = ((let l = prober_by i qi P in let a = P.early in omega arith), probing P.at P.early (prober_by i qi P) c P.since)
         by (joined S k) = absurd (let a = S.epoch in omega arith)
 
     -- ---- an event
@@ -154,8 +185,29 @@ module _ (ms : Monitors) (q : List Bool) (pace : Pace) (short : 2 * pace.delay <
 
       module _ (d : F) (j : ℕ) (qj : has q j ≡ true) (ne : j ≡ i → ⊥) (call_goes : Called ms q pace B c t j → Called ms q pace B d next j)
           (since_goes : (at : ℕ) → at ≤ u → Since ms q pace B c at → Since ms q pace B d at) (takes_goes : Takes ms q pace B c t j → Takes ms q pace B d next j) where
-        stock_goes : (n : ℕ) → Stock ms q pace B n j (readings_of (t.world.store j)) → Stock ms q pace B n j (readings_of (next.world.store j))
-        stock_goes n S = subst (λ (m : Store). Stock ms q pace B n j (readings_of m)) (sym (H.did.stores j ne)) S
+        stock_goes : (n : ℕ) (these : Readings) → Stock ms q pace B n these (readings_of (t.world.store j)) → Stock ms q pace B n these (readings_of (next.world.store j))
+        stock_goes n these S = subst (λ (m : Store). Stock ms q pace B n these (readings_of m)) (sym (H.did.stores j ne)) S
+
+        lost_goes : Lost ms q pace B t j → Lost ms q pace B next j
+        lost_goes k = record {
+          nobody = k.nobody;
+          by = k.by;
+          since = k.since;
+          early = k.early;
+          follows = others_same (FollowsLost q (k.by + pace.clock j)) j ne k.follows;
+        }
+
+        loyal_goes : Loyal ms q pace B t j → Loyal ms q pace B next j
+        loyal_goes k = record {
+          leader = k.leader;
+          former = k.former;
+          quorum = k.quorum;
+          leased = k.leased;
+          before = (let b = k.before in let l = M.later in let z = time_now in omega arith);
+          lasts = k.lasts;
+          late = k.late;
+          follows = others_same (FollowsSince k.leader k.quorum (k.leased + pace.clock j)) j ne k.follows;
+        }
 
         prober_goes : (P : Prober ms q pace B c t j) → Prober ms q pace B d next j
         prober_goes P = by (goes ms q pace j P.at short t (probes j qj P) u M next e H (ready e))
@@ -183,18 +235,20 @@ module _ (ms : Monitors) (q : List Bool) (pace : Pace) (short : 2 * pace.delay <
         stands_goes = by (X.stands j qj)
           where
             by : Standing ms q pace B c t j → Standing ms q pace B d next j
-            by (peon S k a) = peon (stock_goes B.epoch S) (others_same (FollowsLost q (B.by + pace.clock j)) j ne k) (call_goes a)
-            by (prober S P) = prober (stock_goes B.epoch S) (prober_goes P)
-            by (joined S k) = joined (stock_goes (suc B.epoch) S) (takes_goes k)
+            by (peon S k a) = peon (stock_goes B.epoch (B.stores j) S) (lost_goes k) (call_goes a)
+            by (loyal S k a) = loyal (stock_goes B.epoch (B.stores j) S) (loyal_goes k) (call_goes a)
+            by (prober S P) = prober (stock_goes B.epoch (B.stores j) S) (prober_goes P)
+            by (joined S k) = joined (stock_goes (suc B.epoch) (played (Epoch (suc B.epoch) ∷ []) (B.stores j)) S) (takes_goes k)
 
       -- ---- what is sent
 
-      -- It is of member i. A call is the one that it makes in the election, which it takes part in then.
+      -- It is of member i, and changes no store. A call is the one that it makes in the election, which it takes part in then.
       pub record Said (after : ℕ) (m : Envelope) : Type 0 where
         pub from : m.message.from ≡ i
         pub epoch : m.message.epoch ≤ suc B.epoch
         pub call_is : IsCall m.message.body → (m ≡ call ms q pace B i m.to) × (after ≡ suc B.epoch)
-        pub near : (j : ℕ) → has q j ≡ true → IsNearIn (B.last j) m.message.body
+        pub near : (j : ℕ) → has q j ≡ true → IsNearIn (B.stores j).last m.message.body
+        pub leaves : LeavesStores m.message.body
 
       -- no acknowledgement for `best`
       abbrev pub IsMute : Envelope → Type 0
@@ -237,6 +291,7 @@ module _ (ms : Monitors) (q : List Bool) (pace : Pace) (short : 2 * pace.delay <
       pub record Turned (d : F) : Type 0 where
         pub begun : Begun ms q pace B d next
         pub standing : Standing ms q pace B d next i
+        pub former : d ≡ None → (c ≡ None) × (B.former ≡ Some i → H.course.state.phase ≡ phase.Probing)
         pub called : (j : ℕ) → has q j ≡ true → (j ≡ i → ⊥) → Called ms q pace B c t j → Called ms q pace B d next j
         pub since : (at : ℕ) → at ≤ u → Since ms q pace B c at → Since ms q pace B d at
         pub takes : (j : ℕ) → (j ≡ i → ⊥) → Takes ms q pace B c t j → Takes ms q pace B d next j
@@ -267,6 +322,7 @@ module _ (ms : Monitors) (q : List Bool) (pace : Pace) (short : 2 * pace.delay <
               epoch = S.epoch;
               calls = λ k. (ap (λ (p : Envelope). p.message.epoch) (S.call_is k).0, subst (IsIn ms q pace B next) (sym S.from ∙ from) (S.call_is k).1);
               near = S.near j qj;
+              leaves = λ _. S.leaves;
               in_time = (let z = time_now in omega arith);
             }))
           where
@@ -278,6 +334,7 @@ module _ (ms : Monitors) (q : List Bool) (pace : Pace) (short : 2 * pace.delay <
               epoch = G.epoch;
               calls = λ k. ((G.calls k).0, in_still f (G.calls k).1);
               near = G.near;
+              leaves = G.leaves;
               in_time = (let a = G.in_time in let z = time_now in let l = M.later in omega arith);
             }
 
@@ -312,6 +369,10 @@ module _ (ms : Monitors) (q : List Bool) (pace : Pace) (short : 2 * pace.delay <
             | inl same ↦ subst (Standing ms q pace B d next) (sym same) T.standing
             | inr ne ↦ stands_goes d j qj ne (T.called j qj ne) T.since (T.takes j ne)
           ];
+          former = λ none l is. (let k = X.former (T.former none).0 l is in (
+            k.0,
+            state_next (λ s. s.phase ≡ phase.Probing) (λ s. s.phase ≡ phase.Probing) l (λ same. (T.former none).1 (is ∙ ap Some same)) (λ _ s p. p) k.1,
+          ));
           under_way = under_way_next;
           alike = alike_next;
           called = called_next;

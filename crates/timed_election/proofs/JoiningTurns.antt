@@ -1,45 +1,35 @@
--- One event at a member that hasn't joined the election yet: it follows on, probes, or joins.
+-- One event at a member that hasn't joined the election yet: it stays out of it, or joins.
 use Rattle.election_rules.specs.Ranking.{outranks}
 use Rattle.law_names.proofs.Runs.{Envelope, Event, Monitors, message_at, messages_of}
-use Rattle.law_names.proofs.Table.{AllByRecursion, Body, Change, Entry, Epoch, Fits, Input, Me, Message, Phase, Readings, Sent, State, allows, count_of, end_of, epoch_of, has, is_allowed, is_even, is_majority, message_to, no_ranks, only, others, played, react, readings_of, same_phase, scores_count, shared_entries, stands_before, votes}
+use Rattle.law_names.proofs.Table.{AllByRecursion, Body, Change, Epoch, Fits, Me, Readings, Sent, allows, end_of, epoch_of, has, is_allowed, message_to, no_ranks, only, others, played, readings_of, stands_before}
 use Rattle.log_model.proofs.Lists.{all_map}
-use Rattle.mon_msg.specs.declared.input.Input.TheVariants as input
 use Rattle.mon_wire.specs.declared.body.Body.TheVariants as body
 use Rattle.mon_wire.specs.declared.phase.Phase.TheVariants as phase
 use Rattle.mon_wire.specs.declared.phase.Timer.TheVariants as timer
-use Rattle.quorum_elects.proofs.Ranks.{one_counts}
 use Rattle.quorum_elects.proofs.Standing.{among_map, among_others}
 use Rattle.quorum_model.proofs.Members.{member_of}
-use Rattle.quorum_stays.proofs.Onward.{one_state}
 use Rattle.quorum_stays.proofs.UnderWay.{numbers}
-use Rattle.quorum_timed.specs.Calls.{IsCall, IsCandidate}
+use Rattle.quorum_timed.specs.Calls.{IsCall}
 use Rattle.quorum_timed.specs.Timed.{MayBe, Owed, Pace, Timed, owed_by}
 use Rattle.quorum_walk.proofs.Lists.{Among as AmongE}
-use Rattle.quorum_walk.proofs.Parity.{odd_of_even}
 use Rattle.quorum_walk.proofs.Ranks.{has_only, has_only_is, nobody}
-use Rattle.quorum_walk.proofs.Walk.{Then}
-use Rattle.std.proofs.Common.{Bool, IsSomeAnd, List, None, Option, Some, [], ap, arith, false, inl, inr, length, ltb, map, not, refl, slice_get, subst, suc, sym, true, ℕ, ◌&&◌, ◌*◌, ◌++◌, ◌+◌, ◌<◌, ◌^◌, ◌∙◌, ◌∷◌, ◌≡◌, ◌≤◌, ◌⊎◌}
-use Rattle.std.proofs.lemmas.Bool.{cases_eq, eq-eqb, false≢true, le-ltb, lt-ltb}
+use Rattle.std.proofs.Common.{Bool, List, None, Option, Some, [], ap, arith, false, inl, inr, length, ltb, map, refl, slice_get, subst, suc, sym, true, ℕ, ◌&&◌, ◌*◌, ◌++◌, ◌+◌, ◌<◌, ◌^◌, ◌∙◌, ◌∷◌, ◌≡◌, ◌≤◌, ◌⊎◌}
+use Rattle.std.proofs.lemmas.Bool.{cases_eq, eq-eqb, false≢true, lt-ltb}
 use Rattle.std.proofs.lemmas.List.{length-set}
-use Rattle.table_rows.proofs.Electing.{later_propose_row}
-use Rattle.timed_election.proofs.Coming.{Handled, How, again, asks, came_or_left, fires, first as first_, new_at}
-use Rattle.timed_election.proofs.Counting.{several}
-use Rattle.timed_election.proofs.Entering.{Calls, IsFresh, Joined, Joins, called as called_row, calls, defers, proposed}
-use Rattle.timed_election.proofs.FollowingRows.{Follows, IsOfMember, followed, joins, probes as begins, stays}
-use Rattle.timed_election.proofs.Joining.{Beginning, Begun, Called, First, Goes, HeardIn, IsIn, Joining, Missed, Prober, Since, Standing, Stock, Takes, call, election, joined, peon, prober, top}
-use Rattle.timed_election.proofs.JoiningFrame.{IsMute, Said, Soon, Turned, acks_on, all_left, called_by, missed_on, on, others_same, out_by, peon_by, probes, ready, same_left, there_still, time_now, under}
-use Rattle.timed_election.proofs.Lists.{all_sent, among_sent, arrives_after, arrives_last, arrives_new, at_place, closed, message_in, one, opened, place_of}
+use Rattle.timed_election.proofs.Coming.{Handled, new_at}
+use Rattle.timed_election.proofs.Entering.{Calls, IsFresh, Joined, Joins, calls, defers}
+use Rattle.timed_election.proofs.Joining.{Beginning, Begun, Called, First, Goes, HeardIn, IsIn, Joining, Kept, Missed, Raised, Since, Standing, Takes, call, election, joined}
+use Rattle.timed_election.proofs.JoiningComes.{Known, known, nobody_in}
+use Rattle.timed_election.proofs.JoiningFrame.{IsMute, Said, Soon, Turned, acks_on, all_left, missed_on, on, others_same, out_by, same_left, there_still, time_now, under}
+use Rattle.timed_election.proofs.Lists.{all_sent, among_sent, arrives_after, arrives_last, arrives_new, at_place, closed, one, opened, place_of}
 use Rattle.timed_election.proofs.Outcomes.{Heard as Came}
-use Rattle.timed_election.proofs.Probing.{goes, probed_so}
-use Rattle.timed_election.proofs.ProbingRows.{IsFar, Probed, copies, elects, keeps}
-use Rattle.timed_election.proofs.Quiet.{IsPlain, IsQuiet, no_ack, no_call}
+use Rattle.timed_election.proofs.Quiet.{IsPlain, IsQuiet, leaves_stores, no_ack, no_call}
 use Rattle.timed_election.proofs.Ranking.{nobody_better, not_itself}
 use Rattle.timed_election.specs.Election.{ArrivesBy, CanElect, Defers, Heard, IsAck, Stands, TakesPart, in_election}
-use Rattle.timed_election.specs.Joining.{FollowsLost, IsNear, IsNearIn}
-use Rattle.timed_election.specs.Probing.{IsProbe, IsProbing, Probes}
+use Rattle.timed_election.specs.Joining.{IsNear, IsNearIn}
 
-module _ (ms : Monitors) (q : List Bool) (pace : Pace) (short : 2 * pace.delay < 2000) (B : Beginning) (C : CanElect ms q B.best) (early : pace.since ≤ B.by)
-    (near : (i j : ℕ) → has q i ≡ true → has q j ≡ true → IsNear (B.last i) (B.first j) (B.last j)) where
+module _ (ms : Monitors) (q : List Bool) (pace : Pace) (short : 2 * pace.delay < 2000) (B : Beginning) (C : CanElect ms q B.best) (enough : B.top + 2 * pace.delay ≤ B.end)
+    (near : (i j : ℕ) → has q i ≡ true → has q j ≡ true → IsNear (B.stores i).last (B.stores j).first (B.stores j).last) where
   abbrev F : Type 0
   F = First ms q pace B
 
@@ -68,37 +58,31 @@ module _ (ms : Monitors) (q : List Bool) (pace : Pace) (short : 2 * pace.delay <
     abbrev w : Readings
     w = readings_of (t.world.store i)
 
-    abbrev sh : List Entry
-    sh = shared_entries (t.world.store i)
-
     abbrev T : F → Type 0
-    T d = Turned ms q pace short B C early c t X u M next e H d
+    T d = Turned ms q pace short B C enough c t X u M next e H d
 
     abbrev S : ℕ → Envelope → Type 0
-    S after m = Said ms q pace short B C early c t X u M next e H after m
+    S after m = Said ms q pace short B C enough c t X u M next e H after m
 
     abbrev Mute : Envelope → Type 0
-    Mute m = IsMute ms q pace short B C early c t X u M next e H m
-
-    -- the call of f to it
-    abbrev CallOf : ℕ → Owed → Type 0
-    CallOf f o = message_at t.world.messages o.number ≡ Some (call ms q pace B f i)
+    Mute m = IsMute ms q pace short B C enough c t X u M next e H m
 
     pub time_is : next.time ≡ u
-    time_is = time_now ms q pace short B C early c t X u M next e H
+    time_is = time_now ms q pace short B C enough c t X u M next e H
 
     -- ---- what is sent
 
-    near_plain : (b : Body) → w.first ≡ B.first i → w.last ≡ B.last i → IsPlain w b → (j : ℕ) → has q j ≡ true → IsNearIn (B.last j) b
+    near_plain : (b : Body) → w.first ≡ (B.stores i).first → w.last ≡ (B.stores i).last → IsPlain w b → (j : ℕ) → has q j ≡ true → IsNearIn (B.stores j).last b
     near_plain (body.ProbeReply r f l) a b p j qj = let n = near j i qj H.member in let x = p.0 in let z = p.1 in let n0 = n.0 in let n1 = n.1 in ((omega arith), (omega arith))
     near_plain other a b p j qj = tt
 
-    pub quiet_said : (after : ℕ) (out : List Sent) → w.first ≡ B.first i → w.last ≡ B.last i → epoch_of w ≤ suc B.epoch → AllByRecursion (IsQuiet w i) out → AllByRecursion (S after) (messages_of out)
+    pub quiet_said : (after : ℕ) (out : List Sent) → w.first ≡ (B.stores i).first → w.last ≡ (B.stores i).last → epoch_of w ≤ suc B.epoch → AllByRecursion (IsQuiet w i) out → AllByRecursion (S after) (messages_of out)
     quiet_said after out a b low k = all_sent (IsQuiet w i) (S after) (λ to m h. record {
       from = h.0;
       epoch = (let z = h.1 in omega arith);
       call_is = λ calling. absurd (no_call w m.body h.2 calling);
       near = near_plain m.body a b h.2;
+      leaves = leaves_stores w m.body h.2;
     }) out k
 
     pub quiet_mute : (out : List Sent) → AllByRecursion (IsQuiet w i) out → AllByRecursion Mute (messages_of out)
@@ -111,7 +95,7 @@ module _ (ms : Monitors) (q : List Bool) (pace : Pace) (short : 2 * pace.delay <
 
     -- its calls
     pub calls_said : (after : ℕ) → after ≡ suc B.epoch → (ks : List ℕ) → AllByRecursion (S after) (messages_of (map (message_to me (suc B.epoch) (body.Propose None)) ks))
-    calls_said after is ks = letters (S after) (suc B.epoch) (body.Propose None) (λ to. record { from = refl; epoch = (omega arith); call_is = λ _. (refl, is); near = λ j qj. tt }) ks
+    calls_said after is ks = letters (S after) (suc B.epoch) (body.Propose None) (λ to. record { from = refl; epoch = (omega arith); call_is = λ _. (refl, is); near = λ j qj. tt; leaves = tt }) ks
 
     pub calls_mute : (ks : List ℕ) → AllByRecursion Mute (messages_of (map (message_to me (suc B.epoch) (body.Propose None)) ks))
     calls_mute ks = letters Mute (suc B.epoch) (body.Propose None) (λ to _ k. cc) ks
@@ -130,14 +114,14 @@ module _ (ms : Monitors) (q : List Bool) (pace : Pace) (short : 2 * pace.delay <
     called_on j ne (Some (a, from)) k = (
       k.0,
       k.1,
-      on ms q pace short B C early c t X u M next e H (from + pace.delay) (λ o. message_at t.world.messages o.number ≡ Some (call ms q pace B a j)) (λ o. message_at next.world.messages o.number ≡ Some (call ms q pace B a j))
-          (λ o there. there_still ms q pace short B C early c t X u M next e H o.number (call ms q pace B a j) there) a j
-          (subst (ArrivesBy (from + pace.delay) (λ o. message_at t.world.messages o.number ≡ Some (call ms q pace B a j))) (sym (same_left ms q pace short B C early c t X u M next e H a j ne)) k.2),
+      on ms q pace short B C enough c t X u M next e H (from + pace.delay) (λ o. message_at t.world.messages o.number ≡ Some (call ms q pace B a j)) (λ o. message_at next.world.messages o.number ≡ Some (call ms q pace B a j))
+          (λ o there. there_still ms q pace short B C enough c t X u M next e H o.number (call ms q pace B a j) there) a j
+          (subst (ArrivesBy (from + pace.delay) (λ o. message_at t.world.messages o.number ≡ Some (call ms q pace B a j))) (sym (same_left ms q pace short B C enough c t X u M next e H a j ne)) k.2),
     )
 
     pub takes_on : (j : ℕ) → (j ≡ i → ⊥) → (x : F) → Takes ms q pace B x t j → Takes ms q pace B x next j
     takes_on j ne None k = absurd k
-    takes_on j ne (Some (a, from)) k = others_same ms q pace short B C early c t X u M next e H _ j ne k
+    takes_on j ne (Some (a, from)) k = others_same ms q pace short B C enough c t X u M next e H _ j ne k
 
     same_in : (j : ℕ) → (j ≡ i → ⊥) → IsIn ms q pace B t j → IsIn ms q pace B next j
     same_in j ne k = subst (λ (m : _). epoch_of (readings_of m) ≡ suc B.epoch) (sym (H.did.stores j ne)) k
@@ -149,12 +133,12 @@ module _ (ms : Monitors) (q : List Bool) (pace : Pace) (short : 2 * pace.delay <
       same_in B.best nb k.0,
       same_in j ne k.1,
       (let Z : Heard ms pace (election ms q pace B from) q t j = k.2 in record {
-        defers = others_same ms q pace short B C early c t X u M next e H (Defers q pace (election ms q pace B from) next.time j) j ne
+        defers = others_same ms q pace short B C enough c t X u M next e H (Defers q pace (election ms q pace B from) next.time j) j ne
             (let o = opened (Defers q pace (election ms q pace B from) t.time j) (t.world.state j) Z.defers in
             closed (Defers q pace (election ms q pace B from) next.time j) (t.world.state j) o.0 o.1 (elim o.2 [ inl d ↦ inl d | inr l ↦ inr ((let a = l.0 in let z = time_is in let m = M.later in omega arith), l.1) ]));
         acks = elim Z.acks [
-          | inl k ↦ inl (others_same ms q pace short B C early c t X u M next e H (λ s. has s.elector.acked j ≡ true) B.best nb k)
-          | inr k ↦ inr (acks_on ms q pace short B C early c t X u M next e H _ j (subst (ArrivesBy _ (IsAck ms pace (election ms q pace B from) q t j)) (sym (same_left ms q pace short B C early c t X u M next e H j B.best nb)) k))
+          | inl k ↦ inl (others_same ms q pace short B C enough c t X u M next e H (λ s. has s.elector.acked j ≡ true) B.best nb k)
+          | inr k ↦ inr (acks_on ms q pace short B C enough c t X u M next e H _ j (subst (ArrivesBy _ (IsAck ms pace (election ms q pace B from) q t j)) (sym (same_left ms q pace short B C enough c t X u M next e H j B.best nb)) k))
         ];
       }),
     )
@@ -166,7 +150,7 @@ module _ (ms : Monitors) (q : List Bool) (pace : Pace) (short : 2 * pace.delay <
 
     -- ---- its store
 
-    module _ (Z : Stock ms q pace B B.epoch i w) where
+    module _ (Z : Kept ms q pace B i w) where
       not_in : {A : Type 0} → IsIn ms q pace B t i → A
       not_in k = absurd (let a = Z.epoch in omega arith)
 
@@ -174,8 +158,8 @@ module _ (ms : Monitors) (q : List Bool) (pace : Pace) (short : 2 * pace.delay <
         kept : readings_of (next.world.store i) ≡ w
         kept = (subst (λ (cs : List Change). AllByRecursion Fits cs → readings_of (next.world.store i) ≡ played cs w) same H.did.kept) tt
 
-        pub stock_kept : Stock ms q pace B B.epoch i (readings_of (next.world.store i))
-        stock_kept = subst (Stock ms q pace B B.epoch i) (sym kept) Z
+        pub stock_kept : Kept ms q pace B i (readings_of (next.world.store i))
+        stock_kept = subst (Kept ms q pace B i) (sym kept) Z
 
         not_in_next : {A : Type 0} → IsIn ms q pace B next i → A
         not_in_next k = not_in (sym (ap epoch_of kept) ∙ k)
@@ -183,11 +167,13 @@ module _ (ms : Monitors) (q : List Bool) (pace : Pace) (short : 2 * pace.delay <
         -- ---- it doesn't join
 
         -- It sent neither calls nor acknowledgements.
-        module _ (standing : Standing ms q pace B c next i) (said : AllByRecursion (S (epoch_of (readings_of (next.world.store i)))) es) (mute : AllByRecursion Mute es) where
+        module _ (standing : Standing ms q pace B c next i) (probing : c ≡ None → B.former ≡ Some i → H.course.state.phase ≡ phase.Probing) (said : AllByRecursion (S (epoch_of (readings_of (next.world.store i)))) es)
+            (mute : AllByRecursion Mute es) where
           pub stays_out : T c
           stays_out = record {
             begun = begun_on c X.begun;
             standing = standing;
+            former = λ none. (none, probing none);
             called = λ j qj ne k. called_on j ne c k;
             since = λ at le k. k;
             takes = λ j ne k. takes_on j ne c k;
@@ -195,7 +181,7 @@ module _ (ms : Monitors) (q : List Bool) (pace : Pace) (short : 2 * pace.delay <
             said = said;
             calls = λ k. not_in_next k;
             told = λ j qj nj. elim (X.told j qj nj) [
-              | inl N ↦ inl (missed_on ms q pace short B C early c t X u M next e H j qj (λ n m there from to. at_sent Mute mute n m there to)
+              | inl N ↦ inl (missed_on ms q pace short B C enough c t X u M next e H j qj (λ n m there from to. at_sent Mute mute n m there to)
                   (λ is k. not_in_next (subst (IsIn ms q pace B next) (sym is) k)) N)
               | inr k ↦ inr (told_on j qj nj c k)
             ];
@@ -205,6 +191,12 @@ module _ (ms : Monitors) (q : List Bool) (pace : Pace) (short : 2 * pace.delay <
               told_on j qj nj None k = absurd k
               told_on j qj nj (Some (a, from)) k = heard_on j (λ is. not_in (subst (IsIn ms q pace B t) is k.1)) (λ is. not_in (subst (IsIn ms q pace B t) is k.0)) (Some (a, from)) k
 
+        -- It sent no more than quiet messages.
+        pub stays_quiet : Standing ms q pace B c next i → (c ≡ None → B.former ≡ Some i → H.course.state.phase ≡ phase.Probing) → AllByRecursion (IsQuiet w i) H.course.out → T c
+        stays_quiet standing probing quiet = stays_out standing probing
+            (quiet_said (epoch_of (readings_of (next.world.store i))) H.course.out (ap (λ (z : Readings). z.first) Z.same) (ap (λ (z : Readings). z.last) Z.same) (let a = Z.epoch in omega arith) quiet)
+            (quiet_mute H.course.out quiet)
+
       -- ---- it joins
 
       module _ (fits : suc B.epoch ≤ 2 ^ 62) (changed : H.course.changes ≡ Epoch (suc (epoch_of w)) ∷ []) where
@@ -213,18 +205,22 @@ module _ (ms : Monitors) (q : List Bool) (pace : Pace) (short : 2 * pace.delay <
             let same : suc (epoch_of w) ≡ suc B.epoch = ap suc Z.epoch in
             (subst (λ (cs : List Change). AllByRecursion Fits cs → readings_of (next.world.store i) ≡ played cs w) (changed ∙ ap (λ (n : ℕ). Epoch n ∷ []) same) H.did.kept) (fits, tt)
 
-        stock_raised : Stock ms q pace B (suc B.epoch) i (readings_of (next.world.store i))
-        stock_raised = subst (Stock ms q pace B (suc B.epoch) i) (sym raised) (record { epoch = refl; unmarked = Z.unmarked; first_is = Z.first_is; last_is = Z.last_is })
+        stock_raised : Raised ms q pace B i (readings_of (next.world.store i))
+        stock_raised = subst (Raised ms q pace B i) (sym raised) (record { epoch = refl; unmarked = Z.unmarked; same = ap (played (Epoch (suc B.epoch) ∷ [])) Z.same })
 
         pub in_now : IsIn ms q pace B next i
         in_now = ap epoch_of raised
 
-        soon : (u ≤ top ms q pace B + 2 * pace.delay) × Soon ms q pace short B C early c t X u M c 3
-        soon = out_by ms q pace short B C early c t X u M i H.member Z.epoch
+        soon : (u ≤ B.end) × Soon ms q pace short B C enough c t X u M c 3
+        soon = out_by ms q pace short B C enough c t X u M i H.member Z.epoch
 
-        begun_first : (x : F) → Begun ms q pace B x t → Begun ms q pace B (first_of x) next
-        begun_first None k = ((let z = time_is in omega arith), (let a = X.since in let l = M.later in omega arith), soon.0)
-        begun_first (Some x) k = begun_on (Some x) k
+        begun_first : (x : F) → Soon ms q pace short B C enough c t X u M x 3 → Begun ms q pace B x t → Begun ms q pace B (first_of x) next
+        begun_first None le k = ((let z = time_is in omega arith), (let a = X.since in let l = M.later in omega arith), le)
+        begun_first (Some x) le k = begun_on (Some x) k
+
+        somebody : (x : F) → first_of x ≡ None → ⊥
+        somebody None is = cc
+        somebody (Some x) is = cc
 
         since_first : (x : F) (at : ℕ) → at ≤ u → Since ms q pace B x at → Since ms q pace B (first_of x) at
         since_first None at le k = omega arith
@@ -264,7 +260,7 @@ module _ (ms : Monitors) (q : List Bool) (pace : Pace) (short : 2 * pace.delay <
                   (let a = soon.0 in let clock : pace.clock i ≡ pace.clock B.best = ap pace.clock is in omega arith);
             }
 
-            takes_new : (x : F) → Begun ms q pace B x t → Soon ms q pace short B C early c t X u M x 3 → Takes ms q pace B (first_of x) next i
+            takes_new : (x : F) → Begun ms q pace B x t → Soon ms q pace short B C enough c t X u M x 3 → Takes ms q pace B (first_of x) next i
             takes_new None k l = closed _ (next.world.state i) H.course.state H.did.up (part u (omega arith), stands_so u (omega arith))
             takes_new (Some (a, from)) k l = closed _ (next.world.state i) H.course.state H.did.up (part from (let z = k.0 in let m = M.later in omega arith), stands_so from l)
 
@@ -283,13 +279,14 @@ module _ (ms : Monitors) (q : List Bool) (pace : Pace) (short : 2 * pace.delay <
           not_heard (Some x) j (inr is) h = not_in (subst (IsIn ms q pace B t) is h.0)
 
           others_missed : (j : ℕ) → has q j ≡ true → (j ≡ B.best → ⊥) → (j ≡ i → ⊥) → Missed ms q pace B t j → Missed ms q pace B next j
-          others_missed j qj nj ne N = missed_on ms q pace short B C early c t X u M next e H j qj
+          others_missed j qj nj ne N = missed_on ms q pace short B C enough c t X u M next e H j qj
               (λ n m there from to _. ne (sym from ∙ (let Y : S (epoch_of (readings_of (next.world.store i))) m = at_sent (S (epoch_of (readings_of (next.world.store i)))) said n m there in Y.from))) (λ is _. fresh_acks is j ne) N
 
           pub joins_so : T (first_of c)
           joins_so = record {
-            begun = begun_first c X.begun;
+            begun = begun_first c soon.1 X.begun;
             standing = standing;
+            former = λ none. absurd (somebody c none);
             called = λ j qj ne k. first_calls j qj ne c refl k;
             since = λ at le k. since_first c at le k;
             takes = λ j ne k. takes_first j ne c k;
@@ -315,64 +312,6 @@ module _ (ms : Monitors) (q : List Bool) (pace : Pace) (short : 2 * pace.delay <
             ];
           }
 
-    -- ---- what comes
-
-    -- a message that comes
-    pub record Known (m : Message) : Type 0 where
-      pub member : has q m.from ≡ true
-      pub epoch : m.epoch ≤ suc B.epoch
-      pub close : IsNearIn (B.last i) m.body
-      pub calls : IsCall m.body → (m.epoch ≡ suc B.epoch) × IsIn ms q pace B t m.from
-
-    near_call : (n : ℕ) (b : Body) → IsCall b → IsNearIn n b
-    near_call n (body.Propose table) k = tt
-    near_call n other k = absurd k
-
-    -- a candidate takes part
-    candidate_in : (f n : ℕ) → has q f ≡ true → IsCandidate t.world f n → (n ≡ suc B.epoch) × IsIn ms q pace B t f
-    candidate_in f n qf K = of (X.stands f qf)
-      where
-        away : (P : State → Type 0) (p : Phase) → ((s : State) → P s → s.phase ≡ p) → same_phase p phase.Electing ≡ false → IsSomeAnd (t.world.state f) P → ⊥
-        away P p g ne k = let o = opened P (t.world.state f) k in
-            false≢true (sym ne ∙ ap (λ (z : Phase). same_phase z phase.Electing) (sym (g o.0 o.2)) ∙ ap (λ (z : State). same_phase z.phase phase.Electing) (one_state (t.world.state f) o.0 K.state o.1 K.up) ∙ ap (λ (z : Phase). same_phase z phase.Electing) K.elects)
-
-        of : Standing ms q pace B c t f → (n ≡ suc B.epoch) × IsIn ms q pace B t f
-        of (peon S k a) = absurd (away (FollowsLost q (B.by + pace.clock f)) phase.Peon (λ s P. P.follows) refl k)
-        of (prober S P) = absurd (away (IsProbing ms pace f P.at) phase.Probing (λ s Z. Z.probes) refl P.probing)
-        of (joined S k) = (sym K.epoch_is ∙ S.epoch, S.epoch)
-
-    pub known : (m : Message) → H.came ≡ input.Deliver m → Known m
-    known m is = of H.how
-      where
-        so : (z : Message) → H.came ≡ input.Deliver z → Known z → Known m
-        so z h k = subst Known (let two : input.Deliver z ≡ input.Deliver m = sym h ∙ is in cc) k
-
-        of : How ms q pace t u i H.came e H.left H.state → Known m
-        of (first_ f qf o others z list there from h at rest) =
-            let all = subst (AllByRecursion (Goes ms q pace B t.world f i (t.time + pace.delay))) list (X.under_way f i qf H.member) in
-            let G : Goes ms q pace B t.world f i (t.time + pace.delay) o = all.0 in
-            let two : Some (record { to = i; message = G.message }) ≡ Some (record { to = i; message = z }) = sym G.there ∙ there in
-            let same : G.message ≡ z = ap (message_in z) two in
-            so z h (subst Known same (record {
-              member = subst (λ (k : ℕ). has q k ≡ true) (sym G.sender) qf;
-              epoch = G.epoch;
-              close = G.near;
-              calls = λ k. ((G.calls k).0, subst (IsIn ms q pace B t) (sym G.sender) (G.calls k).1);
-            }))
-        of (again n z there from calling cand h at rest) = let k = candidate_in z.from z.epoch from cand in so z h (record { member = from; epoch = (let a = k.0 in omega arith); close = near_call (B.last i) z.body calling; calls = λ _. k })
-        of (fires kind end on over h at rest) = (let clash : input.Timer kind ≡ input.Deliver m = sym h ∙ is in absurd cc)
-        of (asks session r h at rest) = (let clash : input.Client session r ≡ input.Deliver m = sym h ∙ is in absurd cc)
-
-    -- nobody takes part before the first call
-    nobody_in : (f : ℕ) → has q f ≡ true → IsIn ms q pace B t f → c ≡ None → ⊥
-    nobody_in f qf k is = of c (X.stands f qf) is
-      where
-        of : (x : F) → Standing ms q pace B x t f → x ≡ None → ⊥
-        of x (peon S a d) n = (let z = S.epoch in omega arith)
-        of x (prober S P) n = (let z = S.epoch in omega arith)
-        of None (joined S d) n = d
-        of (Some y) (joined S d) n = cc
-
     -- ---- what goes out to all others
 
     module _ (n : ℕ) (b : Body) (all : es ≡ messages_of (map (message_to me n b) (others me))) where
@@ -386,27 +325,21 @@ module _ (ms : Monitors) (q : List Bool) (pace : Pace) (short : 2 * pace.delay <
       pub goes_out : (P : Owed → Type 0) (j : ℕ) → has q j ≡ true → (j ≡ i → ⊥) → ((k : ℕ) → message_at next.world.messages k ≡ Some (said_to j) → P (record { number = k; by = due })) → ArrivesBy due P (next.under_way i j)
       goes_out P j qj ne f =
           let k = place_to j qj ne in
-          subst (ArrivesBy due P) (sym (under ms q pace short B C early c t X u M next e H i j))
+          subst (ArrivesBy due P) (sym (under ms q pace short B C enough c t X u M next e H i j))
           (arrives_after due P (H.left i j) (owed_by due (numbers i j (suc count) es))
-          (all_left ms q pace short B C early c t X u M next e H (λ o. o.by ≤ due) i j
+          (all_left ms q pace short B C enough c t X u M next e H (λ o. o.by ≤ due) i j
           (all_map (Goes ms q pace B t.world i j (t.time + pace.delay)) (λ o. o.by ≤ due) (λ o G. (let l = G.in_time in let m = M.later in omega arith)) (t.under_way i j) (X.under_way i j H.member qj)))
           (arrives_new due P i j (suc count) es k.0 (said_to j) k.1 refl refl (f (suc count + k.0) (new_at ms q pace t u next e H.left H.went i H.came H.state H.course H.how H.did k.0 (said_to j) k.1))))
 
     -- ---- a member that isn't in the election yet
 
-    module _ (ranks : scores_count ms.rule ≡ false) (quick : pace.delay + pace.late < 2000) (even : is_even B.epoch ≡ true) (fits : suc B.epoch ≤ 2 ^ 62) (room : now + 10000 ≤ 2 ^ 62) (Z : Stock ms q pace B B.epoch i w) where
-      even_here : is_even (epoch_of w) ≡ true
-      even_here = ap is_even Z.epoch ∙ even
-
-      fits_here : suc (epoch_of w) ≤ 2 ^ 62
-      fits_here = let a = Z.epoch in omega arith
-
+    module _ (fits : suc B.epoch ≤ 2 ^ 62) (Z : Kept ms q pace B i w) where
       -- it calls the election
-      call_turn : Calls ms i lt now w H.course → T (first_of c)
+      pub call_turn : Calls ms i lt now w H.course → T (first_of c)
       call_turn K = joins_so Z fits changed (stands_now Z fits changed true (only i) None K.joins (λ j h. subst (λ (z : ℕ). has q z ≡ true) (sym (has_only_is i j h)) H.member) (λ j h. absurd (let clash : None ≡ Some j = h in cc)) (λ _. (refl, refl)))
           (subst (AllByRecursion (S (epoch_of (readings_of (next.world.store i))))) (sym all) (calls_said (epoch_of (readings_of (next.world.store i))) (in_now Z fits changed) (others me)))
           first_calls (λ _ j qj ne. place_to (suc B.epoch) (body.Propose None) all j qj ne)
-          (λ nb N. inl (missed_on ms q pace short B C early c t X u M next e H i H.member (λ n m there from to. at_sent Mute mute n m there to) (λ is. absurd (nb is)) N))
+          (λ nb N. inl (missed_on ms q pace short B C enough c t X u M next e H i H.member (λ n m there from to. at_sent Mute mute n m there to) (λ is. absurd (nb is)) N))
           (λ _ j ne. alone j ne (has H.course.state.elector.acked j) refl)
         where
           changed : H.course.changes ≡ Epoch (suc (epoch_of w)) ∷ []
@@ -430,11 +363,11 @@ module _ (ms : Monitors) (q : List Bool) (pace : Pace) (short : 2 * pace.delay <
       defer_turn : (f : ℕ) (tb : _) (table : _) → Came ms.count H.came f (suc (epoch_of w)) (body.Propose tb) → (is_allowed me f && stands_before me table f i) ≡ true
           → Joins ms i lt now w false no_ranks (Some f) H.course → H.course.out ≡ message_to me (suc (epoch_of w)) body.Ack f ∷ [] → T (first_of c)
       defer_turn f tb table K better J out = joins_so Z fits J.changes (stands_now Z fits J.changes false no_ranks (Some f) J (λ j h. absurd (false≢true (sym (nobody j) ∙ h))) (λ j h. subst (λ (z : ℕ). has q z ≡ true) (let two : Some f ≡ Some j = h in cc) qf) (λ is. not_best is))
-          (subst (AllByRecursion (S (epoch_of (readings_of (next.world.store i))))) (sym sent_is) (record { from = refl; epoch = (let a = Z.epoch in omega arith); call_is = λ k. absurd k; near = λ j qj. tt }, tt))
+          (subst (AllByRecursion (S (epoch_of (readings_of (next.world.store i))))) (sym sent_is) (record { from = refl; epoch = (let a = Z.epoch in omega arith); call_is = λ k. absurd k; near = λ j qj. tt; leaves = tt }, tt))
           first_calls (λ is. not_best is) mine (λ is. not_best is)
         where
-          N : Known K.message
-          N = known K.message K.is
+          N : Known ms q pace B C c t X u next e H K.message
+          N = known ms q pace B C c t X u next e H K.message K.is
 
           qf : has q f ≡ true
           qf = subst (λ (z : ℕ). has q z ≡ true) K.from N.member
@@ -452,35 +385,35 @@ module _ (ms : Monitors) (q : List Bool) (pace : Pace) (short : 2 * pace.delay <
           sent_is = ap messages_of out
 
           first_calls : (j : ℕ) → has q j ≡ true → (j ≡ i → ⊥) → (x : F) → c ≡ x → Called ms q pace B x t j → Called ms q pace B (first_of x) next j
-          first_calls j qj ne None is k = absurd (nobody_in f qf f_in is)
+          first_calls j qj ne None is k = absurd (nobody_in ms q pace B c t X f qf f_in is)
           first_calls j qj ne (Some x) is k = called_on j ne (Some x) k
 
           mine : (i ≡ B.best → ⊥) → Missed ms q pace B t i → Missed ms q pace B next i ⊎ HeardIn ms q pace B (first_of c) next i
           mine nb L = elim (cases_eq f B.best) [
-            | inr ne ↦ inl (missed_on ms q pace short B C early c t X u M next e H i H.member
+            | inr ne ↦ inl (missed_on ms q pace short B C enough c t X u M next e H i H.member
                 (λ n m there from to. at_sent Mute (subst (AllByRecursion Mute) (sym sent_is) ((λ is _. ne is), tt)) n m there to) (λ is. absurd (nb is)) L)
             | inl same ↦ inr (hears same c refl)
           ]
             where
               hears : f ≡ B.best → (x : F) → c ≡ x → HeardIn ms q pace B (first_of x) next i
-              hears same None is = absurd (nobody_in f qf f_in is)
+              hears same None is = absurd (nobody_in ms q pace B c t X f qf f_in is)
               hears same (Some (a, from)) is = (
                 same_in B.best (λ z. nb (sym z)) (subst (IsIn ms q pace B t) same f_in),
                 in_now Z fits J.changes,
                 record {
                   defers = closed (Defers q pace (election ms q pace B from) next.time i) (next.world.state i) H.course.state H.did.up (inl (J.candidate, J.deferred ∙ ap Some same));
-                  acks = inr (subst (ArrivesBy ((election ms q pace B from).by + pace.again + pace.delay) (IsAck ms pace (election ms q pace B from) q next i)) (sym (under ms q pace short B C early c t X u M next e H i B.best ∙ ap (λ (ns : List ℕ). H.left i B.best ++ owed_by due ns) sends))
+                  acks = inr (subst (ArrivesBy ((election ms q pace B from).by + pace.again + pace.delay) (IsAck ms pace (election ms q pace B from) q next i)) (sym (under ms q pace short B C enough c t X u M next e H i B.best ∙ ap (λ (ns : List ℕ). H.left i B.best ++ owed_by due ns) sends))
                       (arrives_last ((election ms q pace B from).by + pace.again + pace.delay) (IsAck ms pace (election ms q pace B from) q next i) (H.left i B.best) (record { number = suc count; by = due })
-                      (all_left ms q pace short B C early c t X u M next e H (λ o. o.by ≤ ((election ms q pace B from).by + pace.again + pace.delay)) i B.best
+                      (all_left ms q pace short B C enough c t X u M next e H (λ o. o.by ≤ ((election ms q pace B from).by + pace.again + pace.delay)) i B.best
                       (all_map (Goes ms q pace B t.world i B.best (t.time + pace.delay)) (λ o. o.by ≤ ((election ms q pace B from).by + pace.again + pace.delay)) (λ o G. (let l = G.in_time in let m = M.later in let k = in_time in omega arith)) (t.under_way i B.best) (X.under_way i B.best H.member C.member)))
                       in_time ack));
                 },
               )
                 where
-                  soon : (u ≤ top ms q pace B + 2 * pace.delay) × (u ≤ from + 3 * pace.delay)
-                  soon = let o = out_by ms q pace short B C early c t X u M i H.member Z.epoch in (o.0, soon_is c is o.1)
+                  soon : (u ≤ B.end) × (u ≤ from + 3 * pace.delay)
+                  soon = let o = out_by ms q pace short B C enough c t X u M i H.member Z.epoch in (o.0, soon_is c is o.1)
                     where
-                      soon_is : (x : F) → x ≡ Some (a, from) → Soon ms q pace short B C early c t X u M x 3 → u ≤ from + 3 * pace.delay
+                      soon_is : (x : F) → x ≡ Some (a, from) → Soon ms q pace short B C enough c t X u M x 3 → u ≤ from + 3 * pace.delay
                       soon_is None z k = absurd cc
                       soon_is (Some (b, at)) z k = (let same : (b, at) ≡ (a, from) = (let two : Some (b, at) ≡ Some (a, from) = z in cc) in let n : at ≡ from = ap (λ (p : ℕ × ℕ). p.1) same in omega arith)
 
@@ -497,140 +430,6 @@ module _ (ms : Monitors) (q : List Bool) (pace : Pace) (short : 2 * pace.delay <
                   ack = let zeroth : suc count + 0 ≡ suc count = omega arith in subst (λ (z : ℕ). message_at next.world.messages z ≡ Some (in_election ms (election ms q pace B from) i B.best body.Ack)) zeroth
                       (new_at ms q pace t u next e H.left H.went i H.came H.state H.course H.how H.did 0 (in_election ms (election ms q pace B from) i B.best body.Ack) (ap (λ (z : List Envelope). slice_get z 0) sent))
 
-      joined_turn : Joined ms i lt now w H.came H.course → T (first_of c)
+      pub joined_turn : Joined ms i lt now w H.came H.course → T (first_of c)
       joined_turn (calls K) = call_turn K
       joined_turn (defers f tb table K better J out) = defer_turn f tb table K better J out
-
-      low : epoch_of w ≤ suc B.epoch
-      low = let a = Z.epoch in omega arith
-
-      -- ---- a peon
-
-      module _ (k : IsSomeAnd (t.world.state i) (FollowsLost q (B.by + pace.clock i))) (a : Called ms q pace B c t i) where
-        L : FollowsLost q (B.by + pace.clock i) H.state
-        L = let o = opened (FollowsLost q (B.by + pace.clock i)) (t.world.state i) k in subst (FollowsLost q (B.by + pace.clock i)) (one_state (t.world.state i) o.0 H.state o.1 H.up) o.2
-
-        outcome : Follows ms i lt now sh w H.state q (B.by + pace.clock i) H.came H.course
-        outcome = (subst (Then (Follows ms i lt now sh w H.state q (B.by + pace.clock i) H.came)) H.reacts
-            (followed ms i lt now sh w H.state q (B.by + pace.clock i) ranks even_here fits_here room (lt-ltb 1 ms.count (several ms q B.best C)) L H.came (of_member H.came refl))).holds
-          where
-            of_member : (x : Input) → H.came ≡ x → IsOfMember ms i lt now sh w H.state q (B.by + pace.clock i) x
-            of_member input.Start is = tt
-            of_member (input.Deliver m) is = (let N = known m is in (N.member, (let l = N.epoch in let z = Z.epoch in omega arith)))
-            of_member (input.Timer kind) is = tt
-            of_member (input.Client session r) is = tt
-
-        -- the first call makes it join
-        called_still : H.course.state.phase ≡ phase.Peon → (x : F) → Called ms q pace B x t i → Called ms q pace B x next i
-        called_still still None z = tt
-        called_still still (Some (f, from)) z = (
-          z.0,
-          z.1,
-          elim (came_or_left ms q pace t u next e H.left H.went i H.came H.state H.course H.how H.did (from + pace.delay) (CallOf f) f i refl z.2) [
-            | inr rest ↦ on ms q pace short B C early c t X u M next e H (from + pace.delay) (CallOf f) (λ o. message_at next.world.messages o.number ≡ Some (call ms q pace B f i))
-                (λ o there. there_still ms q pace short B C early c t X u M next e H o.number (call ms q pace B f i) there) f i rest
-            | inl y ↦ absurd (not_peon (y.0).number y.1 y.2 y.4 y.5)
-          ],
-        )
-          where
-            not_peon : (n : ℕ) (m : Message) → message_at t.world.messages n ≡ Some (call ms q pace B f i) → message_at t.world.messages n ≡ Some (record { to = i; message = m }) → H.came ≡ input.Deliver m → ⊥
-            not_peon n m is there came =
-                let two : Some (call ms q pace B f i) ≡ Some (record { to = i; message = m }) = sym is ∙ there in
-                let same : (call ms q pace B f i).message ≡ m = ap (message_in m) two in
-                let came_is : H.came ≡ input.Deliver (record { from = f; monitors = ms.count; epoch = suc (epoch_of w); body = body.Propose None }) = came ∙ ap input.Deliver (sym same) ∙ ap (λ (n : ℕ). input.Deliver (record { from = f; monitors = ms.count; epoch = suc n; body = body.Propose None })) (sym Z.epoch) in
-                let K : Came ms.count H.came f (suc (epoch_of w)) (body.Propose None) = record { message = record { from = f; monitors = ms.count; epoch = suc (epoch_of w); body = body.Propose None }; is = came_is; from = refl; monitors = refl; epoch = refl; says = refl } in
-                let row = later_propose_row me sh now w H.state (suc (epoch_of w)) None z.1 (ap not ranks) (ap votes L.follows) (odd_of_even (epoch_of w) even_here) (omega arith) in
-                let J = (subst (Then (Joined ms i lt now w H.came)) (sym row ∙ ap (react me sh now w H.state) (sym came_is) ∙ H.reacts)
-                (proposed ms i lt now w ranks even_here fits_here room H.state calm (ap (λ (p : Phase). same_phase p phase.Electing) L.follows) H.came f None K)).holds in
-                joins_not J
-              where
-                calm : end_of timer.Ping H.state.timers ≡ None
-                calm = by_end (end_of timer.Ping H.state.timers) refl
-                  where
-                    by_end : (o : Option ℕ) → end_of timer.Ping H.state.timers ≡ o → o ≡ None
-                    by_end None z = refl
-                    by_end (Some end) z = elim (L.only timer.Ping end z) [ inl k ↦ absurd cc | inr k ↦ absurd cc ]
-
-                clash : H.course.state.phase ≡ phase.Electing → ⊥
-                clash z = false≢true (ap (λ (p : Phase). same_phase p phase.Electing) (sym still) ∙ ap (λ (p : Phase). same_phase p phase.Electing) z)
-
-                joins_not : Joined ms i lt now w H.came H.course → ⊥
-                joins_not (calls Q) = let N = Q.joins in clash N.phase
-                joins_not (defers g tb table Q better N out) = clash N.phase
-
-        pub peon_turn : T c ⊎ T (first_of c)
-        peon_turn = of outcome
-          where
-            of : Follows ms i lt now sh w H.state q (B.by + pace.clock i) H.came H.course → T c ⊎ T (first_of c)
-            of (joins J) = inr (joined_turn J)
-            of (stays G same quiet) = inl (stays_out Z same (peon (stock_kept Z same) (closed (FollowsLost q (B.by + pace.clock i)) (next.world.state i) H.course.state H.did.up G) (called_still G.follows c a))
-                (quiet_said (epoch_of (readings_of (next.world.store i))) H.course.out Z.first_is Z.last_is low quiet) (quiet_mute H.course.out quiet))
-            of (begins is G) = inl (stays_out Z G.changes (prober (stock_kept Z G.changes) (record {
-              at = u;
-              begun = (let z = time_is in omega arith);
-              early = peon_by ms q pace short B C early c t X u M i H.member k;
-              since = since_now c (called_by ms q pace short B C early c t X u M i H.member c a);
-              probing = closed (IsProbing ms pace i u) (next.world.state i) H.course.state H.did.up (record {
-                probes = G.probes;
-                ranks = ap length G.outside ∙ length-set no_ranks i true;
-                own = ap (λ (z : List Bool). has z i) G.outside ∙ has_only i (let a = C.members i H.member in let b = ms.most in omega arith);
-                few = ap (is_majority ms.count) G.outside ∙ le-ltb ms.count (2 * count_of (only i)) (let f = one_counts (only i) i (λ m h. has_only_is i m h) in let n = several ms q B.best C in omega arith);
-                timers = λ kind end on. (let z = (G.timers kind end on).1 in omega arith);
-              });
-              calm = closed (λ (s : State). end_of timer.Ping s.timers ≡ None) (next.world.state i) H.course.state H.did.up (no_ping (end_of timer.Ping H.course.state.timers) refl);
-              awaits = λ j qj ne. inl (goes_out (epoch_of w) body.Probe sent_is (IsProbe ms pace i u next.world.messages j) j qj ne (λ k there. record { epoch = epoch_of w; there = there }));
-            }))
-                (subst (AllByRecursion (S (epoch_of (readings_of (next.world.store i))))) (sym sent_is) (letters (S (epoch_of (readings_of (next.world.store i)))) (epoch_of w) body.Probe (λ to. record { from = refl; epoch = low; call_is = λ k. absurd k; near = λ j qj. tt }) (others me)))
-                (subst (AllByRecursion Mute) (sym sent_is) (letters Mute (epoch_of w) body.Probe (λ to _ k. cc) (others me))))
-              where
-                sent_is : es ≡ messages_of (map (message_to me (epoch_of w) body.Probe) (others me))
-                sent_is = ap messages_of G.out
-
-                no_ping : (o : Option ℕ) → end_of timer.Ping H.course.state.timers ≡ o → o ≡ None
-                no_ping None z = refl
-                no_ping (Some end) z = absurd (let k = (G.timers timer.Ping end z).0 in cc)
-
-                since_now : (x : F) → Soon ms q pace short B C early c t X u M x 1 → Since ms q pace B x u
-                since_now None z = tt
-                since_now (Some (f, from)) z = omega arith
-
-      -- ---- a member that probes
-
-      module _ (P : Prober ms q pace B c t i) where
-        abbrev Y : Probes ms pace i P.at q t
-        Y = probes ms q pace short B C early c t X u M i H.member P
-
-        probed_now : Probed ms i lt now sh w H.state H.came H.course
-        probed_now = probed_so ms q pace i P.at short t Y u M next e H (ready ms q pace short B C early c t X u M e) refl
-
-        calm_now : end_of timer.Ping H.state.timers ≡ None
-        calm_now = let o = opened (λ (s : State). end_of timer.Ping s.timers ≡ None) (t.world.state i) P.calm in subst (λ (s : State). end_of timer.Ping s.timers ≡ None) (one_state (t.world.state i) o.0 H.state o.1 H.up) o.2
-
-        pub prober_turn : T c ⊎ T (first_of c)
-        prober_turn = of probed_now
-          where
-            of : Probed ms i lt now sh w H.state H.came H.course → T c ⊎ T (first_of c)
-            of (keeps K) = inl (stays_out Z K.changes (prober (stock_kept Z K.changes) (still_so (goes ms q pace i P.at short t Y u M next e H (ready ms q pace short B C early c t X u M e))))
-                (quiet_said (epoch_of (readings_of (next.world.store i))) H.course.out Z.first_is Z.last_is low K.quiet) (quiet_mute H.course.out K.quiet))
-              where
-                still_so : Probes ms pace i P.at q next ⊎ IsSomeAnd (next.world.state i) (λ s. same_phase s.phase phase.Probing ≡ false) → Prober ms q pace B c next i
-                still_so (inr left) =
-                    let b = opened (λ (s : State). same_phase s.phase phase.Probing ≡ false) (next.world.state i) left in
-                    absurd (false≢true (sym b.2 ∙ ap (λ (s : State). same_phase s.phase phase.Probing) (one_state (next.world.state i) b.0 H.course.state b.1 H.did.up) ∙ ap (λ (p : Phase). same_phase p phase.Probing) K.probes))
-                still_so (inl N) = record {
-                  at = P.at;
-                  begun = (let b = P.begun in let l = M.later in let z = time_is in omega arith);
-                  early = P.early;
-                  since = P.since;
-                  probing = N.probing;
-                  calm = closed (λ (s : State). end_of timer.Ping s.timers ≡ None) (next.world.state i) H.course.state H.did.up (ap (end_of timer.Ping) K.timers ∙ calm_now);
-                  awaits = N.awaits;
-                }
-            of (elects z away ts is left) = inr (call_turn (subst (Then (Calls ms i lt now w)) is (called_row ms i lt now w ranks even_here fits_here room z (ap (end_of timer.Ping) ts ∙ calm_now) away)).holds)
-            of (copies far left) = absurd (too_far H.came refl far)
-              where
-                too_far : (x : Input) → H.came ≡ x → IsFar ms i lt now sh w H.state x → ⊥
-                too_far input.Start is k = k
-                too_far (input.Deliver m) is k = let N = known m is in k (subst (λ (n : ℕ). IsNearIn n m.body) (sym Z.last_is) N.close)
-                too_far (input.Timer kind) is k = k
-                too_far (input.Client session r) is k = k

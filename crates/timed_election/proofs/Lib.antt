@@ -4,8 +4,11 @@ pub mod Ending
 pub mod Entering
 pub mod Events
 pub mod FollowingRows
+pub mod FollowingTurns
 pub mod JoinedTurns
 pub mod Joining
+pub mod JoiningBegins
+pub mod JoiningComes
 pub mod JoiningFrame
 pub mod JoiningRun
 pub mod JoiningTurns
@@ -15,8 +18,10 @@ pub mod Outcomes
 pub mod Parts
 pub mod Probing
 pub mod ProbingRows
+pub mod ProbingTurns
 pub mod Quiet
 pub mod Ranking
 pub mod Remaining
 pub mod Times
 pub mod Turning
+pub mod Winning

@@ -5,13 +5,18 @@ use Rattle.mon_wire.specs.declared.body.Body.TheVariants as body
 use Rattle.quorum_timed.specs.Calls.{IsCall}
 use Rattle.std.proofs.Common.{List, subst, ℕ, ◌&&◌, ◌≡◌}
 use Rattle.std.proofs.lemmas.Bool.{cond_both}
+use Rattle.timed_election.specs.Joining.{LeavesStores}
 
 module _ (w : Readings) where
-  -- Neither a call nor an acknowledgement. A reply to a probe has the versions that are kept.
+  -- Neither a call nor an acknowledgement, and it changes no store of a peon. A reply to a probe has the versions that are
+  -- kept.
   abbrev pub IsPlain : Body → Type 0
   IsPlain (body.Propose table) = ⊥
   IsPlain body.Ack = ⊥
   IsPlain (body.ProbeReply quorum first last) = (first ≡ w.first) × (last ≡ w.last)
+  IsPlain (body.Collect pn first last) = ⊥
+  IsPlain (body.Begin pn v value) = ⊥
+  IsPlain (body.Commit from values) = ⊥
   IsPlain other = Unit {0}
 
   pub no_call : (b : Body) → IsPlain b → IsCall b → ⊥
@@ -20,6 +25,12 @@ module _ (w : Readings) where
 
   pub no_ack : (b : Body) → IsPlain b → b ≡ body.Ack → ⊥
   no_ack b p is = subst IsPlain is p
+
+  pub leaves_stores : (b : Body) → IsPlain b → LeavesStores b
+  leaves_stores (body.Collect pn first last) p = p
+  leaves_stores (body.Begin pn v value) p = p
+  leaves_stores (body.Commit from values) p = p
+  leaves_stores other p = tt
 
   -- a chunk calls nobody
   pub plain_chunk : (n : ℕ) (c : Cookie) (p : Place) (left : List Entry) → IsPlain (chunk w.last c p left n w.record_of)

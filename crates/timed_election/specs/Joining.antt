@@ -1,9 +1,11 @@
--- Members whose leader is lost, and how all of them join one election.
+-- Members whose leader is lost, or leads no longer, and how all of them join one election.
+use Rattle.mon_msg.specs.Protocol.Changes.{Epoch}
 use Rattle.mon_msg.specs.Protocol.Entering.{is_even}
+use Rattle.mon_msg.specs.Protocol.Played.{played}
 use Rattle.mon_msg.specs.Protocol.Probing.{lag}
 use Rattle.mon_msg.specs.Protocol.Readings.{epoch_of, readings_of}
 use Rattle.mon_msg.specs.Protocol.State.{State}
-use Rattle.mon_msg.specs.Protocol.Timers.{end_of}
+use Rattle.mon_msg.specs.Protocol.Timers.{end_of, length_of}
 use Rattle.mon_types.specs.Ranks.{has}
 use Rattle.mon_wire.specs.declared.body.Body.TheVariants as body
 use Rattle.mon_wire.specs.declared.body.Body.{Body}
@@ -14,11 +16,13 @@ use Rattle.mon_wire.specs.declared.phase.Timer.{Timer}
 use Rattle.quorum_model.specs.Meets.{message_at}
 use Rattle.quorum_model.specs.Monitors.{Monitors}
 use Rattle.quorum_model.specs.World.{Envelope, Event}
+use Rattle.quorum_stays.specs.Steady.{FollowsSince}
 use Rattle.quorum_timed.specs.Calls.{IsCall}
 use Rattle.quorum_timed.specs.Timed.{Leads, Owed, Pace, Timed}
 use Rattle.std.specs.List.{AllByRecursion}
-use Rattle.std.specs.Prelude.{Bool, IsSomeAnd, List, Some, false, length, max, suc, true, ℕ, ◌+◌, ◌++◌, ◌^◌, ◌≡◌, ◌≤◌, ◌⊎◌}
-use Rattle.timed_election.specs.Election.{Election, Elects}
+use Rattle.std.specs.Prelude.{Bool, IsSomeAnd, List, None, Some, [], false, length, max, suc, true, ℕ, ◌*◌, ◌+◌, ◌++◌, ◌<◌, ◌^◌, ◌∷◌, ◌≡◌, ◌≤◌, ◌⊎◌}
+use Rattle.timed_election.specs.Election.{ArrivesBy, Election, Elects}
+use Rattle.timed_election.specs.Probing.{IsProbe, IsProbing}
 
 -- ---- the beginning
 
@@ -56,29 +60,59 @@ pub record IsOld (epoch : ℕ) (messages : List Envelope) (f i top : ℕ) (o : O
   pub kind : IsOther envelope.message.body
   pub in_time : o.by ≤ top
 
--- In an even epoch each member follows a monitor outside of q, until `by` at the latest. No member needs a copy of
--- another's versions, and no member called an election of a later epoch yet.
-pub record Deserted (q : List Bool) (pace : Pace) (epoch by : ℕ) (t : Timed) : Type 0 where
+-- a message that changes no store of a peon
+abbrev pub LeavesStores : Body → Type 0
+LeavesStores (body.Collect pn first last) = ⊥
+LeavesStores (body.Begin pn v value) = ⊥
+LeavesStores (body.Commit from values) = ⊥
+LeavesStores other = Unit {0}
+
+-- The members of q are in this even epoch. No member needs a copy of another's versions, and no member called an election
+-- of a later epoch yet.
+pub record Uncalled (q : List Bool) (pace : Pace) (epoch : ℕ) (t : Timed) : Type 0 where
   pub even : is_even epoch ≡ true
   pub fits : suc epoch ≤ 2 ^ 62
   pub since : pace.since ≤ t.time
-  pub before : t.time ≤ by
   pub epoch_is : (i : ℕ) → has q i ≡ true → epoch_of (readings_of (t.world.store i)) ≡ epoch
   pub unmarked : (i : ℕ) → has q i ≡ true → (readings_of (t.world.store i)).marked ≡ false
   pub near : (i j : ℕ) → has q i ≡ true → has q j ≡ true
       → IsNear (readings_of (t.world.store i)).last (readings_of (t.world.store j)).first
       (readings_of (t.world.store j)).last
-  pub follow : (i : ℕ) → has q i ≡ true → IsSomeAnd (t.world.state i) (FollowsLost q (by + pace.clock i))
   pub under_way : (f i : ℕ) → has q f ≡ true → has q i ≡ true
       → AllByRecursion (IsOld epoch t.world.messages f i (t.time + pace.delay)) (t.under_way f i)
   pub uncalled : (k : ℕ) (m : Envelope) → message_at t.world.messages k ≡ Some m → has q m.message.from ≡ true
       → IsCall m.message.body → m.message.epoch ≤ epoch
   pub calls : (f i : ℕ) → has q f ≡ true → has q i ≡ true → t.call_by f i ≤ t.time + pace.again
 
+-- Each member follows a monitor outside of q, until `by` at the latest.
+pub record Deserted (q : List Bool) (pace : Pace) (epoch by : ℕ) (t : Timed) : Type 0 where
+  pub uncalled : Uncalled q pace epoch t
+  pub before : t.time ≤ by
+  pub follow : (i : ℕ) → has q i ≡ true → IsSomeAnd (t.world.state i) (FollowsLost q (by + pace.clock i))
+
+-- One member led the others, and just began to probe. Each other gets its PROBE within a delay, and nothing from it that
+-- changes a store. The others follow it on for more than three delays: they got their last leases at `leased` or later.
+pub record Parted (ms : Monitors) (q : List Bool) (pace : Pace) (leader epoch : ℕ) (t : Timed) : Type 0 where
+  pub uncalled : Uncalled q pace epoch t
+  pub member : has q leader ≡ true
+  pub probes : IsSomeAnd (t.world.state leader)
+      (λ s. IsProbing ms pace leader t.time s × (end_of timer.Ping s.timers ≡ None))
+  pub asks : (i : ℕ) → has q i ≡ true → (i ≡ leader → ⊥)
+      → ArrivesBy (t.time + pace.delay) (IsProbe ms pace leader t.time t.world.messages i) (t.under_way leader i)
+  pub leaves : (i : ℕ) → has q i ≡ true
+      → AllByRecursion (λ o. IsSomeAnd (message_at t.world.messages o.number) (λ m. LeavesStores m.message.body))
+      (t.under_way leader i)
+  pub quorum : List Bool
+  pub leased : ℕ
+  pub before : leased ≤ t.time
+  pub lasts : t.time + 3 * pace.delay < leased + length_of timer.Lease
+  pub follow : (i : ℕ) → has q i ≡ true → (i ≡ leader → ⊥)
+      → IsSomeAnd (t.world.state i) (FollowsSince leader quorum (leased + pace.clock i))
+
 -- ---- its end
 
 -- At some time of the run, and by time u, all members take part in the election of this epoch, which `best` is to win.
--- The run goes on from there.
+-- They changed nothing in their stores but the epoch. The run goes on from there.
 pub record JoinBy (ms : Monitors) (q : List Bool) (pace : Pace) (best epoch : ℕ) (t last : Timed)
     (more : List (ℕ × Event)) (u : ℕ) : Type 0 where
   pub before : List (ℕ × Event)
@@ -93,3 +127,5 @@ pub record JoinBy (ms : Monitors) (q : List Bool) (pace : Pace) (best epoch : �
   pub soon : reached.time ≤ election.by
   pub by : election.by ≤ u
   pub elects : Elects ms q pace election reached
+  pub kept : (i : ℕ) → has q i ≡ true
+      → readings_of (reached.world.store i) ≡ played (Epoch epoch ∷ []) (readings_of (t.world.store i))

@@ -6,7 +6,7 @@ ghost use Rattle.quorum_stays.specs.SteppingDown.{EachIs};
 ghost use Rattle.quorum_timed.specs.Begins.{IsQuick};
 ghost use Rattle.quorum_timed.specs.Timed.{Leads, Pace, Timed};
 ghost use Rattle.timed_election.specs.Election.{CanElect, Election, Elects, IsWonBy};
-ghost use Rattle.timed_election.specs.Joining.{Deserted, JoinBy};
+ghost use Rattle.timed_election.specs.Joining.{Deserted, JoinBy, Parted};
 ghost use Rattle.timed_election.specs.Keeping.{IsWonWithin};
 ghost use Rattle.timed_election.specs.Probing.{CanAnswer, GoesOnBy, Probes};
 
@@ -29,6 +29,17 @@ pub fn law_members_join()
         → Deserted q pace epoch by t → Leads ms q pace t more last → ClocksGoOn q pace last.time
         → by + pace.late + 2 * pace.delay < last.time
         → JoinBy ms q pace best (suc epoch) t last more (by + pace.late + 2 * pace.delay) }
+{}
+
+/// The members of a majority also join one election if one of them led the others, and now probes. It calls the election
+/// when it hears that the others are in a quorum or that a majority isn't. Each other member joins when it hears the call.
+/// So all take part within three delays.
+pub fn law_parted_members_join()
+    ensures { (ms : Monitors) (q : List Bool) (pace : Pace) (best leader epoch : ℕ) (t last : Timed)
+        (more : List (ℕ × Event)) → IsQuick pace → 2 * pace.delay < 2000 → CanElect ms q best
+        → Parted ms q pace leader epoch t → Leads ms q pace t more last → ClocksGoOn q pace last.time
+        → t.time + 3 * pace.delay < last.time
+        → JoinBy ms q pace best (suc epoch) t last more (t.time + 3 * pace.delay) }
 {}
 
 /// An election ends in time if all members of a majority joined it within three delays. The member that outranks the

@@ -3,4 +3,7 @@
 
 mod laws;
 
-pub use laws::{law_election_ends, law_election_leaves_votes, law_members_join, law_probing_ends};
+pub use laws::{
+    law_election_ends, law_election_leaves_votes, law_members_join, law_parted_members_join,
+    law_probing_ends,
+};
