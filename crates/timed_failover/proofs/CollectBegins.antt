@@ -1,23 +1,22 @@
 -- A leader that just won asks its quorum, if all else that is under way is of the election, and all stores are near.
 use Rattle.law_names.proofs.Runs.{Envelope, Monitors, message_at}
-use Rattle.law_names.proofs.Table.{AllByRecursion, Found, Leader, Op, Readings, State, Timer, are_within, end_of, epoch_of, found_as, has, is_even, length_of, most_value, no_ranks, only, pending, pending_of, promise_of, readings_of, record_at, start_leader, text}
+use Rattle.law_names.proofs.Table.{AllByRecursion, Found, Leader, Op, Readings, State, are_within, end_of, found_as, has, is_even, most_value, no_ranks, only, pending, pending_of, promise_of, readings_of, record_at, text}
 use Rattle.log_model.proofs.Lists.{all_both, all_map}
 use Rattle.mon_wire.specs.declared.body.Body.TheVariants as body
 use Rattle.mon_wire.specs.declared.phase.Timer.TheVariants as timer
 use Rattle.quorum_stays.proofs.Carrying.{carries_append}
 use Rattle.quorum_stays.proofs.Onward.{pack, unpack}
-use Rattle.quorum_stays.specs.Steady.{AreApart, Carries, IsAside, IsOfCommand, IsOfElections, Item, Reign, item}
+use Rattle.quorum_stays.specs.Steady.{Carries, IsAside, IsOfCommand, IsOfElections, Reign, item}
 use Rattle.quorum_timed.specs.Begins.{IsQuick}
 use Rattle.quorum_timed.specs.Timed.{Owed, Pace, Timed}
 use Rattle.quorum_walk.proofs.Ranks.{has_only, has_only_is, within_at}
-use Rattle.std.proofs.Common.{Bool, IsSomeAnd, List, None, Option, Some, [], ap, arith, cond, eqb, false, inl, inr, length, option_map, refl, subst, suc, sym, true, zero, ℕ, ◌*◌, ◌++◌, ◌+◌, ◌<◌, ◌^◌, ◌∙◌, ◌∷◌, ◌≡◌, ◌≤◌, ◌⊎◌}
-use Rattle.std.proofs.lemmas.Bool.{eqb-true, ltb-true}
+use Rattle.std.proofs.Common.{Bool, IsSomeAnd, List, None, Option, Some, [], ap, arith, cond, eqb, false, inl, inr, length, option_map, refl, subst, suc, sym, true, ℕ, ◌*◌, ◌++◌, ◌+◌, ◌<◌, ◌^◌, ◌∙◌, ◌∷◌, ◌≡◌, ◌≤◌}
+use Rattle.std.proofs.lemmas.Bool.{eqb-true}
 use Rattle.std.proofs.lemmas.List.{length-set}
-use Rattle.std.specs.Prelude.{option_and_then}
 use Rattle.timed_election.proofs.Lists.{opened}
 use Rattle.timed_election.specs.Election.{BeginsToCollect, CanElect, Defers, Election, IsOfElection, IsTold, IsWon, TakesPart, reign_of}
 use Rattle.timed_failover.proofs.CollectKeeps.{asides}
-use Rattle.timed_failover.specs.Collecting.{CanLearn, Collects, Electing, IsAsked, IsNear, IsStocked, IsWhole, Query, Questioned, StillElects, answer_to}
+use Rattle.timed_failover.specs.Collecting.{CanLearn, Collects, Electing, IsAsked, IsStocked, IsWhole, Query, Questioned, StillElects, answer_to}
 
 -- sets with the same ranks are the same
 same_ranks : (a b : List Bool) → length a ≡ length b → ((i : ℕ) → has a i ≡ has b i) → a ≡ b

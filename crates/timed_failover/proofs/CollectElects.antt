@@ -1,7 +1,7 @@
 -- A new leader still asks after an event at a member that takes part in the election: until the VICTORY comes, what is under
 -- way is a vote, a call may come again, and its own timer may fire. It calls and defers as before, and doesn't win.
 use Rattle.law_names.proofs.Runs.{Envelope, Event, Monitors, messages_of}
-use Rattle.law_names.proofs.Table.{AllByRecursion, Course, Entry, Input, Me, Message, Readings, Sent, State, Timer, armed, disarmed, end_of, epoch_of, has, is_alone, is_even, is_majority, is_whole, no_ranks, only, others, react, readings_of, shared_entries, with_rank}
+use Rattle.law_names.proofs.Table.{AllByRecursion, Course, Input, Me, Message, Readings, Sent, State, Timer, armed, disarmed, end_of, epoch_of, has, is_alone, is_even, is_majority, is_whole, no_ranks, only, others, react, readings_of, shared_entries, with_rank}
 use Rattle.mon_msg.specs.declared.input.Input.TheVariants as input
 use Rattle.mon_msg.specs.declared.plan.Sent.TheVariants as sent
 use Rattle.mon_wire.specs.declared.body.Body.TheVariants as body
@@ -15,7 +15,7 @@ use Rattle.quorum_timed.specs.Begins.{IsQuick}
 use Rattle.quorum_timed.specs.Timed.{Owed, Pace, Timed, Went, at_time}
 use Rattle.quorum_walk.proofs.Ranks.{has_only_is, has_with_is, nobody}
 use Rattle.quorum_walk.proofs.Walk.{Then}
-use Rattle.std.proofs.Common.{Bool, List, None, Ok, Option, Some, [], ap, arith, false, inl, inr, length, ltb, map, refl, subst, suc, sym, true, ℕ, ◌+◌, ◌<◌, ◌^◌, ◌∙◌, ◌∷◌, ◌≡◌, ◌≤◌}
+use Rattle.std.proofs.Common.{Bool, List, None, Ok, Option, Some, [], ap, arith, false, inl, inr, length, ltb, map, refl, subst, sym, true, ℕ, ◌+◌, ◌<◌, ◌^◌, ◌∙◌, ◌∷◌, ◌≡◌, ◌≤◌}
 use Rattle.std.proofs.lemmas.Bool.{false≢true}
 use Rattle.timed_election.proofs.Coming.{How, again, asks, fires, first}
 use Rattle.timed_election.proofs.Counting.{not_whole, several}

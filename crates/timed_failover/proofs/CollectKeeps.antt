@@ -1,18 +1,18 @@
 -- What stays as it was while a new leader asks, at an event that sends nothing of its round.
-use Rattle.law_names.proofs.Runs.{Envelope, Event, Monitors, message_at, messages_of}
-use Rattle.law_names.proofs.Table.{AllByRecursion, Body, Change, Course, Fits, Input, Readings, State, Store, epoch_of, has, pending, played, promise_of, readings_of}
+use Rattle.law_names.proofs.Runs.{Envelope, Event, Monitors, messages_of}
+use Rattle.law_names.proofs.Table.{AllByRecursion, Body, Change, Course, Fits, Input, Readings, State, Store, played, readings_of}
 use Rattle.quorum_stays.proofs.Carrying.{Gives, before_due, carries_append, carries_on, due_at, new_carries}
 use Rattle.quorum_stays.proofs.Onward.{one_state, pack, unpack}
 use Rattle.quorum_stays.proofs.Stepping.{Did}
 use Rattle.quorum_stays.proofs.UnderWay.{all_numbers, all_owed, numbers}
 use Rattle.quorum_stays.specs.Steady.{Carries, IsAside, IsOfClients, IsOfEarlier, Item, Reign}
 use Rattle.quorum_timed.specs.Timed.{Owed, Pace, Timed, Went, at_time, owed_by}
-use Rattle.std.proofs.Common.{Bool, IsSomeAnd, List, Option, Some, [], ap, arith, inl, inr, is_some, length, refl, slice_get, subst, suc, sym, true, ℕ, ◌++◌, ◌+◌, ◌∙◌, ◌∷◌, ◌≡◌, ◌≤◌, ◌⊎◌}
+use Rattle.std.proofs.Common.{Bool, IsSomeAnd, List, Some, [], ap, arith, inl, inr, length, refl, subst, suc, sym, ℕ, ◌++◌, ◌+◌, ◌∙◌, ◌∷◌, ◌≡◌, ◌≤◌, ◌⊎◌}
 use Rattle.std.proofs.lemmas.Bool.{cases_eq}
 use Rattle.std.proofs.lemmas.List.{append-nil}
 use Rattle.timed_election.proofs.Coming.{How, new_at, time_is, under_now}
 use Rattle.timed_election.proofs.Lists.{at_place}
-use Rattle.timed_failover.specs.Collecting.{Electing, Following, IsAs, IsNoted, IsWhole, KeepsAs, Noted, Progress, Promised, Query, Questioned, answer_to, from_such, reign, to_such}
+use Rattle.timed_failover.specs.Collecting.{Query, reign}
 
 module _ (ms : Monitors) (q : List Bool) (pace : Pace) (x : Query) where
   abbrev pub R : Reign

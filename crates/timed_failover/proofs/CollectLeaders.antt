@@ -1,7 +1,6 @@
 -- What a new leader keeps and remembers after a LAST of a member.
 use Rattle.law_names.proofs.Runs.{Monitors}
-use Rattle.law_names.proofs.Table.{AllByRecursion, Change, Course, Entry, Fits, Found, Last, Learn, Me, Op, Readings, State, Which, all_answered, are_within, at_rest, epoch_of, has, most_value, pending, play, played, promise_of, record_at, text, with_rank}
-use Rattle.mon_msg.specs.Protocol.Leader.{note_answer}
+use Rattle.law_names.proofs.Table.{AllByRecursion, Change, Course, Entry, Fits, Found, Last, Learn, Me, Readings, State, Which, are_within, epoch_of, has, most_value, pending, play, played, promise_of, record_at, text, with_rank}
 use Rattle.mon_wire.specs.declared.phase.Phase.TheVariants as phase
 use Rattle.quorum_model.proofs.Members.{member_of}
 use Rattle.quorum_recovers.proofs.States.{get_other, get_set}
@@ -9,13 +8,12 @@ use Rattle.quorum_stays.proofs.Stores.{learned_epoch, learned_promise}
 use Rattle.quorum_stays.specs.Steady.{IsOfCommand}
 use Rattle.quorum_timed.specs.Timed.{Pace}
 use Rattle.quorum_walk.proofs.Ranks.{has_with, has_with_is}
-use Rattle.std.proofs.Common.{Bool, IsSomeAnd, List, None, Ok, Option, Result, Some, [], ap, arith, drop, false, inl, inr, is_some, length, ltb, refl, slice_index_or, slice_set, subst, suc, sym, true, ℕ, ◌&&◌, ◌+◌, ◌-◌, ◌<◌, ◌^◌, ◌∙◌, ◌∷◌, ◌≡◌, ◌≤◌, ◌⊎◌}
+use Rattle.std.proofs.Common.{Bool, List, Result, Some, [], ap, arith, drop, false, inl, inr, length, ltb, refl, subst, suc, sym, true, ℕ, ◌&&◌, ◌-◌, ◌<◌, ◌^◌, ◌∙◌, ◌∷◌, ◌≡◌, ◌≤◌}
 use Rattle.std.proofs.Math.Seq.{drop-nil}
 use Rattle.std.proofs.lemmas.Bool.{cases_order, false≢true, le-ltb}
 use Rattle.std.proofs.lemmas.List.{get_or-set_same, length-set}
 use Rattle.table_rows.proofs.Hearing.{IsMember, hears}
-use Rattle.table_rows.proofs.Serving.{learned}
-use Rattle.timed_failover.proofs.CollectRows.{Says, after_note, found_either, found_later, found_there, found_with, notes, says, takes_new, takes_old}
+use Rattle.timed_failover.proofs.CollectRows.{Says, after_note, found_either, found_later, found_there, notes, says, takes_new, takes_old}
 use Rattle.timed_failover.specs.Collecting.{CanLearn, Collects, Electing, Following, IsNear, IsNoted, IsStocked, IsWhole, Noted, Progress, Promised, Query, answer_to}
 
 -- ---- the answer of a member

@@ -1,27 +1,26 @@
 -- A new leader still asks after a member heard its VICTORY, or its COLLECT.
 use Rattle.law_names.proofs.Runs.{Envelope, Event, Monitors, messages_of}
-use Rattle.law_names.proofs.Table.{AllByRecursion, Body, Change, Course, Epoch, Fits, Input, Me, Promise, Readings, State, at_rest, epoch_of, has, is_majority, message_to, play, played, promise_of, react, readings_of, shared_entries, votes}
+use Rattle.law_names.proofs.Table.{AllByRecursion, Body, Course, Epoch, Fits, Input, Me, Promise, Readings, State, at_rest, epoch_of, has, message_to, play, played, promise_of, react, readings_of, shared_entries, votes}
 use Rattle.mon_msg.specs.Protocol.Elections.{follow}
 use Rattle.mon_msg.specs.declared.input.Input.TheVariants as input
 use Rattle.mon_wire.specs.declared.body.Body.TheVariants as body
-use Rattle.mon_wire.specs.declared.phase.Phase.TheVariants as phase
 use Rattle.quorum_model.proofs.Members.{member_of}
-use Rattle.quorum_stays.proofs.Carrying.{Gives, due_at}
+use Rattle.quorum_stays.proofs.Carrying.{Gives}
 use Rattle.quorum_stays.proofs.Onward.{here_left, one_state, other_left, pack, unpack}
 use Rattle.quorum_stays.proofs.States.{begun_follows}
 use Rattle.quorum_stays.proofs.Stepping.{Did}
 use Rattle.quorum_stays.specs.Steady.{Carries, FollowsSince, Item, Reign, in_reign, item}
 use Rattle.quorum_timed.specs.Timed.{Owed, Pace, Timed, Went, at_time, without_first}
 use Rattle.quorum_walk.proofs.Parity.{even_of_odd}
-use Rattle.std.proofs.Common.{Bool, IsSomeAnd, List, None, Ok, Option, Some, [], ap, arith, false, inl, inr, ltb, refl, subst, suc, sym, true, ℕ, ◌&&◌, ◌*◌, ◌++◌, ◌+◌, ◌<◌, ◌^◌, ◌∙◌, ◌∷◌, ◌≡◌, ◌≤◌}
-use Rattle.std.proofs.lemmas.Bool.{cases_eq, le-ltb}
+use Rattle.std.proofs.Common.{Bool, IsSomeAnd, List, None, Ok, Some, [], ap, arith, false, inl, inr, ltb, refl, subst, suc, sym, true, ℕ, ◌&&◌, ◌*◌, ◌+◌, ◌^◌, ◌∙◌, ◌∷◌, ◌≡◌, ◌≤◌}
+use Rattle.std.proofs.lemmas.Bool.{cases_eq}
 use Rattle.std.proofs.lemmas.List.{append-nil}
 use Rattle.table_rows.proofs.Electing.{victory_row}
 use Rattle.timed_election.proofs.Coming.{How}
 use Rattle.timed_election.specs.Election.{CanElect}
-use Rattle.timed_failover.proofs.CollectKeeps.{L, R, es, gives_on, now_is, on_state, other_store}
+use Rattle.timed_failover.proofs.CollectKeeps.{L, R, gives_on, now_is, on_state, other_store}
 use Rattle.timed_failover.proofs.CollectRows.{follows_since, promises}
-use Rattle.timed_failover.specs.Collecting.{CanLearn, Collects, Electing, Following, IsAs, IsAsked, IsNear, IsNoted, IsStocked, IsWhole, KeepsAs, Noted, Progress, Promised, Query, Questioned, StillElects, answer_to, from_such, to_such}
+use Rattle.timed_failover.specs.Collecting.{CanLearn, Collects, Electing, Following, IsAs, IsAsked, IsNear, IsNoted, IsStocked, IsWhole, KeepsAs, Promised, Query, Questioned, StillElects, answer_to, from_such, to_such}
 
 -- one item may be due later
 due_later : (ms : Monitors) (reign : Reign) (f j : ℕ) (messages : List Envelope) (top : ℕ) (b : Body) (by later : ℕ) → by ≤ later → (os : List Owed) → Carries ms reign messages f j top (item b by ∷ []) os → Carries ms reign messages f j top (item b later ∷ []) os

@@ -1,12 +1,12 @@
 -- A new leader still asks after an event that writes nothing and sends nothing of its round.
-use Rattle.law_names.proofs.Runs.{Envelope, Event, Monitors, messages_of}
+use Rattle.law_names.proofs.Runs.{Event, Monitors, messages_of}
 use Rattle.law_names.proofs.Table.{AllByRecursion, Course, Input, Readings, State, epoch_of, has, promise_of, readings_of}
 use Rattle.quorum_stays.proofs.Stepping.{Did}
 use Rattle.quorum_stays.specs.Steady.{Carries, Item}
 use Rattle.quorum_timed.specs.Timed.{Owed, Pace, Timed, Went, at_time}
 use Rattle.std.proofs.Common.{Bool, IsSomeAnd, List, Some, [], arith, subst, suc, sym, true, ℕ, ◌+◌, ◌∙◌, ◌≡◌, ◌≤◌}
 use Rattle.timed_election.proofs.Coming.{How}
-use Rattle.timed_failover.proofs.CollectKeeps.{IsApart, L, R, apart_on, es, every_store, now_is, on_state}
+use Rattle.timed_failover.proofs.CollectKeeps.{IsApart, L, R, apart_on, every_store, now_is, on_state}
 use Rattle.timed_failover.specs.Collecting.{CanLearn, Collects, IsAs, IsAsked, IsNear, IsNoted, IsStocked, IsWhole, KeepsAs, Progress, Query, Questioned, answer_to, from_such, to_such}
 
 module _ (ms : Monitors) (q : List Bool) (pace : Pace) (x : Query) (t : Timed) (u : ℕ) (later : t.time ≤ u) (next : Timed) (e : Event) (left : ℕ → ℕ → List Owed) (X : IsAsked ms q pace x (record t { under_way = left })) (went : Went ms q pace (at_time ms q pace u t) e left next)

@@ -1,5 +1,5 @@
 -- The rows of an election that was won: VICTORY, COLLECT, and LAST up to the last one.
-use Rattle.law_names.proofs.Table.{Body, Course, Entry, Found, Me, Op, Phase, Promise, Readings, State, Timer, Told, Which, all_answered, answer_of, armed, at_rest, better, counts, end_of, epoch_of, fits, hear_whole, is_complete, learn, longest, message_to, most_value, news_from, note, only_ping, pending, pending_of, play, promise_of, record_at, run_from, run_of, same_phase, sent_values, settle, text, told_of, ◌>>=◌}
+use Rattle.law_names.proofs.Table.{Course, Entry, Found, Me, Op, Phase, Promise, Readings, State, Timer, Which, all_answered, answer_of, armed, at_rest, better, counts, end_of, epoch_of, fits, hear_whole, is_complete, learn, longest, message_to, most_value, news_from, note, only_ping, pending, play, promise_of, record_at, run_from, run_of, same_phase, sent_values, settle, text, told_of, ◌>>=◌}
 use Rattle.mon_msg.specs.Protocol.Elections.{follow}
 use Rattle.mon_msg.specs.Protocol.Found.{is_newer}
 use Rattle.mon_msg.specs.Protocol.Leader.{hear_answer, note_answer}
@@ -9,9 +9,9 @@ use Rattle.mon_wire.specs.declared.phase.Timer.TheVariants as timer
 use Rattle.quorum_elects.proofs.Values.{FoundShort, pending_short}
 use Rattle.quorum_recovers.proofs.LastAnswers.{fits_one, run_one}
 use Rattle.quorum_stays.proofs.Timers.{armed_size, ends, one_end, only_ping_is, same_kind_or, still_ends}
-use Rattle.quorum_stays.specs.Steady.{FollowsSince, IsOfCommand}
+use Rattle.quorum_stays.specs.Steady.{FollowsSince}
 use Rattle.quorum_timed.proofs.Armed.{Timers}
-use Rattle.std.proofs.Common.{Bool, IsSomeAnd, List, None, Ok, Option, Result, Some, [], ap, arith, cond, drop, eqb, false, inl, inr, is_some, leb, length, ltb, refl, subst, suc, sym, true, ℕ, ◌&&◌, ◌+◌, ◌-◌, ◌<◌, ◌^◌, ◌||◌, ◌∙◌, ◌∷◌, ◌≡◌, ◌≤◌, ◌⊎◌}
+use Rattle.std.proofs.Common.{Bool, IsSomeAnd, List, None, Ok, Option, Result, Some, [], ap, arith, cond, drop, eqb, false, inl, inr, is_some, length, ltb, refl, subst, suc, sym, true, ℕ, ◌&&◌, ◌+◌, ◌-◌, ◌<◌, ◌^◌, ◌||◌, ◌∙◌, ◌∷◌, ◌≡◌, ◌≤◌}
 use Rattle.std.proofs.lemmas.Bool.{and_parts, cond_both, eqb-true, false≢true, le-leb, le-ltb, lt-ltb, ltb-false, ltb-true, or_cases}
 use Rattle.table_rows.proofs.Electing.{collect_row, last_row}
 use Rattle.table_rows.proofs.Hearing.{IsLeader, IsMember, hears}

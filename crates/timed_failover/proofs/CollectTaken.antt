@@ -23,8 +23,7 @@ use Rattle.timed_election.proofs.Lists.{opened}
 use Rattle.timed_election.specs.Election.{CanElect}
 use Rattle.timed_failover.proofs.CollectActs.{Goes, behind, caught_up, commits_give, commits_none, goes, leads_since, proposes, proposes_accepted, proposes_changes, proposes_out, proposes_since, serves, serves_changes, serves_out, settled}
 use Rattle.timed_failover.proofs.CollectKeeps.{IsApart, R, apart_on, gives_on, now_is, on_state, other_store}
-use Rattle.timed_failover.proofs.CollectLeaders.{Learns, Takes, collecting, found_fine, noted, notes_it, notes_others, still_collects, takes}
-use Rattle.timed_failover.proofs.CollectRows.{notes}
+use Rattle.timed_failover.proofs.CollectLeaders.{Learns, Takes, found_fine, noted, notes_it, notes_others, still_collects, takes}
 use Rattle.timed_failover.specs.Collecting.{CanLearn, Collects, Electing, Following, IsAs, IsAsked, IsNear, IsNoted, IsStocked, IsWhole, KeepsAs, Noted, Progress, Promised, Query, Questioned, answer_to, from_such, to_such}
 use Rattle.timed_failover.specs.Settling.{Behind, KeepsAs as SettlerKeeps, KeepsAtFirst, Level, Opener, Opens, Progress as SettlerProgress, Settler, Settles, Settling, first_items, from_such as leader_items, is_counted, to_such as peon_items}
 

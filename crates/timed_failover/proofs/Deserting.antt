@@ -1,24 +1,41 @@
 -- A quorum that is led and loses its leader: its others are deserted.
 use Rattle.law_names.proofs.Runs.{Envelope, Monitors, Reached, message_at}
-use Rattle.law_names.proofs.Table.{AllByRecursion, Body, Me, Message, Phase, State, end_of, epoch_of, has, is_armed, lag, readings_of}
-use Rattle.mon_wire.specs.declared.body.Body.TheVariants as body
+use Rattle.law_names.proofs.Table.{AllByRecursion, Me, Phase, Readings, State, end_of, epoch_of, has, is_armed, lag, readings_of}
 use Rattle.mon_wire.specs.declared.phase.Phase.TheVariants as phase
 use Rattle.mon_wire.specs.declared.phase.Timer.TheVariants as timer
 use Rattle.quorum_laws.specs.Accepting.{readings_at}
 use Rattle.quorum_model.proofs.Members.{me_is, member_of}
 use Rattle.quorum_recovers.proofs.Known.{low_of}
 use Rattle.quorum_stays.proofs.Onward.{one_state}
-use Rattle.quorum_stays.specs.Steady.{Carries, FollowsSince, IsAside, IsOfClients, IsOfEarlier, IsOfElections, Reign, Round, Steady, leased}
-use Rattle.quorum_timed.specs.Begins.{ArePart, Begins}
-use Rattle.quorum_timed.specs.Calls.{IsCall}
-use Rattle.quorum_timed.specs.Timed.{Owed, Pace, Timed}
+use Rattle.quorum_stays.specs.Steady.{FollowsSince, Reign, Round, Steady, leased}
+use Rattle.quorum_timed.specs.Begins.{Begins}
+use Rattle.quorum_timed.specs.Timed.{Pace, Timed}
 use Rattle.quorum_timed.specs.Waiting.{Waits, leads_alone, timer_of}
-use Rattle.std.proofs.Common.{Bool, IsSomeAnd, List, None, Option, Some, [], ap, arith, false, inl, inr, is_some, max, refl, subst, suc, sym, true, ℕ, ◌+◌, ◌<◌, ◌^◌, ◌||◌, ◌∙◌, ◌∷◌, ◌≡◌, ◌≤◌, ◌⊎◌}
+use Rattle.std.proofs.Common.{Bool, IsSomeAnd, List, None, Option, Some, [], ap, arith, false, inl, inr, is_some, max, refl, subst, suc, sym, true, ℕ, ◌+◌, ◌<◌, ◌^◌, ◌||◌, ◌∙◌, ◌≡◌, ◌≤◌, ◌⊎◌}
 use Rattle.std.proofs.lemmas.Bool.{false≢true, lt-ltb}
 use Rattle.timed_election.proofs.Lists.{closed, opened}
-use Rattle.timed_election.specs.Joining.{Deserted, FollowsLost, IsNear, IsOld, IsOther}
-use Rattle.timed_failover.proofs.Led.{near_holds, of_quorum, peon_last, peon_unmarked, sent_epoch, several}
+use Rattle.timed_election.specs.Joining.{Deserted, FollowsLost, IsNear, IsOld}
+use Rattle.timed_failover.proofs.Between.{begins_between}
+use Rattle.timed_failover.proofs.CarriedOld.{carried_old}
+use Rattle.timed_failover.proofs.Led.{HasOrAccepted, near_holds, of_quorum, peon_last, peon_unmarked, sent_epoch, several}
 use Rattle.timed_failover.specs.Failover.{IsWithout, NobodyCalls, from_time}
+
+-- two monitors that have a version, or accepted its value, need no copy of each other
+pub are_near : (version : ℕ) (w v : Readings) → HasOrAccepted version w → HasOrAccepted version v → (v.first ≤ 1) ⊎ (v.first + 501 ≤ v.last) → IsNear w.last v.first v.last
+are_near version w v a b low = (first a b low, last a b)
+  where
+    last : HasOrAccepted version w → HasOrAccepted version v → v.last ≤ w.last + lag
+    last (inl a) (inl b) = omega arith
+    last (inl a) (inr b) = let c = b.0 in omega arith
+    last (inr a) (inl b) = let c = a.0 in omega arith
+    last (inr a) (inr b) = let c = a.0 in let d = b.0 in omega arith
+
+    first : HasOrAccepted version w → HasOrAccepted version v → (v.first ≤ 1) ⊎ (v.first + 501 ≤ v.last) → v.first ≤ max 1 w.last
+    first a b (inl few) = omega arith
+    first (inl a) (inl b) (inr far) = omega arith
+    first (inl a) (inr b) (inr far) = let c = b.0 in omega arith
+    first (inr a) (inl b) (inr far) = let c = a.0 in omega arith
+    first (inr a) (inr b) (inr far) = let c = a.0 in let d = b.0 in omega arith
 
 module _ (ms : Monitors) (full q : List Bool) (pace : Pace) (earlier : ℕ) (reign : Reign) (r : Round) (t : Timed) (R : Reached ms t.world) (S : Steady ms full (from_time earlier pace) reign r t)
     (W : IsWithout full q reign.leader) (B : Begins ms q pace t) (quiet : NobodyCalls q t) where
@@ -40,68 +57,24 @@ module _ (ms : Monitors) (full q : List Bool) (pace : Pace) (earlier : ℕ) (rei
   unmarked i qi = peon_unmarked ms full (from_time earlier pace) reign r t R S i (was_member i qi) (not_leader i qi)
 
   abbrev IsLast : ℕ → Type 0
-  IsLast i = ((readings_of (t.world.store i)).last ≡ r.version) ⊎ ((suc (readings_of (t.world.store i)).last ≡ r.version) × ((readings_of (t.world.store i)).pending_v ≡ r.version))
+  IsLast i = HasOrAccepted r.version (readings_of (t.world.store i))
 
   last_is : (i : ℕ) → has q i ≡ true → IsLast i
   last_is i qi = peon_last ms full (from_time earlier pace) reign r t R S i (was_member i qi) (not_leader i qi)
 
-  last_near : (i j : ℕ) → IsLast i → IsLast j → (readings_of (t.world.store j)).last ≤ (readings_of (t.world.store i)).last + lag
-  last_near i j (inl a) (inl b) = omega arith
-  last_near i j (inl a) (inr b) = let c = b.0 in omega arith
-  last_near i j (inr a) (inl b) = let c = a.0 in omega arith
-  last_near i j (inr a) (inr b) = let c = a.0 in let d = b.0 in omega arith
-
-  first_near : (i j : ℕ) → ((readings_of (t.world.store j)).first ≤ 1) ⊎ ((readings_of (t.world.store j)).first + 501 ≤ (readings_of (t.world.store j)).last) → IsLast i → IsLast j
-      → (readings_of (t.world.store j)).first ≤ max 1 (readings_of (t.world.store i)).last
-  first_near i j (inl few) a b = omega arith
-  first_near i j (inr far) (inl a) (inl b) = omega arith
-  first_near i j (inr far) (inl a) (inr b) = let c = b.0 in omega arith
-  first_near i j (inr far) (inr a) (inl b) = let c = a.0 in omega arith
-  first_near i j (inr far) (inr a) (inr b) = let c = a.0 in let d = b.0 in omega arith
-
   near : (i j : ℕ) → has q i ≡ true → has q j ≡ true → IsNear (readings_of (t.world.store i)).last (readings_of (t.world.store j)).first (readings_of (t.world.store j)).last
   near i j qi qj =
       let low = low_of ms (several ms full (from_time earlier pace) reign r t R S) t.world (near_holds ms full (from_time earlier pace) reign r t R S) j (in_map j qj) (unmarked j qj) in
-      (first_near i j low (last_is i qi) (last_is j qj), last_near i j (last_is i qi) (last_is j qj))
+      are_near r.version (readings_of (t.world.store i)) (readings_of (t.world.store j)) (last_is i qi) (last_is j qj) low
 
   -- ---- what is under way
 
-  is_other : (b : Body) → IsOfClients b ⊎ IsOfElections b → (IsCall b → ⊥) → IsOther b
-  is_other (body.Propose table) k n = n tt
-  is_other (body.ProbeReply quorum first last) (inl k) n = k
-  is_other (body.ProbeReply quorum first last) (inr k) n = k
-  is_other other k n = tt
+  early : (f : ℕ) → has q f ≡ true → (k : ℕ) (m : Envelope) → message_at t.world.messages k ≡ Some m → m.message.from ≡ f → m.message.epoch ≤ reign.epoch
+  early f qf k m there from = let s = sent_epoch ms full (from_time earlier pace) reign r t R S k m there in let e = epoch_is f qf in let z = ap (λ (j : ℕ). epoch_of (readings_at t.world j)) from in omega arith
 
-  aside_is : (f : ℕ) (m : Message) → IsOfClients m.body ⊎ IsOfEarlier reign.epoch f m → IsOfClients m.body ⊎ IsOfElections m.body
-  aside_is f m (inl k) = inl k
-  aside_is f m (inr k) = inr k.elects
-
-  one_old : (f i : ℕ) → has q f ≡ true → (o : Owed) → o.by ≤ t.time + pace.delay → IsSomeAnd (message_at t.world.messages o.number) (λ m. (m.message.from ≡ f) × (m.to ≡ i))
-      → IsSomeAnd (message_at t.world.messages o.number) (λ m. IsCall m.message.body → ⊥) → IsAside reign.epoch t.world.messages f i o → IsOld reign.epoch t.world.messages f i (t.time + pace.delay) o
-  one_old f i qf o in_time between silent A =
-      let b = opened (λ (m : Envelope). (m.message.from ≡ f) × (m.to ≡ i)) (message_at t.world.messages o.number) between in
-      let c = opened (λ (m : Envelope). IsCall m.message.body → ⊥) (message_at t.world.messages o.number) silent in
-      let same : A.envelope ≡ b.0 = (let two : Some A.envelope ≡ Some b.0 = sym A.there ∙ b.1 in cc) in
-      let same_too : A.envelope ≡ c.0 = (let two : Some A.envelope ≡ Some c.0 = sym A.there ∙ c.1 in cc) in
-      let from : A.envelope.message.from ≡ f = ap (λ (m : Envelope). m.message.from) same ∙ b.2.0 in
-      record {
-        envelope = A.envelope;
-        there = A.there;
-        sender = from;
-        receiver = A.receiver;
-        early = (let s = sent_epoch ms full (from_time earlier pace) reign r t R S o.number A.envelope A.there in let e = epoch_is f qf in let k = ap (λ (z : ℕ). epoch_of (readings_at t.world z)) from in omega arith);
-        kind = is_other A.envelope.message.body (aside_is f A.envelope.message A.aside) (λ k. c.2 (subst (λ (m : Envelope). IsCall m.message.body) same_too k));
-        in_time = in_time;
-      }
-
-  all_old : (f i : ℕ) → has q f ≡ true → (above : ℕ) (os : List Owed) → ArePart t.world f i (pace.since + pace.delay) above os
-      → AllByRecursion (λ o. IsSomeAnd (message_at t.world.messages o.number) (λ m. IsCall m.message.body → ⊥)) os → Carries ms reign t.world.messages f i (t.time + pace.delay) [] os
-      → AllByRecursion (IsOld reign.epoch t.world.messages f i (t.time + pace.delay)) os
-  all_old f i qf above [] part silent carries = tt
-  all_old f i qf above (o ∷ os) part silent carries = elim carries.1 [
-    | inl k ↦ (one_old f i qf o carries.0 part.1 silent.0 k.0, all_old f i qf o.number os part.3 silent.1 k.2)
-    | inr k ↦ absurd (let clash : [] ≡ k.0 ∷ k.1 = k.2 in cc)
-  ]
+  all_old : (f i : ℕ) → has q f ≡ true → has q i ≡ true → AllByRecursion (IsOld reign.epoch t.world.messages f i (t.time + pace.delay)) (t.under_way f i)
+  all_old f i qf qi = carried_old ms reign t.world.messages f i (t.time + pace.delay) (early f qf) [] (t.under_way f i) tt (begins_between ms q pace t B f i qf qi) (quiet f i qf qi)
+      (S.others f i (was_member f qf) (was_member i qi) ((λ same. absurd (not_leader f qf same)), (λ same. absurd (not_leader i qi same))))
 
   -- ---- what they remember
 
@@ -139,16 +112,17 @@ module _ (ms : Monitors) (full q : List Bool) (pace : Pace) (earlier : ℕ) (rei
   deserted fits =
       let Q = of_quorum ms full (from_time earlier pace) reign r t R S in
       let time = B.time in record {
-        even = Q.even;
-        fits = fits;
-        since = omega arith;
+        uncalled = record {
+          even = Q.even;
+          fits = fits;
+          since = omega arith;
+          epoch_is = epoch_is;
+          unmarked = unmarked;
+          near = near;
+          under_way = all_old;
+          uncalled = λ k m there from _. (let s = sent_epoch ms full (from_time earlier pace) reign r t R S k m there in let e = epoch_is m.message.from from in omega arith);
+          calls = λ f i qf qi. (let c = B.calls f i in omega arith);
+        };
         before = omega arith;
-        epoch_is = epoch_is;
-        unmarked = unmarked;
-        near = near;
         follow = follows;
-        under_way = λ f i qf qi. all_old f i qf 0 (t.under_way f i) (B.earlier f i qf qi) (quiet f i qf qi)
-            (S.others f i (was_member f qf) (was_member i qi) ((λ same. absurd (not_leader f qf same)), (λ same. absurd (not_leader i qi same))));
-        uncalled = λ k m there from _. (let s = sent_epoch ms full (from_time earlier pace) reign r t R S k m there in let e = epoch_is m.message.from from in omega arith);
-        calls = λ f i qf qi. (let c = B.calls f i in omega arith);
       }

@@ -1,6 +1,6 @@
 -- What every run says of a quorum that is led in it: its log, and how far its members are.
-use Rattle.law_names.proofs.Runs.{Envelope, Monitors, Reached, last_of, message_at}
-use Rattle.law_names.proofs.Table.{Phase, State, epoch_of, has, is_leading, is_member, is_peon, no_ranks, promise_of, readings_of}
+use Rattle.law_names.proofs.Runs.{Envelope, Monitors, Reached, World, last_of, message_at}
+use Rattle.law_names.proofs.Table.{Phase, Readings, State, epoch_of, has, is_leading, is_member, is_peon, no_ranks, promise_of, readings_of}
 use Rattle.mon_wire.specs.declared.phase.Phase.TheVariants as phase
 use Rattle.quorum_elects.specs.Ready.{LacksAtMost}
 use Rattle.quorum_history.proofs.History.{AnEpoch}
@@ -24,6 +24,32 @@ use Rattle.timed_failover.proofs.Owned.{Owns, owned}
 use Rattle.timed_failover.proofs.WholeLog.{leads, whole}
 use Rattle.timed_failover.specs.Reached.{IsAsLed}
 
+-- it has the version, or lacks it alone and accepted a value for it last
+abbrev pub HasOrAccepted : (version : ℕ) → Readings → Type 0
+HasOrAccepted version w = (w.last ≡ version) ⊎ ((suc w.last ≡ version) × (w.pending_v ≡ version))
+
+pub reached_holds : (ms : Monitors) (several : 1 < ms.count) (w : World) → Reached ms w → Holds ms several w
+reached_holds ms several w R = subst (Holds ms several) (world_is ms w R) (held ms several R.events R.fit)
+
+-- a message is of no later epoch than its sender
+pub sent_epoch_in : (ms : Monitors) (w : World) (I : InvOf ms w) (k : ℕ) (m : Envelope) → message_at w.messages k ≡ Some m → m.message.epoch ≤ epoch_of (readings_at w m.message.from)
+sent_epoch_in ms w I zero m there = absurd cc
+sent_epoch_in ms w I (suc k) m there =
+    let E : EnvelopeHolds ms.count I.g m = subst (λ (o : Option Envelope). IfSome o (EnvelopeHolds ms.count I.g)) there (all_get (EnvelopeHolds ms.count I.g) w.messages k I.sent) in
+    at_least ms w I AnEpoch m.message.from m.message.epoch (E.1).epoch
+
+-- a leader that serves promised its number
+pub own_promise : (ms : Monitors) (w : World) (I : InvOf ms w) (i : ℕ) (s : State) → w.state i ≡ Some s → (s.phase ≡ phase.Active) ⊎ (s.phase ≡ phase.Updating) → s.leader.pn ≡ promise_of (readings_at w i)
+own_promise ms w I i s up (inl e) = let k = subst (InPhase ms.count I.g i (core_of (own_of (readings_at w i)) s)) e (state_holds ms w I i s up) in (k.0).promised
+own_promise ms w I i s up (inr e) = let k = subst (InPhase ms.count I.g i (core_of (own_of (readings_at w i)) s)) e (state_holds ms w I i s up) in (k.0).promised
+
+-- what a peon keeps of a round
+pub keeps_last : (r : Round) (heard : ℕ) (w : Readings) → Keeps r heard w → HasOrAccepted r.version w
+keeps_last r zero w K = inr (K.0, K.1)
+keeps_last r (suc zero) w K = inl K.0
+keeps_last r (suc (suc zero)) w K = inl K.0
+keeps_last r (suc (suc (suc h))) w K = inl K.0
+
 -- ---- the leader
 
 -- what a leader remembers, whether a value is in progress or not
@@ -41,7 +67,7 @@ module _ (ms : Monitors) (q : List Bool) (pace : Pace) (reign : Reign) (r : Roun
   several = let a = S.members reign.leader S.leads in let b = S.members S.second S.second_in in let ne = S.second_is in omega arith
 
   pub near_holds : Holds ms several t.world
-  near_holds = subst (Holds ms several) (world_is ms t.world R) (held ms several R.events R.fit)
+  near_holds = reached_holds ms several t.world R
 
   abbrev pub I : InvOf ms t.world
   I = near_holds.0.0
@@ -85,27 +111,17 @@ module _ (ms : Monitors) (q : List Bool) (pace : Pace) (reign : Reign) (r : Roun
             let K : FollowsIn I.g i (core_of (own_of (readings_at t.world i)) s) = subst (InPhase ms.count I.g i (core_of (own_of (readings_at t.world i)) s)) F.follows (state_holds ms t.world I i s is) in
             K.unmarked
 
-    pub peon_last : ((readings_of (t.world.store i)).last ≡ r.version) ⊎ ((suc (readings_of (t.world.store i)).last ≡ r.version) × ((readings_of (t.world.store i)).pending_v ≡ r.version))
-    peon_last = by P.heard P.keeps
-      where
-        by : (heard : ℕ) → Keeps r heard (readings_of (t.world.store i)) → ((readings_of (t.world.store i)).last ≡ r.version) ⊎ ((suc (readings_of (t.world.store i)).last ≡ r.version) × ((readings_of (t.world.store i)).pending_v ≡ r.version))
-        by zero K = inr (K.0, K.1)
-        by (suc zero) K = inl K.0
-        by (suc (suc zero)) K = inl K.0
-        by (suc (suc (suc h))) K = inl K.0
+    pub peon_last : HasOrAccepted r.version (readings_of (t.world.store i))
+    peon_last = keeps_last r P.heard (readings_of (t.world.store i)) P.keeps
 
   -- ---- the log
 
   -- all members promised the leader's number and no greater one
-  promised : (i : ℕ) → has q i ≡ true → promise_of (readings_at t.world i) ≤ reign.pn
-  promised i qi = elim (cases_eq i reign.leader) [
-    | inr ne ↦ (let P = S.peons i qi ne in let k = P.promise in omega arith)
-    | inl same ↦ (let l = lead in let L = l.2 in let k = own l.0 l.1 L.serves in let n = L.number in let z = ap (λ (j : ℕ). promise_of (readings_at t.world j)) same in omega arith)
+  pub promise_is : (i : ℕ) → has q i ≡ true → promise_of (readings_of (t.world.store i)) ≡ reign.pn
+  promise_is i qi = elim (cases_eq i reign.leader) [
+    | inr ne ↦ (let P = S.peons i qi ne in P.promise)
+    | inl same ↦ (let l = lead in let L = l.2 in ap (λ (j : ℕ). promise_of (readings_at t.world j)) same ∙ sym (own_promise ms t.world I reign.leader l.0 l.1 L.serves) ∙ L.number)
   ]
-    where
-      own : (s : State) → t.world.state reign.leader ≡ Some s → (s.phase ≡ phase.Active) ⊎ (s.phase ≡ phase.Updating) → s.leader.pn ≡ promise_of (readings_at t.world reign.leader)
-      own s up (inl e) = let k = subst (InPhase ms.count I.g reign.leader (core_of (own_of (readings_at t.world reign.leader)) s)) e (state_holds ms t.world I reign.leader s up) in (k.0).promised
-      own s up (inr e) = let k = subst (InPhase ms.count I.g reign.leader (core_of (own_of (readings_at t.world reign.leader)) s)) e (state_holds ms t.world I reign.leader s up) in (k.0).promised
 
   pub log_and_mark : (length t.world.log ≡ r.version) × ((readings_of (t.world.store reign.leader)).marked ≡ false)
   log_and_mark = let l = lead in by l.0 l.1 l.2
@@ -113,7 +129,7 @@ module _ (ms : Monitors) (q : List Bool) (pace : Pace) (reign : Reign) (r : Roun
       by : (s : State) → t.world.state reign.leader ≡ Some s → IsLeader q reign s → (length t.world.log ≡ r.version) × ((readings_of (t.world.store reign.leader)).marked ≡ false)
       by s up L =
           let within = λ (i : ℕ) (qi : has q i ≡ true). subst (λ (z : List Bool). has z i ≡ true) (sym L.quorum) qi in
-          let low = λ (i : ℕ) (qi : has q i ≡ true). subst (λ (z : ℕ). promise_of (readings_at t.world i) ≤ z) (sym L.number) (promised i qi) in
+          let low : (i : ℕ) → has q i ≡ true → promise_of (readings_at t.world i) ≤ s.leader.pn = λ i qi. (let p = promise_is i qi in let n = L.number in omega arith) in
           let Q = of_quorum in
           let most = whole ms several t.world owns reign.leader s up L.serves q Q.major within low in
           let own = leads ms several t.world owns reign.leader s up L.serves q Q.major within low in
@@ -133,13 +149,9 @@ module _ (ms : Monitors) (q : List Bool) (pace : Pace) (reign : Reign) (r : Roun
         | inr ne ↦ record { unmarked = sym (mark_read (t.world.store i)) ∙ peon_unmarked i qi ne; near = near (peon_last i qi ne) }
       ]
         where
-          near : ((readings_of (t.world.store i)).last ≡ r.version) ⊎ ((suc (readings_of (t.world.store i)).last ≡ r.version) × ((readings_of (t.world.store i)).pending_v ≡ r.version)) → length t.world.log ≤ last_of (t.world.store i) + 1
+          near : HasOrAccepted r.version (readings_of (t.world.store i)) → length t.world.log ≤ last_of (t.world.store i) + 1
           near (inl e) = let a = last_read (t.world.store i) in let c = log_and_mark.0 in omega arith
           near (inr k) = let e = k.0 in let a = last_read (t.world.store i) in let c = log_and_mark.0 in omega arith
 
-  -- a message is of no later epoch than its sender
   pub sent_epoch : (k : ℕ) (m : Envelope) → message_at t.world.messages k ≡ Some m → m.message.epoch ≤ epoch_of (readings_at t.world m.message.from)
-  sent_epoch zero m there = absurd cc
-  sent_epoch (suc k) m there =
-      let E : EnvelopeHolds ms.count I.g m = subst (λ (o : Option Envelope). IfSome o (EnvelopeHolds ms.count I.g)) there (all_get (EnvelopeHolds ms.count I.g) t.world.messages k I.sent) in
-      at_least ms t.world I AnEpoch m.message.from m.message.epoch (E.1).epoch
+  sent_epoch = sent_epoch_in ms t.world I

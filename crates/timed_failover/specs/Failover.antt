@@ -9,6 +9,7 @@ use Rattle.quorum_timed.specs.Timed.{Leads, Pace, Timed}
 use Rattle.std.specs.List.{AllByRecursion}
 use Rattle.std.specs.Prelude.{Bool, IsSomeAnd, List, false, true, ℕ, ◌++◌, ◌≡◌, ◌≤◌}
 use Rattle.timed_election.specs.Election.{Election, IsWon}
+use Rattle.timed_election.specs.Joining.{Parted}
 use Rattle.timed_election.specs.Keeping.{OnlyVotes}
 
 -- The members of q are those of a quorum but for one monitor that it lost.
@@ -43,6 +44,19 @@ pub record IsReplacedBy (ms : Monitors) (q : List Bool) (pace : Pace) (best epoc
   pub best_is : election.best ≡ best
   pub won : IsWon ms q pace election reached
   pub votes : OnlyVotes q election.epoch reached
+
+-- At some time of the run, and by time u, the leader of the reign just began to probe, and the other members still follow
+-- it. The run goes on from there.
+pub record IsPartedBy (ms : Monitors) (q : List Bool) (pace : Pace) (reign : Reign) (t last : Timed)
+    (more : List (ℕ × Event)) (u : ℕ) : Type 0 where
+  pub before : List (ℕ × Event)
+  pub after : List (ℕ × Event)
+  pub parts : more ≡ before ++ after
+  pub reached : Timed
+  pub run : Leads ms q pace t before reached
+  pub rest : Leads ms q pace reached after last
+  pub by : reached.time ≤ u
+  pub parted : Parted ms q pace reign.leader reign.epoch reached
 
 -- At some time of the run, and by time u, one of the members of q leads all of them.
 pub record SteadyBy (ms : Monitors) (q : List Bool) (pace : Pace) (t : Timed) (more : List (ℕ × Event)) (u : ℕ) : Type

@@ -1,4 +1,5 @@
-ghost use Rattle.std.specs.Prelude.{ℕ, ◌+◌, ◌<◌, ◌^◌, ◌≡◌, ◌≤◌, Bool, List, Some, length, suc, ◌*◌};
+ghost use Rattle.std.specs.List.{AllByRecursion};
+ghost use Rattle.std.specs.Prelude.{ℕ, ◌+◌, ◌<◌, ◌^◌, ◌≡◌, ◌≤◌, Bool, List, None, Some, length, suc, ◌*◌};
 ghost use Rattle.mon_msg.specs.Protocol.State.{State};
 ghost use Rattle.mon_tx.specs.declared.op.Op.{Op};
 ghost use Rattle.quorum_laws.specs.Accepting.{readings_at};
@@ -8,13 +9,14 @@ ghost use Rattle.quorum_model.specs.Reached.{Reached};
 ghost use Rattle.quorum_model.specs.Runs.{run};
 ghost use Rattle.quorum_model.specs.World.{Event};
 ghost use Rattle.quorum_stays.specs.Reading.{ClocksGoOn};
+ghost use Rattle.quorum_stays.specs.Serving.{NothingWaits, Writes};
 ghost use Rattle.quorum_stays.specs.Steady.{Reign, Round, Steady};
 ghost use Rattle.quorum_timed.specs.Begins.{Begins, IsQuick};
-ghost use Rattle.quorum_timed.specs.Timed.{Leads, Pace, Timed};
+ghost use Rattle.quorum_timed.specs.Timed.{Leads, MayBe, Pace, Timed};
 ghost use Rattle.timed_election.specs.Election.{CanElect, Election};
 ghost use Rattle.timed_election.specs.Joining.{Deserted};
 ghost use Rattle.timed_failover.specs.Collecting.{AreBetween, IsAsked, IsElected, IsHeardBy, Query};
-ghost use Rattle.timed_failover.specs.Failover.{IsReplacedBy, IsWithout, NobodyCalls, SteadyBy, from_time};
+ghost use Rattle.timed_failover.specs.Failover.{IsPartedBy, IsReplacedBy, IsWithout, NobodyCalls, SteadyBy, from_time};
 ghost use Rattle.timed_failover.specs.Newest.{IsNewest};
 ghost use Rattle.timed_failover.specs.Reached.{IsAsLed};
 ghost use Rattle.timed_failover.specs.Settling.{IsSettledBy, Opens, Settles, Settling, opening};
@@ -76,6 +78,20 @@ pub fn law_lost_leader_is_replaced()
         (pace.since + 15000 + 2 * pace.delay + 2 * pace.late) }
 {}
 
+/// A quorum that is led and loses a peon parts from its leader in time, if nobody writes: by 13 seconds after that and
+/// twice `late` the leader ceases to lead, since it lacks an acknowledgement, and probes. The other members still follow
+/// it then. At first no value is in progress, no command is on its way to the leader, and nothing is overdue.
+pub fn law_lost_peon_parts()
+    ensures { (ms : Monitors) (full q : List Bool) (pace : Pace) (earlier best lost : ℕ) (reign : Reign) (r : Round)
+        (t last : Timed) (more : List (ℕ × Event)) → IsQuick pace → 4 * pace.delay ≤ 3000 → Reached ms t.world
+        → Steady ms full (from_time earlier pace) reign r t → MayBe ms full (from_time earlier pace) t pace.since
+        → IsWithout full q lost → (lost ≡ reign.leader → ⊥) → CanElect ms q best → Begins ms q pace t
+        → NobodyCalls q t → r.next ≡ None → NothingWaits q reign t → suc reign.epoch ≤ 2 ^ 62
+        → Leads ms q pace t more last → AllByRecursion (λ m. Writes m.1 → ⊥) more → ClocksGoOn q pace last.time
+        → pace.since + 13000 + 2 * pace.late < last.time
+        → IsPartedBy ms q pace reign t last more (pace.since + 13000 + 2 * pace.late) }
+{}
+
 /// A new leader that asks its quorum what was accepted hears all members within two delays after its victory, if each
 /// answer fits one message. Then it gave the first leases, or proposes the value that it found. Clients may ask what they
 /// want meanwhile.
@@ -102,4 +118,28 @@ pub fn law_winner_serves()
         (t last : Timed) (more : List (ℕ × Event)) → IsQuick pace → 4 * pace.delay ≤ 3000
         → IsElected ms q pace E version value t → Leads ms q pace t more last → ClocksGoOn q pace last.time
         → t.time + 4 * pace.delay < last.time → SteadyBy ms q pace t more (t.time + 4 * pace.delay) }
+{}
+
+/// A quorum that loses a member serves again in time. If it is led and loses its leader, one of the others has won an
+/// election and leads all of them by 15 seconds after that, six delays and twice `late`: from then on the quorum is led
+/// (`Steady`). So it stays led (`law_stays_led`), and commands are answered. Clients may ask what they want meanwhile. If
+/// it loses another member, and no client writes, this holds by 18 seconds, seven delays and three times `late`. The
+/// leader renews the leases until it lacks an acknowledgement for 10 seconds, and then an election follows. At first no
+/// value is in progress, no command waits, and nothing is overdue.
+pub fn law_failover()
+    ensures leader_lost { (ms : Monitors) (full q : List Bool) (pace : Pace) (earlier best : ℕ) (reign : Reign)
+        (r : Round) (t last : Timed) (more : List (ℕ × Event)) → IsQuick pace → 4 * pace.delay ≤ 3000
+        → Reached ms t.world → Steady ms full (from_time earlier pace) reign r t → IsWithout full q reign.leader
+        → CanElect ms q best → length q ≡ 15 → Begins ms q pace t → NobodyCalls q t → suc reign.epoch ≤ 2 ^ 62
+        → suc (suc r.version) ≤ 2 ^ 62 → Leads ms q pace t more last → ClocksGoOn q pace last.time
+        → pace.since + 15000 + 6 * pace.delay + 2 * pace.late < last.time
+        → SteadyBy ms q pace t more (pace.since + 15000 + 6 * pace.delay + 2 * pace.late) }
+    ensures peon_lost { (ms : Monitors) (full q : List Bool) (pace : Pace) (earlier best lost : ℕ)
+        (reign : Reign) (r : Round) (t last : Timed) (more : List (ℕ × Event)) → IsQuick pace → 4 * pace.delay ≤ 3000
+        → Reached ms t.world → Steady ms full (from_time earlier pace) reign r t → r.next ≡ None → NothingWaits q reign t
+        → MayBe ms full (from_time earlier pace) t pace.since → IsWithout full q lost → (lost ≡ reign.leader → ⊥)
+        → Begins ms q pace t → NobodyCalls q t → CanElect ms q best → length q ≡ 15 → suc reign.epoch ≤ 2 ^ 62
+        → suc (suc r.version) ≤ 2 ^ 62 → Leads ms q pace t more last → AllByRecursion (λ m. Writes m.1 → ⊥) more
+        → ClocksGoOn q pace last.time → pace.since + 18000 + 7 * pace.delay + 3 * pace.late < last.time
+        → SteadyBy ms q pace t more (pace.since + 18000 + 7 * pace.delay + 3 * pace.late) }
 {}
