@@ -18,7 +18,7 @@ use Rattle.timed_election.specs.Joining.{Deserted, FollowsLost, IsNear, IsOld}
 use Rattle.timed_failover.proofs.Between.{begins_between}
 use Rattle.timed_failover.proofs.CarriedOld.{carried_old}
 use Rattle.timed_failover.proofs.Led.{HasOrAccepted, near_holds, of_quorum, peon_last, peon_unmarked, sent_epoch, several}
-use Rattle.timed_failover.specs.Failover.{IsWithout, NobodyCalls, from_time}
+use Rattle.timed_failover.specs.Failover.{IsWithout, NoCallIsUnderWay, from_time}
 
 -- two monitors that have a version, or accepted its value, need no copy of each other
 pub are_near : (version : ℕ) (w v : Readings) → HasOrAccepted version w → HasOrAccepted version v → (v.first ≤ 1) ⊎ (v.first + 501 ≤ v.last) → IsNear w.last v.first v.last
@@ -38,7 +38,7 @@ are_near version w v a b low = (first a b low, last a b)
     first (inr a) (inr b) (inr far) = let c = a.0 in let d = b.0 in omega arith
 
 module _ (ms : Monitors) (full q : List Bool) (pace : Pace) (earlier : ℕ) (reign : Reign) (r : Round) (t : Timed) (R : Reached ms t.world) (S : Steady ms full (from_time earlier pace) reign r t)
-    (W : IsWithout full q reign.leader) (B : Begins ms q pace t) (quiet : NobodyCalls q t) where
+    (W : IsWithout full q reign.leader) (B : Begins ms q pace t) (quiet : NoCallIsUnderWay q t) where
   -- ---- the members
 
   not_leader : (i : ℕ) → has q i ≡ true → i ≡ reign.leader → ⊥

@@ -11,7 +11,7 @@ use Rattle.quorum_stays.specs.Reading.{ClocksGoOn}
 use Rattle.quorum_stays.specs.Serving.{NothingWaits, Writes}
 use Rattle.quorum_stays.specs.Steady.{Reign, Round, Steady}
 use Rattle.quorum_timed.specs.Begins.{Begins, IsQuick}
-use Rattle.quorum_timed.specs.Timed.{Leads, MayBe, Pace, Timed, at_time}
+use Rattle.quorum_timed.specs.Timed.{Leads, Pace, Timed, at_time}
 use Rattle.std.proofs.Common.{Bool, List, None, Some, [], arith, refl, subst, suc, sym, ℕ, ◌*◌, ◌++◌, ◌+◌, ◌<◌, ◌^◌, ◌∙◌, ◌∷◌, ◌≡◌, ◌≤◌}
 use Rattle.std.proofs.lemmas.List.{append_assoc}
 use Rattle.timed_election.proofs.Parts.{joined}
@@ -28,7 +28,7 @@ use Rattle.timed_failover.proofs.WaningBegins.{begins}
 use Rattle.timed_failover.proofs.WaningRun.{PartsBy, parts_by}
 use Rattle.timed_failover.proofs.WaningSteps.{Rings}
 use Rattle.timed_failover.proofs.WaningTimes.{leading}
-use Rattle.timed_failover.specs.Failover.{IsPartedBy, IsWithout, NobodyCalls, from_time}
+use Rattle.timed_failover.specs.Failover.{IsPartedBy, IsWithout, NoCallIsUnderWay, from_time}
 
 -- from the event of the leader's timer of acknowledgements
 module _ (ms : Monitors) (full q : List Bool) (pace : Pace) (earlier best : ℕ) (reign : Reign) (r : Round) (t last : Timed) (more : List (ℕ × Event)) (quick : IsQuick pace) (short : 4 * pace.delay ≤ 3000)
@@ -79,12 +79,12 @@ module _ (ms : Monitors) (full q : List Bool) (pace : Pace) (earlier best : ℕ)
 -- ---- in time
 
 module _ (ms : Monitors) (full q : List Bool) (pace : Pace) (earlier best lost : ℕ) (reign : Reign) (r : Round) (t last : Timed) (more : List (ℕ × Event)) (quick : IsQuick pace) (short : 4 * pace.delay ≤ 3000)
-    (R : Reached ms t.world) (S : Steady ms full (from_time earlier pace) reign r t) (may : MayBe ms full (from_time earlier pace) t pace.since) (W : IsWithout full q lost) (other : lost ≡ reign.leader → ⊥) (C : CanElect ms q best)
-    (B : Begins ms q pace t) (silent : NobodyCalls q t) (none : r.next ≡ None) (N : NothingWaits q reign t) (fits : suc reign.epoch ≤ 2 ^ 62) (L : Leads ms q pace t more last) (quiet : AllByRecursion (λ m. Writes m.1 → ⊥) more)
+    (R : Reached ms t.world) (S : Steady ms full (from_time earlier pace) reign r t) (soon : pace.since ≤ r.latest + 3000 + pace.late) (W : IsWithout full q lost) (other : lost ≡ reign.leader → ⊥) (C : CanElect ms q best)
+    (B : Begins ms q pace t) (silent : NoCallIsUnderWay q t) (none : r.next ≡ None) (N : NothingWaits q reign t) (fits : suc reign.epoch ≤ 2 ^ 62) (L : Leads ms q pace t more last) (quiet : AllByRecursion (λ m. Writes m.1 → ⊥) more)
     (room : ClocksGoOn q pace last.time) (late : pace.since + 13000 + 2 * pace.late < last.time) where
   pub parts_then : PartsBy ms full q pace reign quick short r t last more (pace.since + 13000 + 2 * pace.late)
   parts_then =
-      parts_by ms full q pace reign lost quick short r t last more (begins ms full q pace earlier reign quick r t may S lost W other none N silent) W.gone W.was B L quiet room late
+      parts_by ms full q pace reign lost quick short r t last more (begins ms full q pace earlier reign r t soon S lost W other none N silent) W.gone W.was B L quiet room late
 
   pub parted_in_time : IsPartedBy ms q pace reign t last more (pace.since + 13000 + 2 * pace.late)
   parted_in_time =

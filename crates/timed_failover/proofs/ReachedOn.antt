@@ -1,12 +1,12 @@
 -- A timed run in which no client writes goes on from a run of events, so what holds after every run holds at its end.
-use Rattle.law_names.proofs.Runs.{Arrives, Event, Monitors, Plain, PlainFits, Ran, Reached, RequestFits, World, first_world, happens, plain_of, ran}
+use Rattle.law_names.proofs.Runs.{Arrives, Event, Monitors, Plain, PlainFits, Reached, RequestFits, happens}
 use Rattle.law_names.proofs.Table.{AllByRecursion, Request, has}
 use Rattle.mon_wire.specs.declared.request.Request.TheVariants as request
 use Rattle.quorum_model.proofs.Reached.{reached_next}
 use Rattle.quorum_stays.specs.Reading.{Reads}
 use Rattle.quorum_stays.specs.Serving.{Writes}
 use Rattle.quorum_timed.specs.Timed.{Again, Arriving, Asking, Comes, Firing, Leads, Pace, Timed, at_time}
-use Rattle.std.proofs.Common.{Bool, List, None, Ok, [], ap, subst, sym, true, ℕ, ◌++◌, ◌<◌, ◌∙◌, ◌∷◌, ◌≡◌}
+use Rattle.std.proofs.Common.{Bool, List, Ok, [], subst, sym, true, ℕ, ◌<◌, ◌∷◌, ◌≡◌}
 
 reads_fit : (r : Request) → ((Reads r → ⊥) → ⊥) → RequestFits r
 reads_fit (request.Show service) h = tt

@@ -102,10 +102,10 @@ module _ (ms : Monitors) (q : List Bool) (pace : Pace) (best epoch u : ℕ) (t l
         whole = λ i qi ne. whole_answer ms.count V.won.pn (z E.best).last version value (z i) (stocked i qi) close (λ some. (S.made some).1);
       }
 
-  serves : SteadyBy ms q pace V.reached V.after (V.reached.time + 4 * pace.delay)
+  serves : SteadyBy ms q pace E.best (suc E.epoch) V.reached last V.after (V.reached.time + 4 * pace.delay)
   serves = elected_serves ms q pace E version value V.reached last V.after quick short elected V.rest room (let a = V.by in let b = J.by in omega arith)
 
-  pub regained : SteadyBy ms q pace t more (u + 5000 + 4 * pace.delay + pace.late)
+  pub regained : SteadyBy ms q pace best (suc epoch) t last more (u + 5000 + 4 * pace.delay + pace.late)
   regained =
       let Z = serves in record {
         before = J.before ++ (V.before ++ Z.before);
@@ -113,8 +113,11 @@ module _ (ms : Monitors) (q : List Bool) (pace : Pace) (best epoch u : ℕ) (t l
         parts = J.parts ∙ ap (λ (k : List (ℕ × Event)). J.before ++ k) (V.parts ∙ ap (λ (k : List (ℕ × Event)). V.before ++ k) Z.parts ∙ sym (append_assoc V.before Z.before Z.after)) ∙ sym (append_assoc J.before (V.before ++ Z.before) Z.after);
         reached = Z.reached;
         run = joined ms q pace J.before t J.reached Z.reached (V.before ++ Z.before) J.run (joined ms q pace V.before J.reached V.reached Z.reached Z.before V.run Z.run);
+        rest = Z.rest;
         by = (let a = Z.by in let b = V.by in let c = J.by in omega arith);
         reign = Z.reign;
+        leader_is = Z.leader_is ∙ J.best_is;
+        epoch_is = Z.epoch_is ∙ ap suc J.epoch_is;
         round = Z.round;
         steady = Z.steady;
       }

@@ -13,10 +13,10 @@ use Rattle.timed_election.specs.Election.{CanElect}
 use Rattle.timed_election.specs.Joining.{JoinBy}
 use Rattle.timed_election.specs.Keeping.{IsWonWithin}
 use Rattle.timed_failover.proofs.Deserting.{deserted}
-use Rattle.timed_failover.specs.Failover.{IsReplacedBy, IsWithout, NobodyCalls, from_time}
+use Rattle.timed_failover.specs.Failover.{IsReplacedBy, IsWithout, NoCallIsUnderWay, from_time}
 
 module _ (ms : Monitors) (full q : List Bool) (pace : Pace) (earlier best : ℕ) (reign : Reign) (r : Round) (t last : Timed) (more : List (ℕ × Event)) (quick : IsQuick pace) (short : pace.delay < 1000)
-    (R : Reached ms t.world) (S : Steady ms full (from_time earlier pace) reign r t) (W : IsWithout full q reign.leader) (C : CanElect ms q best) (B : Begins ms q pace t) (quiet : NobodyCalls q t)
+    (R : Reached ms t.world) (S : Steady ms full (from_time earlier pace) reign r t) (W : IsWithout full q reign.leader) (C : CanElect ms q best) (B : Begins ms q pace t) (quiet : NoCallIsUnderWay q t)
     (fits : suc reign.epoch ≤ 2 ^ 62) (L : Leads ms q pace t more last) (room : ClocksGoOn q pace last.time) (late : pace.since + 15000 + 2 * pace.delay + 2 * pace.late < last.time) where
   pub joins : JoinBy ms q pace best (suc reign.epoch) t last more (pace.since + 10000 + pace.late + 2 * pace.delay)
   joins = joined_by ms q pace best reign.epoch (pace.since + 10000) t last more quick (omega arith) C (deserted ms full q pace earlier reign r t R S W B quiet fits) L room (omega arith)

@@ -5,7 +5,7 @@ use Rattle.quorum_stays.specs.Reading.{ClocksGoOn}
 use Rattle.quorum_stays.specs.Steady.{Reign}
 use Rattle.quorum_timed.specs.Begins.{IsQuick}
 use Rattle.quorum_timed.specs.Timed.{Leads, Pace, Timed}
-use Rattle.std.proofs.Common.{Bool, List, ap, arith, inl, inr, sym, ℕ, ◌*◌, ◌++◌, ◌+◌, ◌<◌, ◌∙◌, ◌≤◌}
+use Rattle.std.proofs.Common.{Bool, List, ap, arith, inl, inr, refl, suc, sym, ℕ, ◌*◌, ◌++◌, ◌+◌, ◌<◌, ◌∙◌, ◌≤◌}
 use Rattle.std.proofs.lemmas.List.{append_assoc}
 use Rattle.timed_election.proofs.Parts.{joined}
 use Rattle.timed_election.specs.Election.{Election, reign_of}
@@ -25,7 +25,7 @@ module _ (ms : Monitors) (q : List Bool) (pace : Pace) (x : Query) (t last : Tim
   abbrev R : Reign
   R = reign_of x.election x.pn
 
-  pub serves : SteadyBy ms q pace t more (x.won + 4 * pace.delay)
+  pub serves : SteadyBy ms q pace x.election.best (suc x.election.epoch) t last more (x.won + 4 * pace.delay)
   serves = let by = H.by in elim H.heard [
     | inl k ↦ record {
       before = H.before;
@@ -33,22 +33,28 @@ module _ (ms : Monitors) (q : List Bool) (pace : Pace) (x : Query) (t last : Tim
       parts = H.parts;
       reached = H.reached;
       run = H.run;
+      rest = H.rest;
       by = omega arith;
       reign = R;
+      leader_is = refl;
+      epoch_is = refl;
       round = opening H.version x.value x.won (H.reached).time;
       steady = opens ms q pace R H.version x.value x.won H.reached short k;
     }
     | inr k ↦
         let y : Settling = record { version = H.version; value = x.value; won = x.won; found = record { value = k.0; at = (H.reached).time } } in
-        let S : IsSettledBy ms q pace R y H.reached H.after ((H.reached).time + 2 * pace.delay) = committed ms q pace quick short R y H.reached last H.after k.1 H.rest room (omega arith) in
+        let S : IsSettledBy ms q pace R y H.reached last H.after ((H.reached).time + 2 * pace.delay) = committed ms q pace quick short R y H.reached last H.after k.1 H.rest room (omega arith) in
         let end = S.by in record {
           before = H.before ++ S.before;
           after = S.after;
           parts = H.parts ∙ ap (λ (z : List (ℕ × Event)). H.before ++ z) S.parts ∙ sym (append_assoc H.before S.before S.after);
           reached = S.reached;
           run = joined ms q pace H.before t H.reached S.reached S.before H.run S.run;
+          rest = S.rest;
           by = omega arith;
           reign = R;
+          leader_is = refl;
+          epoch_is = refl;
           round = S.round;
           steady = S.steady;
         }
@@ -60,6 +66,6 @@ module _ (ms : Monitors) (q : List Bool) (pace : Pace) (E : Election) (version :
   asks : IsAsked ms q pace (query ms q pace quick E t K.won K.can K.odd K.together K.soon K.since K.ranks K.second K.second_in K.second_is K.votes version value K.fits K.made K.stocked K.learns K.low K.whole) t
   asks = asked ms q pace quick E t K.won K.can K.odd K.together K.soon K.since K.ranks K.second K.second_in K.second_is K.votes version value K.fits K.made K.stocked K.learns K.low K.whole
 
-  pub elected_serves : SteadyBy ms q pace t more (t.time + 4 * pace.delay)
+  pub elected_serves : SteadyBy ms q pace E.best (suc E.epoch) t last more (t.time + 4 * pace.delay)
   elected_serves = serves ms q pace (query ms q pace quick E t K.won K.can K.odd K.together K.soon K.since K.ranks K.second K.second_in K.second_is K.votes version value K.fits K.made K.stocked K.learns K.low K.whole)
       t last more quick short asks K.between L room late

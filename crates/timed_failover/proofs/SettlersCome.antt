@@ -263,7 +263,7 @@ module _ (ms : Monitors) (q : List Bool) (pace : Pace) (quick : IsQuick pace) (s
   -- ---- the run
 
   pub committed : (t last : Timed) (more : List (ℕ × Event)) → Settles ms q pace reign x t → Leads ms q pace t more last → ClocksGoOn q pace last.time → x.found.at + 2 * pace.delay < last.time
-      → IsSettledBy ms q pace reign x t more (x.found.at + 2 * pace.delay)
+      → IsSettledBy ms q pace reign x t last more (x.found.at + 2 * pace.delay)
   committed t last [] S L room late = let k = over ms q pace reign x t S last.time L.0 in absurd (omega arith)
   committed t last ((u, e) ∷ more) S L room late = by (stepped t S u L.0 room_now next e L.1.1) (λ Y. committed L.1.0 last more Y L.1.2 room late)
     where
@@ -279,13 +279,14 @@ module _ (ms : Monitors) (q : List Bool) (pace : Pace) (quick : IsQuick pace) (s
       room_now : ClocksGoOn q pace u
       room_now i qi = let k = room i qi in let a = time_is in let c = goes_on ms q pace reign quick more next last L.1.2 in omega arith
 
-      by : After u next → (Settles ms q pace reign x next → IsSettledBy ms q pace reign x next more (x.found.at + 2 * pace.delay)) → IsSettledBy ms q pace reign x t ((u, e) ∷ more) (x.found.at + 2 * pace.delay)
+      by : After u next → (Settles ms q pace reign x next → IsSettledBy ms q pace reign x next last more (x.found.at + 2 * pace.delay)) → IsSettledBy ms q pace reign x t last ((u, e) ∷ more) (x.found.at + 2 * pace.delay)
       by (inl Y) rest = (let W = rest Y in record {
         before = (u, e) ∷ W.before;
         after = W.after;
         parts = ap (λ (z : List (ℕ × Event)). (u, e) ∷ z) W.parts;
         reached = W.reached;
         run = (M, (next, L.1.1, W.run));
+        rest = W.rest;
         by = W.by;
         round = W.round;
         version = W.version;
@@ -298,6 +299,7 @@ module _ (ms : Monitors) (q : List Bool) (pace : Pace) (quick : IsQuick pace) (s
         parts = refl;
         reached = next;
         run = (M, (next, L.1.1, (here ms q pace next last more L.1.2, refl)));
+        rest = L.1.2;
         by = (let k = over ms q pace reign x t S u M in let z = time_is in omega arith);
         round = first_round u;
         version = refl;

@@ -10,7 +10,7 @@ use Rattle.quorum_stays.specs.Serving.{HandsOnNothing}
 use Rattle.quorum_stays.specs.Steady.{AllIn, AreApart, Carries, Reign, Round}
 use Rattle.quorum_timed.specs.Timed.{Pace, Timed}
 use Rattle.std.proofs.Common.{Bool, IsSomeAnd, List, None, Some, [], length, true, ℕ, ◌*◌, ◌+◌, ◌<◌, ◌^◌, ◌≡◌, ◌≤◌, ◌⊎◌}
-use Rattle.timed_failover.specs.Failover.{NobodyCalls}
+use Rattle.timed_failover.specs.Failover.{NoCallIsUnderWay}
 
 -- The monitor leads this quorum, has no value in progress, and no command waits at it. It renewed the leases at this time
 -- on its clock. Its timer of acknowledgements isn't armed, or ends at `least` or later.
@@ -54,7 +54,7 @@ pub record Waning (ms : Monitors) (full q : List Bool) (pace : Pace) (reign : Re
   pub others : (f i : ℕ) → has q f ≡ true → has q i ≡ true → AreApart reign.leader f i
       → Carries ms reign t.world.messages f i (t.time + pace.delay) [] (t.under_way f i)
   pub quiet : (i : ℕ) → has q i ≡ true → HandsOnNothing t.world.messages (t.under_way i reign.leader)
-  pub uncalled : NobodyCalls q t
+  pub uncalled : NoCallIsUnderWay q t
 
 -- a later time of the same reign: no version was committed
 pub record WanesOn (ms : Monitors) (full q : List Bool) (pace : Pace) (reign : Reign) (r : Round) (t : Timed) : Type 0 where

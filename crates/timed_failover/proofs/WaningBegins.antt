@@ -1,26 +1,22 @@
 -- A quorum that is led and loses a peon while nobody writes.
 use Rattle.law_names.proofs.Runs.{Monitors}
 use Rattle.law_names.proofs.Table.{State, has}
-use Rattle.quorum_stays.proofs.Bounds.{by_renewal, leading}
+use Rattle.quorum_stays.proofs.Bounds.{leading}
 use Rattle.quorum_stays.proofs.Onward.{pack}
 use Rattle.quorum_stays.proofs.Peering.{PeonIn}
 use Rattle.quorum_stays.specs.Serving.{NothingWaits}
 use Rattle.quorum_stays.specs.Steady.{Begun, Leads, LeadsSince, Reign, Round, Steady}
-use Rattle.quorum_timed.specs.Begins.{IsQuick}
-use Rattle.quorum_timed.specs.Timed.{MayBe, Pace, Timed}
-use Rattle.std.proofs.Common.{Bool, IsSomeAnd, List, None, Option, [], arith, inl, inr, subst, sym, true, ℕ, ◌+◌, ◌∙◌, ◌≡◌}
+use Rattle.quorum_timed.specs.Timed.{Pace, Timed}
+use Rattle.std.proofs.Common.{Bool, IsSomeAnd, List, None, Option, [], arith, inl, inr, subst, sym, true, ℕ, ◌+◌, ◌∙◌, ◌≡◌, ◌≤◌}
 use Rattle.std.proofs.lemmas.Bool.{cases_eq, false≢true}
 use Rattle.timed_failover.proofs.Waning.{Waning, calm}
 use Rattle.timed_failover.proofs.WaningFrame.{Renewer}
-use Rattle.timed_failover.specs.Failover.{IsWithout, NobodyCalls, from_time}
+use Rattle.timed_failover.specs.Failover.{IsWithout, NoCallIsUnderWay, from_time}
 
-module _ (ms : Monitors) (full q : List Bool) (pace : Pace) (earlier : ℕ) (reign : Reign) (K : IsQuick pace) (r : Round) (t : Timed) (M : MayBe ms full (from_time earlier pace) t pace.since)
-    (S : Steady ms full (from_time earlier pace) reign r t) (lost : ℕ) (W : IsWithout full q lost) (other : lost ≡ reign.leader → ⊥) (none : r.next ≡ None) (N : NothingWaits q reign t) (silent : NobodyCalls q t) where
+module _ (ms : Monitors) (full q : List Bool) (pace : Pace) (earlier : ℕ) (reign : Reign) (r : Round) (t : Timed) (soon : pace.since ≤ r.latest + 3000 + pace.late)
+    (S : Steady ms full (from_time earlier pace) reign r t) (lost : ℕ) (W : IsWithout full q lost) (other : lost ≡ reign.leader → ⊥) (none : r.next ≡ None) (N : NothingWaits q reign t) (silent : NoCallIsUnderWay q t) where
   abbrev before : Pace
   before = from_time earlier pace
-
-  quick : IsQuick (from_time earlier pace)
-  quick = record { elections = K.elections; leases = K.leases }
 
   -- a member that is left was a member
   was_member : (i : ℕ) → has q i ≡ true → has full i ≡ true
@@ -74,7 +70,7 @@ module _ (ms : Monitors) (full q : List Bool) (pace : Pace) (earlier : ℕ) (rei
     second_is = S.second_is;
     members = S.members;
     short = S.short;
-    since = by_renewal ms full before reign r t S quick pace.since M none;
+    since = soon;
     reached = S.reached;
     ordered = S.ordered;
     renewed = S.renewed;

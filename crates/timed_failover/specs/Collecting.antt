@@ -53,7 +53,7 @@ abbrev pub CanLearn : (version : ℕ) → List Op → Readings → Type 0
 CanLearn version value w =
     suc w.last ≡ version → record_at (play (Learn version value) w).record_of version ≡ Some value
 
--- It keeps all versions, or the last 502, and what is pending is the value of a command.
+-- It keeps all versions, or at least the last 502, and what is pending is the value of a command.
 pub record IsStocked (version : ℕ) (value : List Op) (w : Readings) : Type 0 where
   pub near : IsNear version value w
   pub low : (w.first ≤ 1) ⊎ (w.first + 501 ≤ w.last)
@@ -195,8 +195,8 @@ AreBetween q t = (f i : ℕ) → has q f ≡ true → has q i ≡ true
 -- ---- a victory
 
 -- A member of q, which has a second one, just won an election in time (`IsWon`). Of the election only calls and
--- acknowledgements are under way. No member lacks more than this version, for which it has some value pending then. None
--- promised the winner's number, and each answer to it fits one message.
+-- acknowledgements are under way. No member lacks more than this version, for which it has some value pending then. None of
+-- the others promised the winner's number or a greater one, and each answer to it fits one message.
 pub record IsElected (ms : Monitors) (q : List Bool) (pace : Pace) (E : Election) (version : ℕ) (value : List Op)
     (t : Timed) : Type 0 where
   pub can : CanElect ms q E.best

@@ -19,8 +19,8 @@ pub record IsWithout (full q : List Bool) (lost : ℕ) : Type 0 where
   pub others : (i : ℕ) → (i ≡ lost → ⊥) → has q i ≡ has full i
 
 -- no call for an election is under way among members
-abbrev pub NobodyCalls : List Bool → Timed → Type 0
-NobodyCalls q t = (f i : ℕ) → has q f ≡ true → has q i ≡ true
+abbrev pub NoCallIsUnderWay : List Bool → Timed → Type 0
+NoCallIsUnderWay q t = (f i : ℕ) → has q f ≡ true → has q i ≡ true
     → AllByRecursion (λ o. IsSomeAnd (message_at t.world.messages o.number) (λ m. IsCall m.message.body → ⊥))
     (t.under_way f i)
 
@@ -58,15 +58,19 @@ pub record IsPartedBy (ms : Monitors) (q : List Bool) (pace : Pace) (reign : Rei
   pub by : reached.time ≤ u
   pub parted : Parted ms q pace reign.leader reign.epoch reached
 
--- At some time of the run, and by time u, one of the members of q leads all of them.
-pub record SteadyBy (ms : Monitors) (q : List Bool) (pace : Pace) (t : Timed) (more : List (ℕ × Event)) (u : ℕ) : Type
-    0 where
+-- At some time of the run, and by time u, q is led by this member in this epoch (`Steady`). The rest of the run goes on from
+-- there.
+pub record SteadyBy (ms : Monitors) (q : List Bool) (pace : Pace) (leader epoch : ℕ) (t last : Timed)
+    (more : List (ℕ × Event)) (u : ℕ) : Type 0 where
   pub before : List (ℕ × Event)
   pub after : List (ℕ × Event)
   pub parts : more ≡ before ++ after
   pub reached : Timed
   pub run : Leads ms q pace t before reached
+  pub rest : Leads ms q pace reached after last
   pub by : reached.time ≤ u
   pub reign : Reign
+  pub leader_is : reign.leader ≡ leader
+  pub epoch_is : reign.epoch ≡ epoch
   pub round : Round
   pub steady : Steady ms q pace reign round reached

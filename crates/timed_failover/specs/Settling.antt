@@ -103,14 +103,16 @@ pub record Settles (ms : Monitors) (q : List Bool) (pace : Pace) (reign : Reign)
   pub others : (f i : ℕ) → has q f ≡ true → has q i ≡ true → AreApart reign.leader f i
       → Carries ms reign t.world.messages f i (t.time + pace.delay) [] (t.under_way f i)
 
--- At some time of the run, and by time u, q is led, and its last version is the one that had been found.
-pub record IsSettledBy (ms : Monitors) (q : List Bool) (pace : Pace) (reign : Reign) (x : Settling) (t : Timed)
+-- At some time of the run, and by time u, q is led, and its last version is the one that had been found. The rest of the run
+-- goes on from there.
+pub record IsSettledBy (ms : Monitors) (q : List Bool) (pace : Pace) (reign : Reign) (x : Settling) (t last : Timed)
     (more : List (ℕ × Event)) (u : ℕ) : Type 0 where
   pub before : List (ℕ × Event)
   pub after : List (ℕ × Event)
   pub parts : more ≡ before ++ after
   pub reached : Timed
   pub run : Leads ms q pace t before reached
+  pub rest : Leads ms q pace reached after last
   pub by : reached.time ≤ u
   pub round : Round
   pub version : round.version ≡ suc x.version

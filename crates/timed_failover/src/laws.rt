@@ -12,18 +12,18 @@ ghost use Rattle.quorum_stays.specs.Reading.{ClocksGoOn};
 ghost use Rattle.quorum_stays.specs.Serving.{NothingWaits, Writes};
 ghost use Rattle.quorum_stays.specs.Steady.{Reign, Round, Steady};
 ghost use Rattle.quorum_timed.specs.Begins.{Begins, IsQuick};
-ghost use Rattle.quorum_timed.specs.Timed.{Leads, MayBe, Pace, Timed};
+ghost use Rattle.quorum_timed.specs.Timed.{Leads, Pace, Timed};
 ghost use Rattle.timed_election.specs.Election.{CanElect, Election};
 ghost use Rattle.timed_election.specs.Joining.{Deserted};
 ghost use Rattle.timed_failover.specs.Collecting.{AreBetween, IsAsked, IsElected, IsHeardBy, Query};
-ghost use Rattle.timed_failover.specs.Failover.{IsPartedBy, IsReplacedBy, IsWithout, NobodyCalls, SteadyBy, from_time};
+ghost use Rattle.timed_failover.specs.Failover.{IsPartedBy, IsReplacedBy, IsWithout, NoCallIsUnderWay, SteadyBy, from_time};
 ghost use Rattle.timed_failover.specs.Newest.{IsNewest};
 ghost use Rattle.timed_failover.specs.Reached.{IsAsLed};
 ghost use Rattle.timed_failover.specs.Settling.{IsSettledBy, Opens, Settles, Settling, opening};
 
-/// A leader that serves under the newest number has the whole log. Its number is the newest if a majority of which all
-/// are in its quorum promised no greater one. This holds after every run of two or more monitors under any rule, crashes
-/// included.
+/// A leader that serves under the newest number has the whole log. Its number is the newest if the members of some
+/// majority, all in its quorum, promised no greater one. This holds after every run of two or more monitors under any
+/// rule, crashes included.
 pub fn law_leader_has_the_log()
     ensures { (ms : Monitors) (events : List Event) → AllFit ms.count events → 1 < ms.count → (i : ℕ) (s : State)
         → (run ms events).state i ≡ Some s → IsNewest ms.count (run ms events) s
@@ -37,13 +37,13 @@ pub fn law_led_quorum_has_the_log()
         → Steady ms q pace reign r t → IsAsLed q reign t.world }
 {}
 
-/// A quorum that is led and loses its leader is deserted by it, if no call for an election is under way. Each other
-/// member follows it until 10 seconds after that at the latest. None of them needs a copy of another's versions, and no
-/// call or answer to a probe is under way.
+/// A quorum that is led and loses its leader is deserted by it, if no call for an election is under way. The lease timer of
+/// each other member ends within 10 seconds after that. None of them needs a copy of another's versions, and no call or
+/// answer to a probe is under way.
 pub fn law_lost_leader_deserts()
     ensures { (ms : Monitors) (full q : List Bool) (pace : Pace) (earlier : ℕ) (reign : Reign) (r : Round) (t : Timed)
         → Reached ms t.world → Steady ms full (from_time earlier pace) reign r t → IsWithout full q reign.leader
-        → Begins ms q pace t → NobodyCalls q t → suc reign.epoch ≤ 2 ^ 62
+        → Begins ms q pace t → NoCallIsUnderWay q t → suc reign.epoch ≤ 2 ^ 62
         → Deserted q pace reign.epoch (pace.since + 10000) t }
 {}
 
@@ -54,7 +54,7 @@ pub fn law_found_value_is_committed()
     ensures { (ms : Monitors) (q : List Bool) (pace : Pace) (reign : Reign) (x : Settling) (t last : Timed)
         (more : List (ℕ × Event)) → IsQuick pace → 4 * pace.delay ≤ 3000 → Settles ms q pace reign x t
         → Leads ms q pace t more last → ClocksGoOn q pace last.time → x.found.at + 2 * pace.delay < last.time
-        → IsSettledBy ms q pace reign x t more (x.found.at + 2 * pace.delay) }
+        → IsSettledBy ms q pace reign x t last more (x.found.at + 2 * pace.delay) }
 {}
 
 /// A new leader that found nothing leads its quorum as soon as it gave the first leases, if that is within four delays
@@ -72,21 +72,22 @@ pub fn law_lost_leader_is_replaced()
     ensures { (ms : Monitors) (full q : List Bool) (pace : Pace) (earlier best : ℕ) (reign : Reign) (r : Round)
         (t last : Timed) (more : List (ℕ × Event)) → IsQuick pace → pace.delay < 1000 → Reached ms t.world
         → Steady ms full (from_time earlier pace) reign r t → IsWithout full q reign.leader → CanElect ms q best
-        → Begins ms q pace t → NobodyCalls q t → suc reign.epoch ≤ 2 ^ 62 → Leads ms q pace t more last
+        → Begins ms q pace t → NoCallIsUnderWay q t → suc reign.epoch ≤ 2 ^ 62 → Leads ms q pace t more last
         → ClocksGoOn q pace last.time → pace.since + 15000 + 2 * pace.delay + 2 * pace.late < last.time
         → IsReplacedBy ms q pace best (suc reign.epoch) t last more
         (pace.since + 15000 + 2 * pace.delay + 2 * pace.late) }
 {}
 
-/// A quorum that is led and loses a peon parts from its leader in time, if nobody writes: by 13 seconds after that and
+/// A quorum that is led and loses a peon parts from its leader in time, if no client writes: by 13 seconds after that and
 /// twice `late` the leader ceases to lead, since it lacks an acknowledgement, and probes. The other members still follow
-/// it then. At first no value is in progress, no command is on its way to the leader, and nothing is overdue.
+/// it then. At first no value is in progress, no command waits at the leader or is on its way to it, and the leader's
+/// renewal of the leases isn't overdue.
 pub fn law_lost_peon_parts()
     ensures { (ms : Monitors) (full q : List Bool) (pace : Pace) (earlier best lost : ℕ) (reign : Reign) (r : Round)
         (t last : Timed) (more : List (ℕ × Event)) → IsQuick pace → 4 * pace.delay ≤ 3000 → Reached ms t.world
-        → Steady ms full (from_time earlier pace) reign r t → MayBe ms full (from_time earlier pace) t pace.since
+        → Steady ms full (from_time earlier pace) reign r t → pace.since ≤ r.latest + 3000 + pace.late
         → IsWithout full q lost → (lost ≡ reign.leader → ⊥) → CanElect ms q best → Begins ms q pace t
-        → NobodyCalls q t → r.next ≡ None → NothingWaits q reign t → suc reign.epoch ≤ 2 ^ 62
+        → NoCallIsUnderWay q t → r.next ≡ None → NothingWaits q reign t → suc reign.epoch ≤ 2 ^ 62
         → Leads ms q pace t more last → AllByRecursion (λ m. Writes m.1 → ⊥) more → ClocksGoOn q pace last.time
         → pace.since + 13000 + 2 * pace.late < last.time
         → IsPartedBy ms q pace reign t last more (pace.since + 13000 + 2 * pace.late) }
@@ -102,13 +103,13 @@ pub fn law_new_leader_hears_all()
         → IsHeardBy ms q pace x t last more (x.won + 2 * pace.delay) }
 {}
 
-/// Such a leader serves within four delays after its victory: from some time up to then on its quorum is led (`Steady`).
-/// So it stays led (`law_stays_led`), and commands are answered.
+/// Such a leader serves within four delays after its victory: by then its quorum is led (`Steady`). It stays led
+/// (`law_stays_led`).
 pub fn law_new_leader_serves()
     ensures { (ms : Monitors) (q : List Bool) (pace : Pace) (x : Query) (t last : Timed) (more : List (ℕ × Event))
         → IsQuick pace → 4 * pace.delay ≤ 3000 → IsAsked ms q pace x t → AreBetween q t → Leads ms q pace t more last
         → ClocksGoOn q pace last.time → x.won + 4 * pace.delay < last.time
-        → SteadyBy ms q pace t more (x.won + 4 * pace.delay) }
+        → SteadyBy ms q pace x.election.best (suc x.election.epoch) t last more (x.won + 4 * pace.delay) }
 {}
 
 /// A member that won an election in time serves within four delays after that, if no member lacks more than one version
@@ -117,29 +118,33 @@ pub fn law_winner_serves()
     ensures { (ms : Monitors) (q : List Bool) (pace : Pace) (E : Election) (version : ℕ) (value : List Op)
         (t last : Timed) (more : List (ℕ × Event)) → IsQuick pace → 4 * pace.delay ≤ 3000
         → IsElected ms q pace E version value t → Leads ms q pace t more last → ClocksGoOn q pace last.time
-        → t.time + 4 * pace.delay < last.time → SteadyBy ms q pace t more (t.time + 4 * pace.delay) }
+        → t.time + 4 * pace.delay < last.time
+        → SteadyBy ms q pace E.best (suc E.epoch) t last more (t.time + 4 * pace.delay) }
 {}
 
-/// A quorum that loses a member serves again in time. If it is led and loses its leader, one of the others has won an
-/// election and leads all of them by 15 seconds after that, six delays and twice `late`: from then on the quorum is led
-/// (`Steady`). So it stays led (`law_stays_led`), and commands are answered. Clients may ask what they want meanwhile. If
-/// it loses another member, and no client writes, this holds by 18 seconds, seven delays and three times `late`. The
-/// leader renews the leases until it lacks an acknowledgement for 10 seconds, and then an election follows. At first no
-/// value is in progress, no command waits, and nothing is overdue.
+/// A quorum that loses one member is led again in time (`Steady`), if the others are a majority and one of them may lead.
+/// From `since` on that member takes no step, and nothing of it arrives. If it was the leader, the lowest rank of the
+/// others that may lead leads all of them within 15 seconds, six delays and twice `late`, whatever clients ask. If it was
+/// another member, this holds within 18 seconds, seven delays and three times `late`, if no client writes. In that case no
+/// value may be in progress at first, no command may wait at the leader or be on its way to it, and the leader's renewal
+/// of the leases may not be overdue. The quorum stays led (`law_stays_led`), so it may lose a member again. A set of
+/// members has a test for each of the 15 ranks.
 pub fn law_failover()
     ensures leader_lost { (ms : Monitors) (full q : List Bool) (pace : Pace) (earlier best : ℕ) (reign : Reign)
         (r : Round) (t last : Timed) (more : List (ℕ × Event)) → IsQuick pace → 4 * pace.delay ≤ 3000
         → Reached ms t.world → Steady ms full (from_time earlier pace) reign r t → IsWithout full q reign.leader
-        → CanElect ms q best → length q ≡ 15 → Begins ms q pace t → NobodyCalls q t → suc reign.epoch ≤ 2 ^ 62
+        → CanElect ms q best → length q ≡ 15 → Begins ms q pace t → NoCallIsUnderWay q t → suc reign.epoch ≤ 2 ^ 62
         → suc (suc r.version) ≤ 2 ^ 62 → Leads ms q pace t more last → ClocksGoOn q pace last.time
         → pace.since + 15000 + 6 * pace.delay + 2 * pace.late < last.time
-        → SteadyBy ms q pace t more (pace.since + 15000 + 6 * pace.delay + 2 * pace.late) }
+        → SteadyBy ms q pace best (suc (suc reign.epoch)) t last more
+        (pace.since + 15000 + 6 * pace.delay + 2 * pace.late) }
     ensures peon_lost { (ms : Monitors) (full q : List Bool) (pace : Pace) (earlier best lost : ℕ)
         (reign : Reign) (r : Round) (t last : Timed) (more : List (ℕ × Event)) → IsQuick pace → 4 * pace.delay ≤ 3000
         → Reached ms t.world → Steady ms full (from_time earlier pace) reign r t → r.next ≡ None → NothingWaits q reign t
-        → MayBe ms full (from_time earlier pace) t pace.since → IsWithout full q lost → (lost ≡ reign.leader → ⊥)
-        → Begins ms q pace t → NobodyCalls q t → CanElect ms q best → length q ≡ 15 → suc reign.epoch ≤ 2 ^ 62
+        → pace.since ≤ r.latest + 3000 + pace.late → IsWithout full q lost → (lost ≡ reign.leader → ⊥)
+        → Begins ms q pace t → NoCallIsUnderWay q t → CanElect ms q best → length q ≡ 15 → suc reign.epoch ≤ 2 ^ 62
         → suc (suc r.version) ≤ 2 ^ 62 → Leads ms q pace t more last → AllByRecursion (λ m. Writes m.1 → ⊥) more
         → ClocksGoOn q pace last.time → pace.since + 18000 + 7 * pace.delay + 3 * pace.late < last.time
-        → SteadyBy ms q pace t more (pace.since + 18000 + 7 * pace.delay + 3 * pace.late) }
+        → SteadyBy ms q pace best (suc (suc reign.epoch)) t last more
+        (pace.since + 18000 + 7 * pace.delay + 3 * pace.late) }
 {}
