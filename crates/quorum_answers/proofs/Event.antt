@@ -6,7 +6,7 @@ use Rattle.mon_wire.specs.declared.body.Body.TheVariants as body
 use Rattle.mon_wire.specs.declared.phase.Phase.TheVariants as phase
 use Rattle.mon_wire.specs.declared.request.Request.TheVariants as request
 use Rattle.quorum_agreement.proofs.Lone.{active_is}
-use Rattle.quorum_answers.proofs.Rows.{BodyKnown, InputKnown, RequestKnown, reacts}
+use Rattle.quorum_answers.proofs.Rows.{BodyKnown, HandKnown, InputKnown, reacts}
 use Rattle.quorum_answers.proofs.Saying as saying
 use Rattle.quorum_history.proofs.History.{Accepted}
 use Rattle.quorum_history.proofs.Holds.{BodyHolds, HasSource, InPhase, core_of}
@@ -17,6 +17,7 @@ use Rattle.quorum_laws.proofs.Invariant.{InvWith}
 use Rattle.quorum_walk.proofs.Sparing.{own_of}
 use Rattle.quorum_walk.proofs.Walk.{Then}
 use Rattle.std.proofs.Common.{List, refl, subst, true, ℕ, ◌≡◌}
+use Rattle.table_walk.proofs.Steps.{asked_by}
 
 module _ (ms : Monitors) (w : World) (asked : List Asked) (J : InvWith ms w asked) (On : Envelope → Type 0) (d : Does ms w On asked J) where
   abbrev pub me : Me
@@ -52,10 +53,10 @@ module _ (ms : Monitors) (w : World) (asked : List Asked) (J : InvWith ms w aske
         by b q = tt
     known (input.Client t r) is h = by r h
       where
-        by : (r : Request) → clients.IsAsked J.g d.by.rank t r → RequestKnown me d.by.at w0 s d.by.came From Routed Voted t r
-        by (request.Set key value) h = h
-        by (request.Remove key) h = h
-        by (request.Log text) h = h
+        by : (r : Request) → clients.IsAsked J.g d.by.rank t r → HandKnown me d.by.at w0 s d.by.came From Routed Voted (asked_by r t) w0 s.phase
+        by (request.Set key value) h = (h, refl, refl)
+        by (request.Remove key) h = (h, refl, refl)
+        by (request.Log text) h = (h, refl, refl)
         by (request.Show v) h = tt
         by (request.Since v z) h = tt
     known other is h = tt

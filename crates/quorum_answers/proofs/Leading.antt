@@ -1,8 +1,7 @@
 -- A leader's acts, elections and new beginnings, as `Saying` has them.
-use Rattle.law_names.proofs.Table.{AllByRecursion, Body, Cell, Change, Command, Course, Found, Input, Me, Numbers, Op, Origin, Phase, Readings, Reply, Sent, State, allows, answers_to, be_active, begin, begin_alone, begin_found, begin_with, bootstrap, collect, collect_with, commits_to, commits_with, elect, epoch_of, extend, fits, flat_map, in_next_epoch, in_odd_epoch, is_alone, is_even, learn, longest, members, message_to, missed, next_even, next_number, only, or_zero, others, own_table, promise_of, reign, run_from, settle, value, win}
+use Rattle.law_names.proofs.Table.{AllByRecursion, Body, Cell, Change, Command, Course, Found, Input, Me, Numbers, Op, Origin, Phase, Readings, Reply, Sent, State, allows, be_active, begin, begin_alone, begin_found, begin_with, bootstrap, collect, collect_with, commits_to, commits_with, elect, epoch_of, extend, fits, flat_map, in_next_epoch, in_odd_epoch, is_alone, is_even, learn, longest, members, message_to, missed, next_even, next_number, only, or_zero, others, own_table, promise_of, reign, run_from, settle, value, win}
 use Rattle.log_model.proofs.Records.{run_from_length}
 use Rattle.mon_msg.proofs.Runs.{longest_is}
-use Rattle.mon_msg.specs.declared.plan.Origin.TheVariants as origin
 use Rattle.mon_types.specs.declared.names.Which.TheVariants as which
 use Rattle.mon_wire.specs.declared.body.Body.TheVariants as body
 use Rattle.mon_wire.specs.declared.phase.Phase.TheVariants as phase
@@ -76,22 +75,12 @@ module _ (me : Me) (now : ℕ) (w : Readings) (s : State) (came : Input) (From :
   -- a quorum of the leader alone commits at once
   pub alone : (v : ℕ) (value : List Op) (o : Option Origin) (x : Course) → is_alone me x.state.leader.quorum ≡ true → AllByRecursion Founded x.out → AllByRecursion NoRefusal x.out → Then Outcome (begin_alone me v value o x)
   unfolding begin_alone
-  alone v value o x t O N = and_then (Learned v (value ∷ []) x) Outcome (learn v (value ∷ []) x) _ (learns v (value ∷ []) x) (λ y K. done (inr (record {
-    out = all_append Founded y.out _ (subst (AllByRecursion Founded) (sym K.out) O) (answered (epoch_of y.readings) o);
-    calm = inl (all_append NoRefusal y.out _ (subst (AllByRecursion NoRefusal) (sym K.out) N) (calm_answer (epoch_of y.readings) o));
+  alone v value o x t O N = and_then (Learned v (value ∷ []) x) Outcome (learn v (value ∷ []) x) _ (learns v (value ∷ []) x) (λ y K. let plain = saying.answers_plain me now w s came From Routed Voted (epoch_of y.readings) o (reply.Done v) (λ u. u) in done (inr (record {
+    out = all_append Founded y.out _ (subst (AllByRecursion Founded) (sym K.out) O) (saying.all_founded me now w s came From Routed Voted (epoch_of y.readings) v _ (saying.all_short me now w s came From Routed Voted (epoch_of y.readings) v _ plain));
+    calm = inl (all_append NoRefusal y.out _ (subst (AllByRecursion NoRefusal) (sym K.out) N) (saying.all_plain_calm me now w s came From Routed Voted _ plain));
     leads = refl;
     alone = ap (λ (z : State). is_alone me z.leader.quorum) K.state ∙ t;
   })))
-    where
-      answered : (e : ℕ) (o : Option Origin) → AllByRecursion Founded (answers_to me e o (reply.Done v))
-      answered e None = tt
-      answered e (Some (origin.Session t)) = ((λ r. absurd r), tt)
-      answered e (Some (origin.Forwarded f seq)) = ((λ r. absurd r), tt)
-
-      calm_answer : (e : ℕ) (o : Option Origin) → AllByRecursion NoRefusal (answers_to me e o (reply.Done v))
-      calm_answer e None = tt
-      calm_answer e (Some (origin.Session t)) = ((λ r. r), tt)
-      calm_answer e (Some (origin.Forwarded f seq)) = (tt, tt)
 
   begins_found : (found : Option Found) (x : Course) → GathersAt x → AllShort x → Then Outcome (begin_found me now found x)
   unfolding begin begin_with

@@ -1,5 +1,5 @@
 -- What an event makes of a monitor, as `Saying` has it.
-use Rattle.law_names.proofs.Table.{AllByRecursion, Asked, Body, Change, Command, Course, Entry, Input, Last, MOST_WAITING, Me, Op, Origin, Phase, Promise, Readings, Reply, Request, Sent, Session, State, Unmark, Vote, Waiting, adopt, all_accepted, answer_any, answer_to, answers_to, are_within, asked_of, at_rest, be_active, begin, begin_with, change, commit, disarm, epoch_of, extend, full_sync, has, is_alone, is_one_of, is_peon, is_standing, leader_is, learn, members, message_to, news, news_from, of_leader, of_member, pending, promise_of, react, recent_sync, refusal, same_phase, send_each, shown, since, start, text, too_long, value, with_rank, ◌▸◌}
+use Rattle.law_names.proofs.Table.{AllByRecursion, Asked, Body, Change, Command, Course, Entry, Input, Last, MOST_WAITING, Me, Op, Origin, Phase, Promise, Readings, Reply, Sent, State, Unmark, Vote, Waiting, adopt, all_accepted, answer_any, answer_to, are_within, asked_of, at_rest, be_active, begin, begin_with, change, commit, disarm, epoch_of, extend, full_sync, has, is_alone, is_one_of, is_peon, is_standing, leader_is, learn, members, message_to, news, news_from, of_leader, of_member, pending, promise_of, react, recent_sync, refusal, same_phase, send_each, shown, since, start, too_long, value, with_rank, ◌▸◌}
 use Rattle.mon_bytes.specs.declared.command.Command.TheVariants as command
 use Rattle.mon_msg.specs.Protocol.Course.{timers_are}
 use Rattle.mon_msg.specs.declared.input.Input.TheVariants as input
@@ -25,7 +25,7 @@ use Rattle.quorum_walk.proofs.Walk.{Then, and_then, and_three, by_test, done, or
 use Rattle.std.proofs.Common.{List, None, Option, Some, T, [], ap, arith, eqb, false, filter, inl, inr, is_some, length, length-drop, ltb, map, not, refl, subst, suc, sym, true, ℕ, ◌&&◌, ◌++◌, ◌+◌, ◌-◌, ◌||◌, ◌∙◌, ◌∷◌, ◌≡◌, ◌≤◌, ◌⊎◌}
 use Rattle.std.proofs.lemmas.Bool.{and_parts, cond_both, eqb-true, ltb-false, not-false, or_parts}
 use Rattle.table_walk.proofs.Acts.{Acts, accepted_by}
-use Rattle.table_walk.proofs.Steps.{CommandOf, FoundOf, HeardFrom, InHand, MayAnswer, MayCommit, MayHold, MaySay, MaySend, MayWrite, Nothing, ReadOf, Steps, ValueOf, brought, busy_queue, busy_sessions, leading, not_readable, origin_of, refused, shows_map, shows_since, too_much, unread, unserved}
+use Rattle.table_walk.proofs.Steps.{CommandOf, FoundOf, HeardFrom, InHand, MayAnswer, MayCommit, MayHold, MaySay, MaySend, MayWrite, Nothing, ReadOf, Steps, ValueOf, asked_by, brought, busy_queue, busy_sessions, leading, not_readable, origin_of, refused, shows_map, shows_since, too_much, unread, unserved}
 use Rattle.table_walk.proofs.Table.{walked}
 
 module _ (me : Me) (now : ℕ) (w : Readings) (s : State) (came : Input) (From : ℕ → Command → Origin → Type 0) (Routed : (f e seq : ℕ) → Reply → Type 0) (Voted : (f pn v : ℕ) → Type 0) where
@@ -99,15 +99,14 @@ module _ (me : Me) (now : ℕ) (w : Readings) (s : State) (came : Input) (From :
   BodyKnown f e (body.Accept pn v) = Voted f pn v
   BodyKnown f e other = Unit {0}
 
-  abbrev pub RequestKnown : Session → Request → Type 0
-  RequestKnown t (request.Set key value) = From (epoch_of w) (command.Set key value) (origin.Session t)
-  RequestKnown t (request.Remove key) = From (epoch_of w) (command.Remove key) (origin.Session t)
-  RequestKnown t (request.Log text) = From (epoch_of w) (command.Log text) (origin.Session t)
-  RequestKnown t other = Unit {0}
+  -- the source of a command in hand is known, and neither the store nor the phase has changed
+  abbrev pub HandKnown : InHand → Readings → Phase → Type 0
+  HandKnown (CommandOf c o) r p = From (epoch_of w) c o × (r ≡ w) × (p ≡ s.phase)
+  HandKnown other r p = Unit {0}
 
   abbrev pub InputKnown : Input → Type 0
   InputKnown (input.Deliver m) = BodyKnown m.from m.epoch m.body
-  InputKnown (input.Client t r) = RequestKnown t r
+  InputKnown (input.Client t r) = HandKnown (asked_by r t) w s.phase
   InputKnown other = Unit {0}
 
   -- ---- a value is committed
@@ -137,24 +136,15 @@ module _ (me : Me) (now : ℕ) (w : Readings) (s : State) (came : Input) (From :
         | inr e ↦ inr (inr (record { epoch = learned_same (suc w.last) (value ∷ []) (counted f) y K (λ F. refl); last = up y K; in_phase = e; voter = f; voted = T.voted; whole = T.whole }))
       ]
 
-      answers_short : (p : Phase) (e v u : ℕ) (o : Option Origin) → AllByRecursion (SaysSent p e v) (answers_to me e o (reply.Done u))
-      answers_short p e v u None = tt
-      answers_short p e v u (Some (origin.Session t)) = ((λ r. absurd r), tt)
-      answers_short p e v u (Some (origin.Forwarded g seq)) = ((λ r. absurd r), tt)
-
-      answers_calm : (e u : ℕ) (o : Option Origin) → AllByRecursion NoRefusal (answers_to me e o (reply.Done u))
-      answers_calm e u None = tt
-      answers_calm e u (Some (origin.Session t)) = ((λ r. r), tt)
-      answers_calm e u (Some (origin.Forwarded g seq)) = (tt, tt)
-
       by : (y : Course) → Learned (suc w.last) (value ∷ []) (counted f) y → AllByRecursion (Short (epoch_of y.readings) y.readings.last) (y.out ++ map (message_to me (epoch_of y.readings) (body.Commit (suc w.last) (value ∷ []))) (members me y.state.leader.quorum))
           → Good (y ▸ disarm timer.Accept ▸ leader_is (record y.state.leader { value = None; origin = None }) ▸ send_each me (members me y.state.leader.quorum) (body.Commit (suc w.last) (value ∷ [])) ▸ be_active me now ▸ answer_any me y.state.leader.origin (reply.Done (suc w.last)))
       by y K S =
           let x : Course = y ▸ disarm timer.Accept ▸ leader_is (record y.state.leader { value = None; origin = None }) ▸ send_each me (members me y.state.leader.quorum) (body.Commit (suc w.last) (value ∷ [])) in
           let G = active x S (goes y K) in
+          let plain = saying.answers_plain me now w s came From Routed Voted (epoch_of (be_active me now x).readings) y.state.leader.origin (reply.Done (suc w.last)) (λ u. u) in
           record {
-            calm = elim G.calm [ inl k ↦ inl (all_append NoRefusal (be_active me now x).out _ k (answers_calm (epoch_of (be_active me now x).readings) (suc w.last) y.state.leader.origin)) | inr e ↦ inr e ];
-            out = all_append _ (be_active me now x).out _ G.out (answers_short (be_active me now x).state.phase (epoch_of (be_active me now x).readings) (be_active me now x).readings.last (suc w.last) y.state.leader.origin);
+            calm = elim G.calm [ inl k ↦ inl (all_append NoRefusal (be_active me now x).out _ k (saying.all_plain_calm me now w s came From Routed Voted _ plain)) | inr e ↦ inr e ];
+            out = all_append _ (be_active me now x).out _ G.out (saying.all_says me now w s came From Routed Voted (be_active me now x).state.phase (epoch_of (be_active me now x).readings) (be_active me now x).readings.last _ (saying.all_answers me now w s came From Routed Voted _ plain));
             lead = G.lead;
           }
 
@@ -210,21 +200,12 @@ module _ (me : Me) (now : ℕ) (w : Readings) (s : State) (came : Input) (From :
   -- ---- the walk
 
   module _ (Q : QueueKnown) (shared : List Entry) (input_known : InputKnown came) where
-    -- the source of a command in hand is known, and neither the store nor the phase has changed
-    abbrev HandKnown : InHand → Readings → Phase → Type 0
-    HandKnown (CommandOf c o) r p = From (epoch_of w) c o × (r ≡ w) × (p ≡ s.phase)
-    HandKnown other r p = Unit {0}
-
     -- neither a LEASE nor a COMMIT is sent so far, and no session is refused
     abbrev Plain : InHand → Course → Type 0
     Plain h x = AllPlain x.out × LeadAt x × HandKnown h x.readings x.state.phase
 
     asked_known : (c : Input) → InputKnown c → HandKnown (brought c) w s.phase
-    asked_known (input.Client t (request.Set key value)) k = (k, refl, refl)
-    asked_known (input.Client t (request.Remove key)) k = (k, refl, refl)
-    asked_known (input.Client t (request.Log text)) k = (k, refl, refl)
-    asked_known (input.Client t (request.Show v)) k = tt
-    asked_known (input.Client t (request.Since v n)) k = tt
+    asked_known (input.Client t r) k = k
     asked_known other k = tt
 
     heard_known : {f e : ℕ} {m : Body} → HeardFrom me came f e m → BodyKnown f e m
@@ -286,14 +267,9 @@ module _ (me : Me) (now : ℕ) (w : Readings) (s : State) (came : Input) (From :
 
     -- ---- answers
 
-    plain_answers : (e : ℕ) (o : Option Origin) (r : Reply) → (IsRefusalReply r → ⊥) → AllPlain (answers_to me e o r)
-    plain_answers e None r k = tt
-    plain_answers e (Some (origin.Session t)) r k = (k, tt)
-    plain_answers e (Some (origin.Forwarded f seq)) r k = ((λ u. absurd (k u)), tt)
-
     module _ (x : Course) where
       replied : (h : InHand) (r : Reply) → (IsRefusalReply r → ⊥) → Plain h x → Outcome (answer_any me (origin_of h) r x)
-      replied h r k A = quietly _ (more x.out _ A.0 (plain_answers (epoch_of x.readings) (origin_of h) r k)) A.1
+      replied h r k A = quietly _ (more x.out _ A.0 (saying.answers_plain me now w s came From Routed Voted (epoch_of x.readings) (origin_of h) r k)) A.1
 
       refuses : (c : Command) (o : Origin) (r : Reply) → saying.WhyOf me now w s came From Routed Voted (asked_of me o) c r → Plain (CommandOf c o) x → Outcome (answer_any me (Some o) r x)
       refuses c o r why A =

@@ -1,6 +1,6 @@
 -- What an event sends, how a leader's last version and a peon's lease come about, and why a command is refused.
 use Rattle.law_names.proofs.Runs.{is_active}
-use Rattle.law_names.proofs.Table.{AllByRecursion, Asked, Body, Change, Command, CommandRefused, Course, Input, Last, Me, Message, Op, Origin, Phase, Readings, Reply, Sent, Session, State, are_within, asked_of, epoch_of, is_alone, is_leading, is_peon, is_too_long, learn, learn_changes, message_to, refusal, same_phase, too_long, value, with_rank}
+use Rattle.law_names.proofs.Table.{AllByRecursion, Asked, Body, Change, Command, CommandRefused, Course, Input, Last, Me, Message, Op, Origin, Phase, Readings, Reply, Sent, Session, State, answers_to, are_within, asked_of, epoch_of, is_alone, is_leading, is_peon, is_too_long, learn, learn_changes, message_to, refusal, same_phase, too_long, value, with_rank}
 use Rattle.mon_msg.specs.declared.input.Input.TheVariants as input
 use Rattle.mon_msg.specs.declared.plan.Origin.TheVariants as origin
 use Rattle.mon_msg.specs.declared.plan.Sent.TheVariants as sent
@@ -14,7 +14,7 @@ use Rattle.quorum_walk.proofs.FineCourses.{Fit}
 use Rattle.quorum_walk.proofs.Lists.{Among, all_append, all_map, all_of}
 use Rattle.quorum_walk.proofs.Sparing.{Own, Spares, learned_own}
 use Rattle.quorum_walk.proofs.Walk.{Then, done, where_fits}
-use Rattle.std.proofs.Common.{Bool, Err, List, Ok, Option, [], ap, append-nil, arith, false, inl, inr, is_some, length, map, refl, subst, suc, sym, true, ℕ, ◌++◌, ◌+◌, ◌<◌, ◌∙◌, ◌∷◌, ◌≡◌, ◌≤◌, ◌⊎◌}
+use Rattle.std.proofs.Common.{Bool, Err, List, None, Ok, Option, Some, [], ap, append-nil, arith, false, inl, inr, is_some, length, map, refl, subst, suc, sym, true, ℕ, ◌++◌, ◌+◌, ◌<◌, ◌∙◌, ◌∷◌, ◌≡◌, ◌≤◌, ◌⊎◌}
 use Rattle.std.proofs.lemmas.List.{append_assoc}
 
 -- ---- a leader's phases
@@ -307,6 +307,12 @@ module _ (me : Me) (now : ℕ) (w : Readings) (s : State) (came : Input) (From :
 
   pub all_plain_calm : (out : List Sent) → AllPlain out → AllByRecursion NoRefusal out
   all_plain_calm out k = all_map IsPlain NoRefusal plain_calm out k
+
+  -- an answer that refuses nothing
+  pub answers_plain : (e : ℕ) (o : Option Origin) (r : Reply) → (IsRefusalReply r → ⊥) → AllPlain (answers_to me e o r)
+  answers_plain e None r k = tt
+  answers_plain e (Some (origin.Session t)) r k = (k, tt)
+  answers_plain e (Some (origin.Forwarded f seq)) r k = ((λ u. absurd (k u)), tt)
 
   pub quietly : (y : Course) → AllPlain y.out → LeadAt y → Outcome y
   quietly y out lead = inl (record { out = all_say y (all_answers y.out out); calm = inl (all_plain_calm y.out out); lead = lead })
