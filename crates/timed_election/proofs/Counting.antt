@@ -30,16 +30,16 @@ count_lacking (false ∷ A) (suc n) (suc m) below lt out = let k = count_lacking
 pub not_whole : (ms : Monitors) (q : List Bool) (best : ℕ) → CanElect ms q best → (A : List Bool) → ((k : ℕ) → has A k ≡ true → has q k ≡ true) → eqb (count_of A) ms.count ≡ false
 not_whole ms q best C A members = by (eqb (count_of A) ms.count) refl
   where
-    lacks : (z : Bool) → has A C.lost ≡ z → z ≡ false
+    lacks : (z : Bool) → has A C.outsider ≡ z → z ≡ false
     lacks false h = refl
-    lacks true h = absurd (false≢true (sym C.outside ∙ members C.lost h))
+    lacks true h = absurd (false≢true (sym C.outside ∙ members C.outsider h))
 
     by : (z : Bool) → eqb (count_of A) ms.count ≡ z → z ≡ false
     by false h = refl
     by true h =
-        let less = count_lacking A ms.count C.lost (λ k h. C.members k (members k h)) C.in_map (lacks (has A C.lost) refl) in
+        let less = count_lacking A ms.count C.outsider (λ k h. C.members k (members k h)) C.in_map (lacks (has A C.outsider) refl) in
         let same = eqb-true (count_of A) ms.count h in
         absurd (omega arith)
 
 pub several : (ms : Monitors) (q : List Bool) (best : ℕ) → CanElect ms q best → 1 < ms.count
-several ms q best C = let a = C.members best C.member in let c = C.in_map in let ne : C.lost ≡ best → ⊥ = (λ k. false≢true (sym C.outside ∙ subst (λ (z : ℕ). has q z ≡ true) (sym k) C.member)) in omega arith
+several ms q best C = let a = C.members best C.member in let c = C.in_map in let ne : C.outsider ≡ best → ⊥ = (λ k. false≢true (sym C.outside ∙ subst (λ (z : ℕ). has q z ≡ true) (sym k) C.member)) in omega arith

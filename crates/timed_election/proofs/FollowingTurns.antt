@@ -29,11 +29,11 @@ use Rattle.timed_election.proofs.JoiningTurns.{first_of, goes_out, joined_turn, 
 use Rattle.timed_election.proofs.Lists.{closed, message_in, opened}
 use Rattle.timed_election.proofs.Outcomes.{Heard as Came}
 use Rattle.timed_election.specs.Election.{CanElect}
-use Rattle.timed_election.specs.Joining.{FollowsLost, IsNear, LeavesStores}
+use Rattle.timed_election.specs.Joining.{FollowsLost, LeavesStores, NeedsNoCopy}
 use Rattle.timed_election.specs.Probing.{IsProbe, IsProbing}
 
 module _ (ms : Monitors) (q : List Bool) (pace : Pace) (short : 2 * pace.delay < 2000) (B : Beginning) (C : CanElect ms q B.best) (enough : B.top + 2 * pace.delay ≤ B.end)
-    (near : (i j : ℕ) → has q i ≡ true → has q j ≡ true → IsNear (B.stores i).last (B.stores j).first (B.stores j).last) where
+    (near : (i j : ℕ) → has q i ≡ true → has q j ≡ true → NeedsNoCopy (B.stores i).last (B.stores j).first (B.stores j).last) where
   abbrev F : Type 0
   F = First ms q pace B
 

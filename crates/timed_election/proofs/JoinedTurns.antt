@@ -28,10 +28,10 @@ use Rattle.timed_election.proofs.Lists.{arrives_last, at_place, closed, letter_i
 use Rattle.timed_election.proofs.Outcomes.{Heard as Came, IsLow, Outcome, Stays, ack_taken, calls, calls_again, counts, defers, reacted, rests, wins}
 use Rattle.timed_election.proofs.Ranking.{nobody_better, not_itself}
 use Rattle.timed_election.specs.Election.{ArrivesBy, CanElect, Defers, Election, Heard, IsAck, Stands, TakesPart, in_election}
-use Rattle.timed_election.specs.Joining.{IsNear}
+use Rattle.timed_election.specs.Joining.{NeedsNoCopy}
 
 module _ (ms : Monitors) (q : List Bool) (pace : Pace) (short : 2 * pace.delay < 2000) (B : Beginning) (C : CanElect ms q B.best) (enough : B.top + 2 * pace.delay ≤ B.end)
-    (near : (i j : ℕ) → has q i ≡ true → has q j ≡ true → IsNear (B.stores i).last (B.stores j).first (B.stores j).last) where
+    (near : (i j : ℕ) → has q i ≡ true → has q j ≡ true → NeedsNoCopy (B.stores i).last (B.stores j).first (B.stores j).last) where
   abbrev F : Type 0
   F = First ms q pace B
 

@@ -9,7 +9,7 @@ use Rattle.quorum_timed.specs.Calls.{IsCall}
 use Rattle.quorum_timed.specs.Timed.{MayBe, Owed, Pace, Timed}
 use Rattle.std.proofs.Common.{Bool, IsSomeAnd, List, None, Option, Some, [], arith, false, min, refl, suc, true, ℕ, ◌*◌, ◌+◌, ◌<◌, ◌∷◌, ◌≡◌, ◌≤◌, ◌⊎◌}
 use Rattle.timed_election.specs.Election.{ArrivesBy, Election, Heard, IsAck, Stands, TakesPart}
-use Rattle.timed_election.specs.Joining.{FollowsLost, IsNearIn, LeavesStores}
+use Rattle.timed_election.specs.Joining.{CausesNoCopy, FollowsLost, LeavesStores}
 use Rattle.timed_election.specs.Probing.{IsAnswer, IsProbe, IsProbing}
 
 -- a message under way arrives by then
@@ -50,7 +50,7 @@ module _ (ms : Monitors) (q : List Bool) (pace : Pace) (B : Beginning) where
     pub sender : message.from ≡ f
     pub epoch : message.epoch ≤ suc B.epoch
     pub calls : IsCall message.body → (message.epoch ≡ suc B.epoch) × (epoch_of (readings_of (v.store f)) ≡ suc B.epoch)
-    pub near : IsNearIn (B.stores i).last message.body
+    pub near : CausesNoCopy (B.stores i).last message.body
     pub leaves : B.former ≡ Some f → LeavesStores message.body
     pub in_time : o.by ≤ until
 

@@ -13,14 +13,14 @@ use Rattle.std.proofs.lemmas.Option.{none-some}
 use Rattle.timed_election.proofs.Joining.{Beginning, Goes, Joining, Kept, Standing, election, loyal, peon, prober}
 use Rattle.timed_election.proofs.Lists.{closed, opened}
 use Rattle.timed_election.specs.Election.{CanElect, IsAck, in_election}
-use Rattle.timed_election.specs.Joining.{Deserted, IsNearIn, IsOld, IsOther, LeavesStores, Parted, Uncalled}
+use Rattle.timed_election.specs.Joining.{CausesNoCopy, Deserted, IsOld, IsOther, LeavesStores, Parted, Uncalled}
 use Rattle.timed_election.specs.Probing.{IsProbing}
 
 no_call : (b : Body) → IsOther b → IsCall b → ⊥
 no_call (body.Propose table) k c = k
 no_call other k c = c
 
-near_other : (n : ℕ) (b : Body) → IsOther b → IsNearIn n b
+near_other : (n : ℕ) (b : Body) → IsOther b → CausesNoCopy n b
 near_other n (body.ProbeReply quorum first last) k = absurd k
 near_other n other k = tt
 

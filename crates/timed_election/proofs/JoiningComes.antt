@@ -14,11 +14,11 @@ use Rattle.timed_election.proofs.Coming.{Handled, How, again, asks, fires, first
 use Rattle.timed_election.proofs.Joining.{Beginning, First, Goes, IsIn, Joining, Standing, joined, loyal, peon, prober}
 use Rattle.timed_election.proofs.Lists.{message_in, opened}
 use Rattle.timed_election.specs.Election.{CanElect}
-use Rattle.timed_election.specs.Joining.{FollowsLost, IsNearIn, LeavesStores}
+use Rattle.timed_election.specs.Joining.{CausesNoCopy, FollowsLost, LeavesStores}
 use Rattle.timed_election.specs.Probing.{IsProbing}
 
 -- a call is near any versions, and changes no store
-near_call : (n : ℕ) (b : Body) → IsCall b → IsNearIn n b
+near_call : (n : ℕ) (b : Body) → IsCall b → CausesNoCopy n b
 near_call n (body.Propose table) k = tt
 near_call n other k = absurd k
 
@@ -61,7 +61,7 @@ module _ (ms : Monitors) (q : List Bool) (pace : Pace) (B : Beginning) where
     pub record Known (m : Message) : Type 0 where
       pub member : has q m.from ≡ true
       pub epoch : m.epoch ≤ suc B.epoch
-      pub close : IsNearIn (B.stores i).last m.body
+      pub close : CausesNoCopy (B.stores i).last m.body
       pub leaves : B.former ≡ Some m.from → LeavesStores m.body
       pub calls : IsCall m.body → (m.epoch ≡ suc B.epoch) × IsIn ms q pace B t m.from
 

@@ -18,7 +18,7 @@ use Rattle.timed_election.proofs.Joining.{Beginning, Begun, Called, First, Goes,
 use Rattle.timed_election.proofs.Lists.{arrives_more, at_place, closed, old_or_new, opened}
 use Rattle.timed_election.proofs.Probing.{goes, still_by}
 use Rattle.timed_election.specs.Election.{ArrivesBy, CanElect, IsAck, in_election}
-use Rattle.timed_election.specs.Joining.{FollowsLost, IsNearIn, LeavesStores}
+use Rattle.timed_election.specs.Joining.{CausesNoCopy, FollowsLost, LeavesStores}
 use Rattle.timed_election.specs.Probing.{CanAnswer, IsProbing, Probes}
 
 module _ (ms : Monitors) (q : List Bool) (pace : Pace) (short : 2 * pace.delay < 2000) (B : Beginning) (C : CanElect ms q B.best) (enough : B.top + 2 * pace.delay ≤ B.end) where
@@ -247,7 +247,7 @@ module _ (ms : Monitors) (q : List Bool) (pace : Pace) (short : 2 * pace.delay <
         pub from : m.message.from ≡ i
         pub epoch : m.message.epoch ≤ suc B.epoch
         pub call_is : IsCall m.message.body → (m ≡ call ms q pace B i m.to) × (after ≡ suc B.epoch)
-        pub near : (j : ℕ) → has q j ≡ true → IsNearIn (B.stores j).last m.message.body
+        pub near : (j : ℕ) → has q j ≡ true → CausesNoCopy (B.stores j).last m.message.body
         pub leaves : LeavesStores m.message.body
 
       -- no acknowledgement for `best`

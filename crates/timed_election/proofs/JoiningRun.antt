@@ -21,7 +21,7 @@ use Rattle.timed_election.proofs.JoiningTurns.{first_of}
 use Rattle.timed_election.proofs.Lists.{closed, opened}
 use Rattle.timed_election.proofs.ProbingTurns.{prober_turn}
 use Rattle.timed_election.specs.Election.{CanElect, Election, Elects, IsOfElection, Stands, TakesPart}
-use Rattle.timed_election.specs.Joining.{Deserted, IsNear, JoinBy, Parted, Uncalled}
+use Rattle.timed_election.specs.Joining.{Deserted, JoinBy, NeedsNoCopy, Parted, Uncalled}
 
 -- one of two things holds of each member: the first of all, or the second of one
 pub all_or_one : (q : List Bool) (P Q : ℕ → Type 0) → ((i : ℕ) → has q i ≡ true → P i ⊎ Q i) → ((i : ℕ) → has q i ≡ true → P i) ⊎ ((i : ℕ) × (has q i ≡ true) × Q i)
@@ -47,7 +47,7 @@ all_or_one (true ∷ q) P Q f = elim (f 0 refl) [
     later k all (suc i) h = all i h
 
 module _ (ms : Monitors) (q : List Bool) (pace : Pace) (quick : IsQuick pace) (short : 2 * pace.delay < 2000) (B : Beginning) (C : CanElect ms q B.best) (enough : B.top + 2 * pace.delay ≤ B.end)
-    (near : (i j : ℕ) → has q i ≡ true → has q j ≡ true → IsNear (B.stores i).last (B.stores j).first (B.stores j).last) (even : is_even B.epoch ≡ true) (fits : suc B.epoch ≤ 2 ^ 62) where
+    (near : (i j : ℕ) → has q i ≡ true → has q j ≡ true → NeedsNoCopy (B.stores i).last (B.stores j).first (B.stores j).last) (even : is_even B.epoch ≡ true) (fits : suc B.epoch ≤ 2 ^ 62) where
   abbrev F : Type 0
   F = First ms q pace B
 

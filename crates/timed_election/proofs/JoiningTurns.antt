@@ -26,10 +26,10 @@ use Rattle.timed_election.proofs.Outcomes.{Heard as Came}
 use Rattle.timed_election.proofs.Quiet.{IsPlain, IsQuiet, leaves_stores, no_ack, no_call}
 use Rattle.timed_election.proofs.Ranking.{nobody_better, not_itself}
 use Rattle.timed_election.specs.Election.{ArrivesBy, CanElect, Defers, Heard, IsAck, Stands, TakesPart, in_election}
-use Rattle.timed_election.specs.Joining.{IsNear, IsNearIn}
+use Rattle.timed_election.specs.Joining.{CausesNoCopy, NeedsNoCopy}
 
 module _ (ms : Monitors) (q : List Bool) (pace : Pace) (short : 2 * pace.delay < 2000) (B : Beginning) (C : CanElect ms q B.best) (enough : B.top + 2 * pace.delay ≤ B.end)
-    (near : (i j : ℕ) → has q i ≡ true → has q j ≡ true → IsNear (B.stores i).last (B.stores j).first (B.stores j).last) where
+    (near : (i j : ℕ) → has q i ≡ true → has q j ≡ true → NeedsNoCopy (B.stores i).last (B.stores j).first (B.stores j).last) where
   abbrev F : Type 0
   F = First ms q pace B
 
@@ -72,7 +72,7 @@ module _ (ms : Monitors) (q : List Bool) (pace : Pace) (short : 2 * pace.delay <
 
     -- ---- what is sent
 
-    near_plain : (b : Body) → w.first ≡ (B.stores i).first → w.last ≡ (B.stores i).last → IsPlain w b → (j : ℕ) → has q j ≡ true → IsNearIn (B.stores j).last b
+    near_plain : (b : Body) → w.first ≡ (B.stores i).first → w.last ≡ (B.stores i).last → IsPlain w b → (j : ℕ) → has q j ≡ true → CausesNoCopy (B.stores j).last b
     near_plain (body.ProbeReply r f l) a b p j qj = let n = near j i qj H.member in let x = p.0 in let z = p.1 in let n0 = n.0 in let n1 = n.1 in ((omega arith), (omega arith))
     near_plain other a b p j qj = tt
 

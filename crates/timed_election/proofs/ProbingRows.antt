@@ -13,7 +13,7 @@ use Rattle.std.proofs.Common.{Bool, Err, List, None, Ok, Option, Result, Some, [
 use Rattle.std.proofs.lemmas.Bool.{and_parts, eq-eqb, false≢true, ltb-true, ne_eqb}
 use Rattle.std.proofs.lemmas.List.{get_or-set_same, length-set}
 use Rattle.timed_election.proofs.Quiet.{IsPlain, IsQuiet, plain_chunk}
-use Rattle.timed_election.specs.Joining.{IsNear, IsNearIn}
+use Rattle.timed_election.specs.Joining.{CausesNoCopy, NeedsNoCopy}
 
 anything : (r : Result Course Which) → Then (λ (y : Course). Unit {0}) r
 anything (Ok y) = done tt
@@ -35,7 +35,7 @@ module _ (ms : Monitors) (i : ℕ) (lt : ltb i ms.count ≡ true) (now : ℕ) (s
 
   -- a reply of a monitor whose versions aren't near comes
   abbrev pub IsFar : Input → Type 0
-  IsFar (input.Deliver m) = IsNearIn w.last m.body → ⊥
+  IsFar (input.Deliver m) = CausesNoCopy w.last m.body → ⊥
   IsFar other = ⊥
 
   pub data Probed (came : Input) (y : Course) : Type 0 where
@@ -92,7 +92,7 @@ module _ (ms : Monitors) (i : ℕ) (lt : ltb i ms.count ≡ true) (now : ℕ) (s
     probe_comes f = by_test w.marked (λ _. nothing) (λ _. sends f (body.ProbeReply no_ranks w.first w.last) _ refl refl refl refl refl (refl, refl))
 
   module _ (unmarked : w.marked ≡ false) where
-    reply_comes : (came : Input) (f : ℕ) (q : List Bool) (first last : ℕ) → ((IsNear w.last first last → ⊥) → IsFar came) → Then (Probed came) (hear_probe_reply me now f q first last x)
+    reply_comes : (came : Input) (f : ℕ) (q : List Bool) (first last : ℕ) → ((NeedsNoCopy w.last first last → ⊥) → IsFar came) → Then (Probed came) (hear_probe_reply me now f q first last x)
     unfolding hear_probe_reply full_sync recent_sync
     reply_comes came f q first last far =
         by_test w.marked (λ t. absurd (false≢true (sym unmarked ∙ t))) (λ _.
@@ -154,7 +154,7 @@ module _ (ms : Monitors) (i : ℕ) (lt : ltb i ms.count ≡ true) (now : ℕ) (s
       pong_comes f None = nothing came
       pong_comes f (Some table) = done (keep came _ refl refl refl refl tt)
 
-      heard : (f e : ℕ) (b : Body) → ((IsNearIn w.last b → ⊥) → IsFar came) → Then R (hear me sh now f e b x)
+      heard : (f e : ℕ) (b : Body) → ((CausesNoCopy w.last b → ⊥) → IsFar came) → Then R (hear me sh now f e b x)
       unfolding hear_propose hear_ack hear_victory hear_collect hear_last hear_begin hear_accept hear_commit hear_lease hear_lease_ack hear_forward hear_route hear_cookie hear_chunk hear_last_chunk hear_no_cookie
       heard f e body.Probe far = probe_comes came f
       heard f e (body.ProbeReply q first last) far = reply_comes came f q first last far

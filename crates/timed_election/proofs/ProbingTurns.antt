@@ -19,11 +19,11 @@ use Rattle.timed_election.proofs.Lists.{closed, opened}
 use Rattle.timed_election.proofs.Probing.{goes, probed_so}
 use Rattle.timed_election.proofs.ProbingRows.{IsFar, Probed, copies, elects, keeps}
 use Rattle.timed_election.specs.Election.{CanElect}
-use Rattle.timed_election.specs.Joining.{IsNear, IsNearIn}
+use Rattle.timed_election.specs.Joining.{CausesNoCopy, NeedsNoCopy}
 use Rattle.timed_election.specs.Probing.{Probes}
 
 module _ (ms : Monitors) (q : List Bool) (pace : Pace) (short : 2 * pace.delay < 2000) (B : Beginning) (C : CanElect ms q B.best) (enough : B.top + 2 * pace.delay ≤ B.end)
-    (near : (i j : ℕ) → has q i ≡ true → has q j ≡ true → IsNear (B.stores i).last (B.stores j).first (B.stores j).last) where
+    (near : (i j : ℕ) → has q i ≡ true → has q j ≡ true → NeedsNoCopy (B.stores i).last (B.stores j).first (B.stores j).last) where
   abbrev F : Type 0
   F = First ms q pace B
 
@@ -87,6 +87,6 @@ module _ (ms : Monitors) (q : List Bool) (pace : Pace) (short : 2 * pace.delay <
               where
                 too_far : (x : Input) → H.came ≡ x → IsFar ms i lt now sh w H.state x → ⊥
                 too_far input.Start is k = k
-                too_far (input.Deliver m) is k = let N = known ms q pace B C c t X u next e H m is in k (subst (λ (n : ℕ). IsNearIn n m.body) (sym (ap (λ (z : Readings). z.last) Z.same)) N.close)
+                too_far (input.Deliver m) is k = let N = known ms q pace B C c t X u next e H m is in k (subst (λ (n : ℕ). CausesNoCopy n m.body) (sym (ap (λ (z : Readings). z.last) Z.same)) N.close)
                 too_far (input.Timer kind) is k = k
                 too_far (input.Client session r) is k = k

@@ -37,9 +37,9 @@ pub record Election : Type 0 where
 pub record CanElect (ms : Monitors) (q : List Bool) (best : ℕ) : Type 0 where
   pub members : (i : ℕ) → has q i ≡ true → i < ms.count
   pub major : is_majority ms.count q ≡ true
-  pub lost : ℕ
-  pub in_map : lost < ms.count
-  pub outside : has q lost ≡ false
+  pub outsider : ℕ
+  pub in_map : outsider < ms.count
+  pub outside : has q outsider ≡ false
   pub ranks_decide : scores_count ms.rule ≡ false
   pub member : has q best ≡ true
   pub may_lead : allows ms.rule best ≡ true
@@ -102,7 +102,7 @@ module _ (ms : Monitors) (pace : Pace) (E : Election) (q : List Bool) (t : Timed
   abbrev pub IsAck : (i : ℕ) → Owed → Type 0
   IsAck i o = message_at t.world.messages o.number ≡ Some (in_election ms E i E.best body.Ack)
 
-  -- Monitor i hasn't heard the call of `best` yet, which comes again by then.
+  -- Monitor i hasn't heard the call of `best` yet, which comes again by `by` + `again`.
   pub record Unheard (i : ℕ) : Type 0 where
     pub comes : t.call_by E.best i ≤ E.by + pace.again
     pub unacked : IsSomeAnd (t.world.state E.best) (λ s. has s.elector.acked i ≡ false)

@@ -37,12 +37,12 @@ pub record FollowsLost (q : List Bool) (by : ℕ) (s : State) : Type 0 where
       → (kind ≡ timer.Lease) ⊎ (kind ≡ timer.Propose)
 
 -- a reply with these versions doesn't make a monitor that probes begin a copy if `last` is its own last version
-abbrev pub IsNear : (last : ℕ) → (their_first their_last : ℕ) → Type 0
-IsNear last their_first their_last = (their_first ≤ max 1 last) × (their_last ≤ last + lag)
+abbrev pub NeedsNoCopy : (last : ℕ) → (their_first their_last : ℕ) → Type 0
+NeedsNoCopy last their_first their_last = (their_first ≤ max 1 last) × (their_last ≤ last + lag)
 
-abbrev pub IsNearIn : (last : ℕ) → Body → Type 0
-IsNearIn last (body.ProbeReply quorum first theirs) = IsNear last first theirs
-IsNearIn last other = Unit {0}
+abbrev pub CausesNoCopy : (last : ℕ) → Body → Type 0
+CausesNoCopy last (body.ProbeReply quorum first theirs) = NeedsNoCopy last first theirs
+CausesNoCopy last other = Unit {0}
 
 -- neither a call for an election nor a reply to a probe
 abbrev pub IsOther : Body → Type 0
@@ -76,7 +76,7 @@ pub record Uncalled (q : List Bool) (pace : Pace) (epoch : ℕ) (t : Timed) : Ty
   pub epoch_is : (i : ℕ) → has q i ≡ true → epoch_of (readings_of (t.world.store i)) ≡ epoch
   pub unmarked : (i : ℕ) → has q i ≡ true → (readings_of (t.world.store i)).marked ≡ false
   pub near : (i j : ℕ) → has q i ≡ true → has q j ≡ true
-      → IsNear (readings_of (t.world.store i)).last (readings_of (t.world.store j)).first
+      → NeedsNoCopy (readings_of (t.world.store i)).last (readings_of (t.world.store j)).first
       (readings_of (t.world.store j)).last
   pub under_way : (f i : ℕ) → has q f ≡ true → has q i ≡ true
       → AllByRecursion (IsOld epoch t.world.messages f i (t.time + pace.delay)) (t.under_way f i)
@@ -84,14 +84,14 @@ pub record Uncalled (q : List Bool) (pace : Pace) (epoch : ℕ) (t : Timed) : Ty
       → IsCall m.message.body → m.message.epoch ≤ epoch
   pub calls : (f i : ℕ) → has q f ≡ true → has q i ≡ true → t.call_by f i ≤ t.time + pace.again
 
--- Each member follows a monitor outside of q, until `by` at the latest.
+-- Each member follows a monitor outside of q. Its lease timer ends by `by`.
 pub record Deserted (q : List Bool) (pace : Pace) (epoch by : ℕ) (t : Timed) : Type 0 where
   pub uncalled : Uncalled q pace epoch t
   pub before : t.time ≤ by
   pub follow : (i : ℕ) → has q i ≡ true → IsSomeAnd (t.world.state i) (FollowsLost q (by + pace.clock i))
 
 -- One member led the others, and just began to probe. Each other gets its PROBE within a delay, and nothing from it that
--- changes a store. The others follow it on for more than three delays: they got their last leases at `leased` or later.
+-- changes a store. The others still follow it for more than three delays: they got their last leases at `leased` or later.
 pub record Parted (ms : Monitors) (q : List Bool) (pace : Pace) (leader epoch : ℕ) (t : Timed) : Type 0 where
   pub uncalled : Uncalled q pace epoch t
   pub member : has q leader ≡ true

@@ -23,7 +23,8 @@ CanAnswer q w e = (j : ℕ) → has q j ≡ true → ((readings_of (w.store j)).
     × IsSomeAnd (w.state j) (λ s. same_phase s.phase phase.Booting ≡ false)
 
 module _ (ms : Monitors) (pace : Pace) (i at : ℕ) where
-  -- Monitor i probes since this time. It hasn't heard a majority outside of quorums yet, and no other timer is armed.
+  -- Monitor i has probed since this time. It hasn't heard a majority outside of quorums yet, and none of its timers ends
+  -- before that of probing may.
   pub record IsProbing (s : State) : Type 0 where
     pub probes : s.phase ≡ phase.Probing
     pub ranks : length s.prober.outside ≡ 15

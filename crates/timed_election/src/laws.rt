@@ -11,8 +11,7 @@ ghost use Rattle.timed_election.specs.Keeping.{IsWonWithin};
 ghost use Rattle.timed_election.specs.Probing.{CanAnswer, GoesOnBy, Probes};
 
 /// A member of a majority probes for no more than twice the delay of messages, if this is less than the time after which
-/// it probes anew. Then it calls an election, or begins to copy. No member may be down or in a full synchronization
-/// meanwhile.
+/// it probes anew. No member may be down or in a full synchronization meanwhile.
 pub fn law_probing_ends()
     ensures { (ms : Monitors) (q : List Bool) (pace : Pace) (i at : ℕ) (t last : Timed) (more : List (ℕ × Event))
         → 2 * pace.delay < 2000 → Probes ms pace i at q t → (run : Leads ms q pace t more last)
@@ -22,7 +21,8 @@ pub fn law_probing_ends()
 
 /// The members of a majority that follow lost leaders join one election in time. Whose lease ends first probes, and calls
 /// the election when it hears that the others are in a quorum or that a majority isn't. Each other member joins when it
-/// hears the call, or calls by itself. All take part by two delays after the last lease may end.
+/// hears the call, or calls by itself. All take part within two delays and `late` after the time by which each lease timer
+/// ends.
 pub fn law_members_join()
     ensures { (ms : Monitors) (q : List Bool) (pace : Pace) (best epoch by : ℕ) (t last : Timed)
         (more : List (ℕ × Event)) → IsQuick pace → 2 * pace.delay < 2000 → CanElect ms q best

@@ -14,14 +14,14 @@ use Rattle.quorum_timed.specs.Waiting.{Waits, leads_alone, timer_of}
 use Rattle.std.proofs.Common.{Bool, IsSomeAnd, List, None, Option, Some, [], ap, arith, false, inl, inr, is_some, max, refl, subst, suc, sym, true, ℕ, ◌+◌, ◌<◌, ◌^◌, ◌||◌, ◌∙◌, ◌≡◌, ◌≤◌, ◌⊎◌}
 use Rattle.std.proofs.lemmas.Bool.{false≢true, lt-ltb}
 use Rattle.timed_election.proofs.Lists.{closed, opened}
-use Rattle.timed_election.specs.Joining.{Deserted, FollowsLost, IsNear, IsOld}
+use Rattle.timed_election.specs.Joining.{Deserted, FollowsLost, IsOld, NeedsNoCopy}
 use Rattle.timed_failover.proofs.Between.{begins_between}
 use Rattle.timed_failover.proofs.CarriedOld.{carried_old}
 use Rattle.timed_failover.proofs.Led.{HasOrAccepted, near_holds, of_quorum, peon_last, peon_unmarked, sent_epoch, several}
 use Rattle.timed_failover.specs.Failover.{IsWithout, NoCallIsUnderWay, from_time}
 
 -- two monitors that have a version, or accepted its value, need no copy of each other
-pub are_near : (version : ℕ) (w v : Readings) → HasOrAccepted version w → HasOrAccepted version v → (v.first ≤ 1) ⊎ (v.first + 501 ≤ v.last) → IsNear w.last v.first v.last
+pub are_near : (version : ℕ) (w v : Readings) → HasOrAccepted version w → HasOrAccepted version v → (v.first ≤ 1) ⊎ (v.first + 501 ≤ v.last) → NeedsNoCopy w.last v.first v.last
 are_near version w v a b low = (first a b low, last a b)
   where
     last : HasOrAccepted version w → HasOrAccepted version v → v.last ≤ w.last + lag
@@ -62,7 +62,7 @@ module _ (ms : Monitors) (full q : List Bool) (pace : Pace) (earlier : ℕ) (rei
   last_is : (i : ℕ) → has q i ≡ true → IsLast i
   last_is i qi = peon_last ms full (from_time earlier pace) reign r t R S i (was_member i qi) (not_leader i qi)
 
-  near : (i j : ℕ) → has q i ≡ true → has q j ≡ true → IsNear (readings_of (t.world.store i)).last (readings_of (t.world.store j)).first (readings_of (t.world.store j)).last
+  near : (i j : ℕ) → has q i ≡ true → has q j ≡ true → NeedsNoCopy (readings_of (t.world.store i)).last (readings_of (t.world.store j)).first (readings_of (t.world.store j)).last
   near i j qi qj =
       let low = low_of ms (several ms full (from_time earlier pace) reign r t R S) t.world (near_holds ms full (from_time earlier pace) reign r t R S) j (in_map j qj) (unmarked j qj) in
       are_near r.version (readings_of (t.world.store i)) (readings_of (t.world.store j)) (last_is i qi) (last_is j qj) low

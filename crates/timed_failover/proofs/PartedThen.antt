@@ -17,7 +17,7 @@ use Rattle.std.proofs.lemmas.Bool.{cases_eq}
 use Rattle.table_walk.proofs.Lists.{all_drop}
 use Rattle.timed_election.proofs.Lists.{closed, opened}
 use Rattle.timed_election.specs.Election.{ArrivesBy, CanElect}
-use Rattle.timed_election.specs.Joining.{IsNear, IsOld, IsOther, LeavesStores, Parted}
+use Rattle.timed_election.specs.Joining.{IsOld, IsOther, LeavesStores, NeedsNoCopy, Parted}
 use Rattle.timed_election.specs.Probing.{IsProbe, IsProbing}
 use Rattle.timed_failover.proofs.CallsDue.{AreDue}
 use Rattle.timed_failover.proofs.CarriedOld.{aside_is, carried_old}
@@ -116,7 +116,7 @@ module _ (ms : Monitors) (full q : List Bool) (pace : Pace) (reign : Reign) (r :
   unmarked : (i : ℕ) → has q i ≡ true → (readings_at t.world i).marked ≡ false
   unmarked i qi = led_unmarked ms several t.world R q reign.leader reign.pn r.version L.0 L.1 (inl V.leads) V.number major S.leads within promised S.last peons i qi
 
-  near : (i j : ℕ) → has q i ≡ true → has q j ≡ true → IsNear (readings_at t.world i).last (readings_at t.world j).first (readings_at t.world j).last
+  near : (i j : ℕ) → has q i ≡ true → has q j ≡ true → NeedsNoCopy (readings_at t.world i).last (readings_at t.world j).first (readings_at t.world j).last
   near i j qi qj = are_near r.version (readings_at t.world i) (readings_at t.world j) (has_last i qi) (has_last j qj) (low_of ms several t.world (reached_holds ms several t.world R) j (C.members j qj) (unmarked j qj))
 
   -- ---- what is under way
@@ -222,8 +222,8 @@ module _ (ms : Monitors) (full q : List Bool) (pace : Pace) (reign : Reign) (r :
       since = (let c = time_is in omega arith);
       epoch_is = λ i qi. ap epoch_of (stores i) ∙ epoch_is i qi;
       unmarked = λ i qi. ap (λ (w : Readings). w.marked) (stores i) ∙ unmarked i qi;
-      near = λ i j qi qj. subst (λ (w : Readings). IsNear w.last (readings_of (next.world.store j)).first (readings_of (next.world.store j)).last) (sym (stores i))
-          (subst (λ (v : Readings). IsNear (readings_of (t.world.store i)).last v.first v.last) (sym (stores j)) (near i j qi qj));
+      near = λ i j qi qj. subst (λ (w : Readings). NeedsNoCopy w.last (readings_of (next.world.store j)).first (readings_of (next.world.store j)).last) (sym (stores i))
+          (subst (λ (v : Readings). NeedsNoCopy (readings_of (t.world.store i)).last v.first v.last) (sym (stores j)) (near i j qi qj));
       under_way = under_way;
       uncalled = λ k m there from _. (let s = sent_epoch_in ms next.world (reached_holds ms several next.world RN).0.0 k m there in let e = ap epoch_of (stores m.message.from) ∙ epoch_is m.message.from from in omega arith);
       calls = λ f i qf qi. calls f i;
