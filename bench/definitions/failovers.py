@@ -4,9 +4,10 @@ usage: failovers.py FIRST_SEED COUNT [SHARE [MOST_DELAY MOST_LATE]]
 
 COUNT runs of three to fifteen monitors are played, by `node`, under the rule classic or disallow. Each begins with a quorum that is calm: it is led, all
 leases stand, and no client asks. Then the leader or another monitor stops for ever. The others have to be led again, all of them and nobody else, with
-all leases standing: within 15,000 + 9 d + 3 e milliseconds if the leader stopped, and within 18,000 + 9 d + 4 e otherwise.
+all leases standing: within 15,000 + 6 d + 2 e milliseconds if the leader stopped, and within 18,000 + 7 d + 3 e otherwise. `law_failover` proves these
+bounds if d is at most 750. It counts from a time by which the last message of that monitor has come, and the script from when it stops.
 
-The premises are those of docs/LAWS.md, *Runs in time*. Messages take at most a drawn d of 1 to MOST_DELAY (500) milliseconds, in order, and timers are
+The other premises are those of docs/LAWS.md, *Runs in time*. Messages take at most a drawn d of 1 to MOST_DELAY (500) milliseconds, in order, and timers are
 late by at most a drawn e of up to MOST_LATE (200), less if d + e would be 2,000 or more. A call for an election comes again within a drawn time r of 100
 milliseconds or more, until it is acknowledged, so that r + 4 d + e is less than 5,000. The clocks of monitors differ by a constant. Of the messages under
 way from the monitor that stops, some arrive. Delays, late timers, the moment of the stop and the order of what comes at one time are drawn. In two of

@@ -1,9 +1,9 @@
 // Calm quorums that lose a monitor, played by the definitions: how long it takes until the others are led again. failovers.py has the usage.
 'use strict';
 
-// Times by what stopped: in milliseconds without messages and late timers, and how often the longest delay and the latest timer count. These are the bounds,
-// and the longest times that are known.
-const BOUNDS = {leader: [15000, 9, 3], peon: [18000, 9, 4]}, KNOWN = {leader: [15000, 6, 2], peon: [18000, 5, 3]};
+// Times by what stopped: in milliseconds without messages and late timers, and how often the longest delay and the latest timer count. These are the bounds
+// that `law_failover` proves, and the longest times that are known.
+const BOUNDS = {leader: [15000, 6, 2], peon: [18000, 7, 3]}, KNOWN = {leader: [15000, 6, 2], peon: [18000, 5, 3]};
 const LEAST_SIZE = 3, MOST_SMALL = 7, MOST_SIZE = 15, RENEWS = 3000;
 // The longest delay and the latest timer, if the arguments don't have others.
 const MOST = {delay: 500, late: 200};
