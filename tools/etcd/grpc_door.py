@@ -22,8 +22,18 @@ OPTIONS = [('grpc.max_receive_message_length', LONGEST), ('grpc.so_reuseport', 0
            ('grpc.http2.min_ping_interval_without_data_ms', 5_000)]
 
 
+# Seconds after which gRPC knows that a client has given up.
+KNOWN = 1.0
+
+
 async def refuse(context: Any, why: Refusal) -> None:
-    await context.abort(getattr(grpc.StatusCode, why.status), why.text)
+    """Ends a call with an error. A client whose time passes meanwhile has given up: gRPC cancels the task of the call once it knows, and until then would
+    report a fault."""
+    try:
+        await context.abort(getattr(grpc.StatusCode, why.status), why.text)
+    except grpc.aio.InternalError:
+        await asyncio.sleep(KNOWN)
+        raise
 
 
 def refusing(service: str, method: str) -> Any:
